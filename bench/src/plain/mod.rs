@@ -1,0 +1,15 @@
+//! The plain build: the same calls as the archive, written from the rules alone.
+
+pub mod text;
+
+/// Why a call was refused: the number a clerk sees, and the place it speaks of.
+#[derive(Clone, Copy, Debug, PartialEq, Eq)]
+pub struct Refusal {
+    pub number: u32,
+    pub place: usize,
+}
+
+/// A refusal as the failing side of a result.
+pub fn refuse<T>(number: u32, place: usize) -> Result<T, Refusal> {
+    Err(Refusal { number, place })
+}

@@ -1,0 +1,9 @@
+pub mod GridLaws
+pub mod Back
+pub mod Shortest
+pub mod RunLaws
+pub mod ReadLaws
+pub mod WriteLaws
+pub mod TextLaws
+pub mod Theorems
+pub mod Outcomes

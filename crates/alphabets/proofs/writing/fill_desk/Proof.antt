@@ -1,0 +1,138 @@
+use lib.ListN.{length-drop}
+use lib.Seq.{length-take-le}
+use Prim.Native.Nat.{ℕ, _-_, _≤_, _<_, _+_}
+use mathlib.Core.Path.{_≡_, sym, _∙_, ap, subst}
+use mathlib.Core.List.{List}
+use native.Mathlib.Omega.{arith}
+use lib.ListN.{length, drop, take, getD}
+use lib.Seq.{sets}
+use Rattle.alphabets.specs.Steps.{run, through, shapes, Fits}
+use Rattle.base.specs.Calls.{Answer}
+use Rattle.alphabets.proofs.RunLaws.{Ended, ended, Filling, filling-start}
+use Rattle.alphabets.proofs.WriteLaws.{unwritten, unwritten-whole, run-room, run-step, run-fits, written-end, group-within, group-behind, group-room, group-step}
+use Rattle.alphabets.proofs.writing.fill_desk.Statement.{statement}
+use Rattle.alphabets.proofs.writing.fill_desk.Tie as tie
+
+abbrev Inv-loop : tie.InvT-loop
+Inv-loop grid desk out₀ n₀ i₀ out n i = Filling (unwritten desk) (length desk) out₀ out n i
+
+abbrev μ-loop : tie.MeasureT-loop
+μ-loop grid desk out₀ n₀ i₀ out n i = length desk - i
+
+-- behind the Russian run, and the group behind it
+place : (c : tie.After-translate Inv-loop μ-loop) → let l = c .before .before .before in let a = l .before .before .before in c .translate .result ≡ l .loop .i + run shapes 1 (drop (l .loop .i) (a .args .desk .now))
+place c =
+    let l = c .before .before .before in
+    let a = l .before .before .before in
+    c .translate .ensures .0 ∙ ap (λ (t : List ℕ). l .loop .i + run t 1 (drop (l .loop .i) (a .args .desk .now))) (a .pre .0)
+
+russian : (c : tie.After-translate Inv-loop μ-loop) → let l = c .before .before .before in let a = l .before .before .before in Filling (unwritten (a .args .desk .now)) (length (a .args .desk .now)) (a .args .out .now) (c .translate .last .1 .1 .1 .0) (l .loop .n + (c .translate .result - l .loop .i)) (c .translate .result)
+russian c =
+    let l = c .before .before .before in
+    let a = l .before .before .before in
+    subst (λ (o : List ℕ). Filling (unwritten (a .args .desk .now)) (length (a .args .desk .now)) (a .args .out .now) o (l .loop .n + (c .translate .result - l .loop .i)) (c .translate .result))
+    (sym (c .translate .ensures .1 ∙ ap (λ (t : List ℕ). sets (l .loop .out) (l .loop .n) (through t 1 (drop (l .loop .i) (a .args .desk .now)))) (a .pre .0)))
+    (run-step _ _ _ _ _ (l .loop .inv) (c .translate .result) (place c))
+
+stop : (c : tie.Else1 Inv-loop μ-loop) → let t = c .before .before .before in let m = t .before .before .before .before .before .before .args .desk .now in getD shapes (getD m (t .translate .result) 0) 0 ≤ 1
+stop c =
+    let t = c .before .before .before in
+    let l = t .before .before .before in
+    let w : Ended shapes 1 (l .before .before .before .args .desk .now) (t .translate .result) = ended shapes 1 (l .before .before .before .args .desk .now) (l .loop .i) (t .translate .result) (l .loop .inv .long) (place t) in
+    w .stops (omega (arith, w .within))
+
+more : (c : tie.Else1 Inv-loop μ-loop) → let t = c .before .before .before in t .translate .result < length (t .before .before .before .before .before .before .args .desk .now)
+more c = omega (arith, russian (c .before .before .before) .long)
+
+within : (c : tie.After-group-end Inv-loop μ-loop) → let e = c .before in let t = e .before .before .before in c .group-end .result ≤ length (t .before .before .before .before .before .before .args .desk .now)
+within c = let e = c .before in group-within _ _ _ _ _ (russian (e .before .before .before)) (more e) (stop e) (c .group-end .result) (c .group-end .ensures)
+
+behind : (c : tie.After-group-end Inv-loop μ-loop) → c .before .before .before .before .translate .result < c .group-end .result
+behind c = let e = c .before in group-behind _ _ _ _ _ (russian (e .before .before .before)) (more e) (stop e) (c .group-end .result) (c .group-end .ensures)
+
+room : (c : tie.After-group-end Inv-loop μ-loop) → let t = c .before .before .before .before in let l = t .before .before .before in l .loop .n + (t .translate .result - l .loop .i) + (c .group-end .result - t .translate .result + 2) ≤ length (t .translate .last .1 .1 .1 .0)
+room c = let e = c .before in group-room _ _ _ _ _ (russian (e .before .before .before)) (more e) (stop e) (c .group-end .result) (c .group-end .ensures)
+
+part-length : (c : tie.After-group-end Inv-loop μ-loop) → let t = c .before .before .before .before in let m = t .before .before .before .before .before .before .args .desk .now in length (take (c .group-end .result - t .translate .result) (drop (t .translate .result) m)) ≡ c .group-end .result - t .translate .result
+part-length c = let t = c .before .before .before .before in let m = t .before .before .before .before .before .before .args .desk .now in length-take-le (c .group-end .result - t .translate .result) (drop (t .translate .result) m) (omega (arith, within c, length-drop (t .translate .result) m))
+
+loop-holds : tie.Need-loop-holds Inv-loop μ-loop
+loop-holds c = let a = c .before .before .args in filling-start (unwritten (a .desk .now)) _ _ (subst (λ (w : Answer). Fits w (length (a .out .now))) (sym (unwritten-whole (a .desk .now))) (c .before .before .pre .1))
+
+translate-requires : tie.Need-translate-requires Inv-loop μ-loop
+translate-requires c κs = let l = c .before .before in (l .loop .inv .long, rw (l .before .before .before .pre .0) (run-room _ _ _ _ _ (l .loop .inv)))
+
+sub-n : tie.Need-sub-n Inv-loop μ-loop
+sub-n c = omega (arith, place (c .before .before))
+
+add-n : tie.Need-add-n Inv-loop μ-loop
+add-n c = let t = c .before .before in let l = t .before .before .before in omega (arith, run-fits _ _ _ _ _ (l .loop .inv) (t .translate .result) (place t))
+
+same-length : tie.Need-same-length Inv-loop μ-loop
+same-length c = russian (c .before .before .before) .kept
+
+returns : tie.Need-returns Inv-loop μ-loop
+returns c = written-end _ _ _ _ _ (russian (c .before .before .before)) (omega arith)
+
+group-end-requires : tie.Need-group-end-requires Inv-loop μ-loop
+group-end-requires c κs = let t = c .before .before .before in (t .before .before .before .before .before .before .pre .0, omega (arith, more c))
+
+sub-quote : tie.Need-sub-quote Inv-loop μ-loop
+sub-quote c = omega (arith, behind c)
+
+part-quote-start : tie.Need-part-quote-start Inv-loop μ-loop
+part-quote-start c = omega (arith, behind c)
+
+part-quote-end : tie.Need-part-quote-end Inv-loop μ-loop
+part-quote-end c = omega (arith, within c)
+
+quote-requires : tie.Need-quote-requires Inv-loop μ-loop
+quote-requires c κs = let g = c .before .before in omega (arith, room g, part-length g)
+
+sub-n-2 : tie.Need-sub-n-2 Inv-loop μ-loop
+sub-n-2 c = omega (arith, behind (c .before .before .before .before .before))
+
+add-n-2 : tie.Need-add-n-2 Inv-loop μ-loop
+add-n-2 c = let g = c .before .before .before .before .before in let t = g .before .before .before .before in omega (arith, room g, russian t .kept, t .before .before .before .before .before .before)
+
+add-n-3 : tie.Need-add-n-3 Inv-loop μ-loop
+add-n-3 c = let g = c .before .before .before .before .before in let t = g .before .before .before .before in omega (arith, room g, russian t .kept, t .before .before .before .before .before .before)
+
+loop-less : tie.Need-loop-less Inv-loop μ-loop
+loop-less c = let g = c .before .before .before .before .before in let t = g .before .before .before .before in omega (arith, behind g, within g, place t)
+
+loop-again : tie.Need-loop-again Inv-loop μ-loop
+loop-again c = let q = c .before .before in let g = q .before .before .before in let e = g .before in let t = e .before .before .before in let l = t .before .before .before in let a = l .before .before .before .args in
+    subst (λ (o : List ℕ). Filling (unwritten (a .desk .now)) (length (a .desk .now)) (a .out .now) o (l .loop .n + (t .translate .result - l .loop .i) + (g .group-end .result - t .translate .result + 2)) (g .group-end .result)) (sym (q .quote .ensures))
+    (group-step _ _ _ _ _ (russian t) (more e) (stop e) (g .group-end .result) (g .group-end .ensures))
+
+same-length-2 : tie.Need-same-length-2 Inv-loop μ-loop
+same-length-2 c = c .before .loop .inv .kept
+
+returns-2 : tie.Need-returns-2 Inv-loop μ-loop
+returns-2 c = written-end _ _ _ _ _ (c .before .loop .inv) (c .loop-test .left)
+
+pub fill-desk-spec : {M : Type 1} → statement M
+fill-desk-spec =
+    tie.close
+    (tie.spec
+    Inv-loop
+    μ-loop
+    loop-holds
+    translate-requires
+    sub-n
+    add-n
+    same-length
+    returns
+    group-end-requires
+    sub-quote
+    part-quote-start
+    part-quote-end
+    quote-requires
+    sub-n-2
+    add-n-2
+    add-n-3
+    loop-less
+    loop-again
+    same-length-2
+    returns-2)

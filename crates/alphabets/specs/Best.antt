@@ -1,0 +1,71 @@
+-- The bank text that is written for a desk text (T10). That it is the one that D3 asks for is proved in proofs/Theorems.antt. Assumes nothing.
+use Prim.Native.Nat.{ℕ, zero, suc}
+use mathlib.Core.List.{List, [], _∷_}
+use mathlib.Core.Bool.{Bool, true, false}
+use Rattle.base.specs.Calls.{Answer, said, stuck}
+use Rattle.alphabets.specs.Grid.{Kind, unwritable, russian, latin, common, kind, spell}
+use Rattle.alphabets.specs.Bank.{plainly}
+
+-- the next sign that is not shared is Latin
+abbrev pub latinFirst : Kind → Bool → Bool
+latinFirst unwritable b = false
+latinFirst russian b = false
+latinFirst latin b = true
+latinFirst common b = b
+
+unfoldable pub latinNext : List ℕ → Bool
+latinNext [] = false
+latinNext (x ∷ xs) = latinFirst (kind x) (latinNext xs)
+
+-- the side on which a sign is written: its own; a shared sign stays on the Latin side only before a Latin sign
+abbrev pub sideFor : Kind → Bool → Bool → Bool
+sideFor unwritable s n = false
+sideFor russian s n = false
+sideFor latin s n = true
+sideFor common false n = false
+sideFor common true n = n
+
+-- the apostrophe between two sides
+abbrev pub cross : Bool → Bool → List ℕ → List ℕ
+cross false false t = t
+cross true true t = t
+cross false true t = 39 ∷ t
+cross true false t = 39 ∷ t
+
+-- from a side
+unfoldable pub best : Bool → List ℕ → List ℕ
+best s [] = cross s false []
+best s (x ∷ xs) =
+    let t : Bool = sideFor (kind x) s (latinNext xs) in
+    cross s t (spell (kind x) t x ∷ best t xs)
+
+-- the place of the first sign that can't be written
+pub data Spot : Type 0 where
+  nowhere : Spot
+  at : ℕ → Spot
+
+abbrev pub behind : Spot → Spot
+behind nowhere = nowhere
+behind (at k) = at (suc k)
+
+abbrev pub spotAfter : Kind → Spot → Spot
+spotAfter unwritable p = at 0
+spotAfter russian p = behind p
+spotAfter latin p = behind p
+spotAfter common p = behind p
+
+unfoldable pub bad : List ℕ → Spot
+bad [] = nowhere
+bad (x ∷ xs) = spotAfter (kind x) (bad xs)
+
+abbrev pub orStuck : Spot → List ℕ → Answer
+orStuck nowhere t = said t
+orStuck (at k) t = stuck k
+
+unfoldable pub writes : List ℕ → Answer
+writes d = orStuck (bad d) (best false d)
+
+-- what is written for a desk text, with the sign and without it
+abbrev pub writing : Bool → List ℕ → Answer
+writing true d = writes d
+writing false d = plainly d

@@ -1,0 +1,62 @@
+-- The table: from a desk sign (a byte of windows-1251) to the bank letter that stands for it, 0 where it has none (T2, T9). Assumes nothing.
+use Prim.Native.Nat.{ℕ, zero, suc}
+use mathlib.Core.List.{List, [], _∷_}
+use mathlib.Core.Bool.{Bool, true, false, not, _||_}
+use lib.Dec.{eqb}
+use lib.ListN.{getD}
+use Rattle.base.specs.Choice.{pick}
+use Rattle.base.specs.Bytes.{letter, shared}
+
+-- row by row, 16 signs to a row
+unfoldable pub grid : List ℕ
+grid =
+    0 ∷ 0 ∷ 0 ∷ 0 ∷ 0 ∷ 0 ∷ 0 ∷ 0 ∷ 0 ∷ 0 ∷ 0 ∷ 0 ∷ 0 ∷ 0 ∷ 0 ∷ 0
+    ∷ 0 ∷ 0 ∷ 0 ∷ 0 ∷ 0 ∷ 0 ∷ 0 ∷ 0 ∷ 0 ∷ 0 ∷ 0 ∷ 0 ∷ 0 ∷ 0 ∷ 0 ∷ 0
+    ∷ 0 ∷ 0 ∷ 0 ∷ 0 ∷ 0 ∷ 0 ∷ 0 ∷ 0 ∷ 0 ∷ 0 ∷ 0 ∷ 0 ∷ 0 ∷ 0 ∷ 0 ∷ 0
+    ∷ 0 ∷ 0 ∷ 0 ∷ 0 ∷ 0 ∷ 0 ∷ 0 ∷ 0 ∷ 0 ∷ 0 ∷ 0 ∷ 0 ∷ 0 ∷ 0 ∷ 0 ∷ 0
+    ∷ 0 ∷ 0 ∷ 0 ∷ 0 ∷ 0 ∷ 0 ∷ 0 ∷ 0 ∷ 0 ∷ 0 ∷ 0 ∷ 0 ∷ 0 ∷ 0 ∷ 0 ∷ 0
+    ∷ 0 ∷ 0 ∷ 0 ∷ 0 ∷ 0 ∷ 0 ∷ 0 ∷ 0 ∷ 0 ∷ 0 ∷ 0 ∷ 0 ∷ 0 ∷ 0 ∷ 0 ∷ 0
+    ∷ 0 ∷ 0 ∷ 0 ∷ 0 ∷ 0 ∷ 0 ∷ 0 ∷ 0 ∷ 0 ∷ 0 ∷ 0 ∷ 0 ∷ 0 ∷ 0 ∷ 0 ∷ 0
+    ∷ 0 ∷ 0 ∷ 0 ∷ 0 ∷ 0 ∷ 0 ∷ 0 ∷ 0 ∷ 0 ∷ 0 ∷ 0 ∷ 0 ∷ 0 ∷ 0 ∷ 0 ∷ 0
+    ∷ 0 ∷ 0 ∷ 0 ∷ 0 ∷ 0 ∷ 0 ∷ 0 ∷ 0 ∷ 0 ∷ 0 ∷ 0 ∷ 0 ∷ 0 ∷ 0 ∷ 0 ∷ 0
+    ∷ 0 ∷ 0 ∷ 0 ∷ 0 ∷ 0 ∷ 0 ∷ 0 ∷ 0 ∷ 0 ∷ 0 ∷ 0 ∷ 0 ∷ 0 ∷ 0 ∷ 0 ∷ 0
+    ∷ 0 ∷ 0 ∷ 0 ∷ 0 ∷ 0 ∷ 0 ∷ 0 ∷ 0 ∷ 111 ∷ 0 ∷ 0 ∷ 0 ∷ 0 ∷ 0 ∷ 0 ∷ 0
+    ∷ 0 ∷ 0 ∷ 0 ∷ 0 ∷ 0 ∷ 0 ∷ 0 ∷ 0 ∷ 0 ∷ 110 ∷ 0 ∷ 0 ∷ 0 ∷ 0 ∷ 0 ∷ 0
+    ∷ 65 ∷ 66 ∷ 86 ∷ 71 ∷ 68 ∷ 69 ∷ 74 ∷ 90 ∷ 73 ∷ 105 ∷ 75 ∷ 76 ∷ 77 ∷ 78 ∷ 79 ∷ 80
+    ∷ 82 ∷ 83 ∷ 84 ∷ 85 ∷ 70 ∷ 72 ∷ 67 ∷ 99 ∷ 81 ∷ 113 ∷ 120 ∷ 89 ∷ 88 ∷ 101 ∷ 117 ∷ 97
+    ∷ 0 ∷ 0 ∷ 0 ∷ 0 ∷ 0 ∷ 0 ∷ 0 ∷ 0 ∷ 0 ∷ 0 ∷ 0 ∷ 0 ∷ 0 ∷ 0 ∷ 0 ∷ 0
+    ∷ 0 ∷ 0 ∷ 0 ∷ 0 ∷ 0 ∷ 0 ∷ 0 ∷ 0 ∷ 0 ∷ 0 ∷ 0 ∷ 0 ∷ 0 ∷ 0 ∷ 0 ∷ 0 ∷ []
+
+pub data Kind : Type 0 where
+  unwritable russian latin common : Kind
+
+-- what a desk sign is: one of the 34, a Latin letter, a sign that both alphabets share, or none of these
+unfoldable pub kind : ℕ → Kind
+kind x = pick (not (eqb (getD grid x 0) 0)) russian (pick (letter x) latin (pick (shared x) common unwritable))
+
+-- a side is a Bool: false is the Russian side, true the Latin one, between apostrophes
+-- the sides on which a sign of a kind can be written
+abbrev pub allowed : Kind → Bool → Bool
+allowed unwritable s = false
+allowed russian s = not s
+allowed latin s = s
+allowed common s = true
+
+-- the bank byte that stands for a sign of a kind on a side, 0 where none does
+abbrev pub spell : Kind → Bool → ℕ → ℕ
+spell unwritable s x = 0
+spell russian true x = 0
+spell russian false x = getD grid x 0
+spell latin true x = x
+spell latin false x = 0
+spell common s x = x
+
+-- the table backwards: the place of y in the list, counted from k; 0 where y is not there
+abbrev pub place : ℕ → ℕ → List ℕ → ℕ
+place y k [] = 0
+place y k (x ∷ xs) = pick (eqb x y) k (place y (suc k) xs)
+
+-- the desk sign that a bank byte stands for on a side, 0 where it has no reading
+unfoldable pub sign : Bool → ℕ → ℕ
+sign true y = pick (letter y || shared y) y 0
+sign false y = pick (shared y) y (pick (letter y) (place y 0 grid) 0)

@@ -1,0 +1,5 @@
+pub mod Grid
+pub mod Bank
+pub mod Best
+pub mod Steps
+pub mod Text

@@ -1,0 +1,126 @@
+// A desk text written: measured first, then put into the room. A turn takes a Russian run and the Latin group behind it.
+ghost use mathlib.Core.Path.{_≡_};
+ghost use mathlib.Core.Bool.{false, true};
+ghost use mathlib.Core.List.{[], _∷_, _++_};
+ghost use Prim.Native.Nat.{_+_, _-_, _≤_, _<_};
+ghost use lib.ListN.{length, drop, take, getD};
+ghost use lib.Seq.{sets};
+ghost use Rattle.base.specs.Calls.{over, textOf, placed};
+ghost use Rattle.alphabets.specs.Best.{latinNext, writes};
+ghost use Rattle.alphabets.specs.Steps.{sizeOf, Fits, shape, shapes, group, LatinRun};
+use super::Size;
+use super::runs::run_of;
+use super::runs::translate;
+use super::runs::value;
+
+// The first place from i on that the Latin side does not take, or the length.
+fn latin_run(grid: &[u8; 256], desk: &[u8], from: usize) -> usize
+    requires { ⌜ (now grid ≡ shapes) × (from ≤ length (now desk)) ⌝ }
+    ensures { λ r. ⌜ LatinRun (now (desk .entry)) from r ⌝ }
+{
+    let mut i = from;
+    while i < desk.len() {
+        let x = desk[i];
+        let c = value(grid, x);
+        if c == 1 {
+            i += 1;
+            continue;
+        }
+        if c == 0 {
+            return i;
+        }
+        if c != x {
+            return i;
+        }
+        i += 1;
+    }
+    i
+}
+
+pub(crate) fn measure_desk(grid: &[u8; 256], desk: &[u8]) -> Size
+    requires { ⌜ (now grid ≡ shapes) × (length (now desk) ≤ 5000) ⌝ }
+    ensures { λ r. ⌜ r ≡ sizeOf (writes (now (desk .entry))) ⌝ }
+{
+    let mut marks: usize = 0;
+    let mut i: usize = 0;
+    while i < desk.len() {
+        let k = run_of(grid, 1, desk, i);
+        if k == desk.len() {
+            return Size::Units(k + marks);
+        }
+        if value(grid, desk[k]) == 0 {
+            return Size::Bad(k);
+        }
+        marks += 2;
+        i = latin_run(grid, desk, k + 1);
+    }
+    Size::Units(i + marks)
+}
+
+// The place behind the last sign that stands on the Latin side once it is opened at `from`. The shared signs behind it are looked
+// through twice at most, so the whole is linear.
+fn group_end(grid: &[u8; 256], desk: &[u8], from: usize) -> usize
+    requires { ⌜ (now grid ≡ shapes) × (from ≤ length (now desk)) ⌝ }
+    ensures { λ r. ⌜ r ≡ from + group (drop from (now (desk .entry))) ⌝ }
+{
+    let mut last = from;
+    let mut i = from;
+    while i < desk.len() {
+        let x = desk[i];
+        let c = value(grid, x);
+        if c == 1 {
+            i += 1;
+            last = i;
+            continue;
+        }
+        if c == 0 {
+            return last;
+        }
+        if c != x {
+            return last;
+        }
+        i += 1;
+    }
+    last
+}
+
+// A part put into the room from n on; single letters among Russian ones are frequent.
+fn put_part(part: &[u8], out: &mut [u8], n: usize)
+    requires { ⌜ n + length (now part) ≤ length (now out) ⌝ }
+    ensures { λ _. ⌜ now (out .exit) ≡ placed (now (out .entry)) n (now (part .entry)) ⌝ }
+{
+    if part.len() == 1 {
+        out[n] = part[0];
+        return;
+    }
+    base::bytes::put(out, n, part);
+}
+
+// A part put between apostrophes into the room from n on.
+fn quote(part: &[u8], out: &mut [u8], n: usize)
+    requires { ⌜ n + (length (now part) + 2) ≤ length (now out) ⌝ }
+    ensures { λ _. ⌜ now (out .exit) ≡ sets (now (out .entry)) n (39 ∷ (now (part .entry) ++ 39 ∷ [])) ⌝ }
+{
+    out[n] = 39;
+    put_part(part, out, n + 1);
+    out[n + 1 + part.len()] = 39;
+}
+
+pub(crate) fn fill_desk(grid: &[u8; 256], desk: &[u8], out: &mut [u8])
+    requires { ⌜ (now grid ≡ shapes) × Fits (writes (now desk)) (length (now out)) ⌝ }
+    ensures { λ _. ⌜ now (out .exit) ≡ over (textOf (writes (now (desk .entry)))) (now (out .entry)) ⌝ }
+{
+    let mut n: usize = 0;
+    let mut i: usize = 0;
+    while i < desk.len() {
+        let k = translate(grid, desk, i, out, n);
+        n += k - i;
+        if k == desk.len() {
+            return;
+        }
+        let e = group_end(grid, desk, k);
+        quote(&desk[k..e], out, n);
+        n += e - k + 2;
+        i = e;
+    }
+}

@@ -1,0 +1,71 @@
+-- The table of classes, and the loop to the first byte outside the x set. Assumes nothing.
+use Prim.Native.Nat.{ℕ, zero, suc, _+_, _<_, _≤_}
+use mathlib.Core.Path.{_≡_, refl, sym, ap, _∙_}
+use mathlib.Core.Bool.{Bool, true, false}
+use mathlib.Core.List.{List, [], _∷_}
+use native.Mathlib.Omega.{arith}
+use native.Mathlib.Numerals.{add-one}
+use lib.Dec.{T, eqb, leb, leb→le}
+use lib.ListN.{length, getD, drop, drop-of-length-le}
+use lib.Seq.{drop-cons}
+use borrow.Author.Tests.{eq-eqb, ne-eqb, lt-leb, le-leb}
+use Rattle.base.specs.Choice.{pick}
+use Rattle.base.specs.Bytes.{isIn, digit, capital, letter, marks, shared, xset, values, outside, classes, lead}
+use Rattle.base.proofs.Table.{every, and-left, and-right, values-at}
+
+-- the elements of a slice of bytes
+abbrev pub Bytes : List ℕ → Type 0
+Bytes s = (i : ℕ) → getD s i 0 < 256
+
+-- ---- a loop that passes over the front
+module _ (t s : List ℕ) (i : ℕ) (h : i < length s) where
+  pub lead-on : getD t (getD s i 0) 0 ≡ 0 → lead t (drop i s) ≡ suc (lead t (drop (i + 1) s))
+  unfolding lead
+  lead-on e = rw (add-one, drop-cons s i 0, eq-eqb (getD t (getD s i 0) 0) 0 e)
+
+  pub lead-stop : (getD t (getD s i 0) 0 ≡ 0 → ⊥) → lead t (drop i s) ≡ 0
+  unfolding lead
+  lead-stop e = rw (drop-cons s i 0, ne-eqb (getD t (getD s i 0) 0) 0 e)
+
+pub lead-end : (t s : List ℕ) (i : ℕ) → length s ≤ i → lead t (drop i s) ≡ 0
+unfolding lead
+lead-end t s i h = rw (drop-of-length-le s h)
+
+pub lead-four : (t s : List ℕ) (i : ℕ) → i + 4 ≤ length s → getD t (getD s i 0) 0 ≡ 0 → getD t (getD s (i + 1) 0) 0 ≡ 0 → getD t (getD s (i + 2) 0) 0 ≡ 0 → getD t (getD s (i + 3) 0) 0 ≡ 0
+    → lead t (drop i s) ≡ 4 + lead t (drop (i + 4) s)
+lead-four t s i h a b c d =
+    let p : i + 1 + 1 ≡ i + 2 = omega arith in
+    let q : i + 2 + 1 ≡ i + 3 = omega arith in
+    let r : i + 3 + 1 ≡ i + 4 = omega arith in
+    let e1 : lead t (drop (i + 1) s) ≡ suc (lead t (drop (i + 2) s)) = lead-on t s (i + 1) (omega arith) b ∙ ap (λ (k : ℕ). suc (lead t (drop k s))) p in
+    let e2 : lead t (drop (i + 2) s) ≡ suc (lead t (drop (i + 3) s)) = lead-on t s (i + 2) (omega arith) c ∙ ap (λ (k : ℕ). suc (lead t (drop k s))) q in
+    let e3 : lead t (drop (i + 3) s) ≡ suc (lead t (drop (i + 4) s)) = lead-on t s (i + 3) (omega arith) d ∙ ap (λ (k : ℕ). suc (lead t (drop k s))) r in
+    omega (arith, lead-on t s i (omega arith) a)
+
+-- ---- past 255 there is no letter and no mark
+abbrev small : ℕ → ℕ → Bool
+small k y = leb y 255
+
+not-in : (x : ℕ) (ys : List ℕ) (k : ℕ) → T (every small k ys) → 256 ≤ x → isIn x ys ≡ false
+unfolding isIn
+not-in x [] k t h = refl
+not-in x (y ∷ ys) k t h =
+    let le : y ≤ 255 = leb→le y 255 (and-left (leb y 255) (every small (suc k) ys) t) in
+    rw (ne-eqb x y (omega arith)) (not-in x ys (suc k) (and-right (leb y 255) (every small (suc k) ys) t) h)
+
+pub big-letter : (x : ℕ) → 256 ≤ x → letter x ≡ false
+unfolding letter capital
+big-letter x h = simp (le-leb 65 x (omega arith), lt-leb x 90 (omega arith), le-leb 97 x (omega arith), lt-leb x 122 (omega arith))
+
+pub big-shared : (x : ℕ) → 256 ≤ x → shared x ≡ false
+unfolding shared digit marks
+big-shared x h = simp (le-leb 48 x (omega arith), lt-leb x 57 (omega arith)) (not-in x marks 0 tt h)
+
+pub big-xset : (x : ℕ) → 256 ≤ x → xset x ≡ false
+unfolding xset
+big-xset x h = simp (big-letter x h, big-shared x h, ne-eqb x 39 (omega arith))
+
+-- ---- the table of classes
+pub class-at : (x : ℕ) → x < 256 → getD classes x 0 ≡ outside x
+unfolding classes
+class-at x h = values-at outside 256 x h

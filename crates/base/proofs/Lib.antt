@@ -1,0 +1,6 @@
+pub mod Flags
+pub mod Table
+pub mod RuleLaws
+pub mod Room
+pub mod CallLaws
+pub mod ByteLaws

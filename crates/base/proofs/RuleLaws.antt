@@ -1,0 +1,55 @@
+-- The refusal is the first entry of the list that is broken, and there is none exactly if no entry is. Assumes nothing.
+use mathlib.Core.Path.{_≡_, refl, sym, ap, _∙_}
+use mathlib.Core.List.{List, [], _∷_, _++_}
+use mathlib.Core.Logic.{_↔_}
+use Prim.Native.Nat.{ℕ}
+use native.Mathlib.Omega.{arith}
+use Rattle.base.specs.Rules.{then, first}
+use Rattle.base.specs.declared.Verdict.{Verdict}
+use Rattle.base.specs.declared.Verdict.the-variants.{Fine, Broken}
+
+pub fine-broken : (n p : ℕ) → Fine ≡ Broken n p → ⊥
+fine-broken n p e = let z : _≡_ {A = ℕ} 0 1 = cc in omega arith
+
+-- no entry is broken
+abbrev pub Clean : List Verdict → Type 0
+Clean [] = Unit {0}
+Clean (v ∷ vs) = (v ≡ Fine) × Clean vs
+
+pub clean-first : (vs : List Verdict) → Clean vs → first vs ≡ Fine
+clean-first [] h = refl
+clean-first (v ∷ vs) h = ap (λ (w : Verdict). then w (first vs)) (h .0) ∙ clean-first vs (h .1)
+
+pub first-clean : (vs : List Verdict) → first vs ≡ Fine → Clean vs
+first-clean [] e = tt
+first-clean (Fine ∷ vs) e = (refl, first-clean vs e)
+first-clean (Broken n p ∷ vs) e = absurd (fine-broken n p (sym e))
+
+-- accepted exactly if no entry is broken
+pub accepted-iff : (vs : List Verdict) → (first vs ≡ Fine) ↔ Clean vs
+accepted-iff vs = (first-clean vs, clean-first vs)
+
+-- the entry with this number and place is broken, and no entry before it
+pub record FirstOf (vs : List Verdict) (n p : ℕ) : Type 0 where
+  pub before : List Verdict
+  pub behind : List Verdict
+  pub list : vs ≡ before ++ Broken n p ∷ behind
+  pub clean : Clean before
+
+pub first-broken : (vs : List Verdict) (n p : ℕ) → first vs ≡ Broken n p → FirstOf vs n p
+first-broken [] n p e = absurd (fine-broken n p e)
+first-broken (Broken m q ∷ vs) n p e = record { before = []; behind = vs; list = ap (λ (v : Verdict). v ∷ vs) e; clean = tt }
+first-broken (Fine ∷ vs) n p e =
+    let f : FirstOf vs n p = first-broken vs n p e in
+    record { before = Fine ∷ f .before; behind = f .behind; list = ap (λ (l : List Verdict). Fine ∷ l) (f .list); clean = (refl, f .clean) }
+
+passed : (us ws : List Verdict) (n p : ℕ) → Clean us → first (us ++ Broken n p ∷ ws) ≡ Broken n p
+passed [] ws n p h = refl
+passed (u ∷ us) ws n p h = ap (λ (w : Verdict). then w (first (us ++ Broken n p ∷ ws))) (h .0) ∙ passed us ws n p (h .1)
+
+pub broken-first : (vs : List Verdict) (n p : ℕ) → FirstOf vs n p → first vs ≡ Broken n p
+broken-first vs n p f = ap first (f .list) ∙ passed (f .before) (f .behind) n p (f .clean)
+
+-- refused by a number at a place exactly if that entry is the first that is broken
+pub refused-iff : (vs : List Verdict) (n p : ℕ) → (first vs ≡ Broken n p) ↔ FirstOf vs n p
+refused-iff vs n p = (first-broken vs n p, broken-first vs n p)

@@ -1,0 +1,4 @@
+pub mod Choice
+pub mod Bytes
+pub mod Rules
+pub mod Calls

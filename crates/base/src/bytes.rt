@@ -1,0 +1,75 @@
+// Bytes looked through, and put into lent room.
+ghost use mathlib.Core.Path.{_≡_};
+ghost use Prim.Native.Nat.{_+_, _≤_, _<_};
+ghost use lib.ListN.{length, drop, getD};
+ghost use Rattle.base.specs.Bytes.{lead};
+ghost use Rattle.base.specs.Calls.{placed};
+
+fn wide(x: u8) -> usize
+    ensures { λ r. ⌜ (r ≡ x) × (r < 256) ⌝ }
+{
+    x as usize
+}
+
+fn class_of(t: &[u8; 256], b: u8) -> usize
+    ensures { λ r. ⌜ (r ≡ getD (now (t .entry)) b 0) × (r < 256) ⌝ }
+{
+    wide(t[b as usize])
+}
+
+// The place of the first byte from i on whose class is not 0, or the length: a byte a turn.
+fn lead_from(t: &[u8; 256], s: &[u8], i: usize) -> usize
+    requires { ⌜ i ≤ length (now s) ⌝ }
+    ensures { λ r. ⌜ r ≡ i + lead (now (t .entry)) (drop i (now (s .entry))) ⌝ }
+{
+    let mut k = i;
+    while k < s.len() {
+        if class_of(t, s[k]) != 0 {
+            return k;
+        }
+        k += 1;
+    }
+    k
+}
+
+// The same from the front, four bytes a turn.
+pub fn lead_of(t: &[u8; 256], s: &[u8]) -> usize
+    ensures { λ r. ⌜ r ≡ lead (now (t .entry)) (now (s .entry)) ⌝ }
+{
+    let mut k = 0;
+    while 4 <= s.len() - k {
+        let a = class_of(t, s[k]);
+        let b = class_of(t, s[k + 1]);
+        let c = class_of(t, s[k + 2]);
+        let d = class_of(t, s[k + 3]);
+        if a + b + c + d != 0 {
+            return lead_from(t, s, k);
+        }
+        k += 4;
+    }
+    lead_from(t, s, k)
+}
+
+fn copy(out: &mut [u8], at: usize, part: &[u8])
+    requires { ⌜ at + length (now part) ≤ length (now out) ⌝ }
+    ensures { λ _. ⌜ now (out .exit) ≡ placed (now (out .entry)) at (now (part .entry)) ⌝ }
+{
+    let mut k = 0;
+    while k < part.len() {
+        out[at + k] = part[k];
+        k += 1;
+    }
+}
+
+// The part put into the room from `at` on. Where it does not fit, the room stays as it is.
+pub fn put(out: &mut [u8], at: usize, part: &[u8])
+    ensures { λ _. ⌜ now (out .exit) ≡ placed (now (out .entry)) at (now (part .entry)) ⌝ }
+{
+    if out.len() < at {
+        return;
+    }
+    if out.len() - at < part.len() {
+        return;
+    }
+    copy(out, at, part);
+}

@@ -1,0 +1,1 @@
+// No code: the worked examples stand in specs/ and proofs/.
