@@ -13,28 +13,36 @@ use super::runs::run_of;
 use super::runs::translate;
 use super::runs::value;
 
-// The first place from i on that the Latin side does not take, or the length.
-fn latin_run(grid: &[u8; 256], desk: &[u8], from: usize) -> usize
+// A stretch of signs that the Latin side takes: the place behind its last Latin letter, and the place behind it.
+struct Stretch {
+    last: usize,
+    end: usize,
+}
+
+// The stretch from a place on. The shared signs behind its last letter are looked through twice at most, so the whole is linear.
+fn stretch_from(grid: &[u8; 256], desk: &[u8], from: usize) -> Stretch
     requires { ⌜ (now grid ≡ shapes) × (from ≤ length (now desk)) ⌝ }
-    ensures { λ r. ⌜ LatinRun (now (desk .entry)) from r ⌝ }
+    ensures { λ r. ⌜ (r .last ≡ from + group (drop from (now (desk .entry)))) × LatinRun (now (desk .entry)) from (r .end) ⌝ }
 {
+    let mut last = from;
     let mut i = from;
     while i < desk.len() {
         let x = desk[i];
         let c = value(grid, x);
         if c == 1 {
             i += 1;
+            last = i;
             continue;
         }
         if c == 0 {
-            return i;
+            return Stretch { last, end: i };
         }
         if c != x {
-            return i;
+            return Stretch { last, end: i };
         }
         i += 1;
     }
-    i
+    Stretch { last, end: i }
 }
 
 pub(crate) fn measure_desk(grid: &[u8; 256], desk: &[u8]) -> Size
@@ -52,36 +60,10 @@ pub(crate) fn measure_desk(grid: &[u8; 256], desk: &[u8]) -> Size
             return Size::Bad(k);
         }
         marks += 2;
-        i = latin_run(grid, desk, k + 1);
+        let s = stretch_from(grid, desk, k + 1);
+        i = s.end;
     }
     Size::Units(i + marks)
-}
-
-// The place behind the last sign that stands on the Latin side once it is opened at `from`. The shared signs behind it are looked
-// through twice at most, so the whole is linear.
-fn group_end(grid: &[u8; 256], desk: &[u8], from: usize) -> usize
-    requires { ⌜ (now grid ≡ shapes) × (from ≤ length (now desk)) ⌝ }
-    ensures { λ r. ⌜ r ≡ from + group (drop from (now (desk .entry))) ⌝ }
-{
-    let mut last = from;
-    let mut i = from;
-    while i < desk.len() {
-        let x = desk[i];
-        let c = value(grid, x);
-        if c == 1 {
-            i += 1;
-            last = i;
-            continue;
-        }
-        if c == 0 {
-            return last;
-        }
-        if c != x {
-            return last;
-        }
-        i += 1;
-    }
-    last
 }
 
 // A part put into the room from n on; single letters among Russian ones are frequent.
@@ -118,7 +100,8 @@ pub(crate) fn fill_desk(grid: &[u8; 256], desk: &[u8], out: &mut [u8])
         if k == desk.len() {
             return;
         }
-        let e = group_end(grid, desk, k);
+        let s = stretch_from(grid, desk, k);
+        let e = s.last;
         quote(&desk[k..e], out, n);
         n += e - k + 2;
         i = e;

@@ -44,17 +44,17 @@ stop c =
 more : (c : tie.Else1 Inv-loop μ-loop) → let t = c .before .before .before in t .translate .result < length (t .before .before .before .before .before .before .args .desk .now)
 more c = omega (arith, russian (c .before .before .before) .long)
 
-within : (c : tie.After-group-end Inv-loop μ-loop) → let e = c .before in let t = e .before .before .before in c .group-end .result ≤ length (t .before .before .before .before .before .before .args .desk .now)
-within c = let e = c .before in group-within _ _ _ _ _ (russian (e .before .before .before)) (more e) (stop e) (c .group-end .result) (c .group-end .ensures)
+within : (c : tie.After-stretch-from Inv-loop μ-loop) → let e = c .before in let t = e .before .before .before in c .stretch-from .result .last ≤ length (t .before .before .before .before .before .before .args .desk .now)
+within c = let e = c .before in group-within _ _ _ _ _ (russian (e .before .before .before)) (more e) (stop e) (c .stretch-from .result .last) (c .stretch-from .ensures .0)
 
-behind : (c : tie.After-group-end Inv-loop μ-loop) → c .before .before .before .before .translate .result < c .group-end .result
-behind c = let e = c .before in group-behind _ _ _ _ _ (russian (e .before .before .before)) (more e) (stop e) (c .group-end .result) (c .group-end .ensures)
+behind : (c : tie.After-stretch-from Inv-loop μ-loop) → c .before .before .before .before .translate .result < c .stretch-from .result .last
+behind c = let e = c .before in group-behind _ _ _ _ _ (russian (e .before .before .before)) (more e) (stop e) (c .stretch-from .result .last) (c .stretch-from .ensures .0)
 
-room : (c : tie.After-group-end Inv-loop μ-loop) → let t = c .before .before .before .before in let l = t .before .before .before in l .loop .n + (t .translate .result - l .loop .i) + (c .group-end .result - t .translate .result + 2) ≤ length (t .translate .last .1 .1 .1 .0)
-room c = let e = c .before in group-room _ _ _ _ _ (russian (e .before .before .before)) (more e) (stop e) (c .group-end .result) (c .group-end .ensures)
+room : (c : tie.After-stretch-from Inv-loop μ-loop) → let t = c .before .before .before .before in let l = t .before .before .before in l .loop .n + (t .translate .result - l .loop .i) + (c .stretch-from .result .last - t .translate .result + 2) ≤ length (t .translate .last .1 .1 .1 .0)
+room c = let e = c .before in group-room _ _ _ _ _ (russian (e .before .before .before)) (more e) (stop e) (c .stretch-from .result .last) (c .stretch-from .ensures .0)
 
-part-length : (c : tie.After-group-end Inv-loop μ-loop) → let t = c .before .before .before .before in let m = t .before .before .before .before .before .before .args .desk .now in length (take (c .group-end .result - t .translate .result) (drop (t .translate .result) m)) ≡ c .group-end .result - t .translate .result
-part-length c = let t = c .before .before .before .before in let m = t .before .before .before .before .before .before .args .desk .now in length-take-le (c .group-end .result - t .translate .result) (drop (t .translate .result) m) (omega (arith, within c, length-drop (t .translate .result) m))
+part-length : (c : tie.After-stretch-from Inv-loop μ-loop) → let t = c .before .before .before .before in let m = t .before .before .before .before .before .before .args .desk .now in length (take (c .stretch-from .result .last - t .translate .result) (drop (t .translate .result) m)) ≡ c .stretch-from .result .last - t .translate .result
+part-length c = let t = c .before .before .before .before in let m = t .before .before .before .before .before .before .args .desk .now in length-take-le (c .stretch-from .result .last - t .translate .result) (drop (t .translate .result) m) (omega (arith, within c, length-drop (t .translate .result) m))
 
 loop-holds : tie.Need-loop-holds Inv-loop μ-loop
 loop-holds c = let a = c .before .before .args in filling-start (unwritten (a .desk .now)) _ _ (subst (λ (w : Answer). Fits w (length (a .out .now))) (sym (unwritten-whole (a .desk .now))) (c .before .before .pre .1))
@@ -74,8 +74,8 @@ same-length c = russian (c .before .before .before) .kept
 returns : tie.Need-returns Inv-loop μ-loop
 returns c = written-end _ _ _ _ _ (russian (c .before .before .before)) (omega arith)
 
-group-end-requires : tie.Need-group-end-requires Inv-loop μ-loop
-group-end-requires c κs = let t = c .before .before .before in (t .before .before .before .before .before .before .pre .0, omega (arith, more c))
+stretch-from-requires : tie.Need-stretch-from-requires Inv-loop μ-loop
+stretch-from-requires c κs = let t = c .before .before .before in (t .before .before .before .before .before .before .pre .0, omega (arith, more c))
 
 sub-quote : tie.Need-sub-quote Inv-loop μ-loop
 sub-quote c = omega (arith, behind c)
@@ -103,8 +103,8 @@ loop-less c = let g = c .before .before .before .before .before in let t = g .be
 
 loop-again : tie.Need-loop-again Inv-loop μ-loop
 loop-again c = let q = c .before .before in let g = q .before .before .before in let e = g .before in let t = e .before .before .before in let l = t .before .before .before in let a = l .before .before .before .args in
-    subst (λ (o : List ℕ). Filling (unwritten (a .desk .now)) (length (a .desk .now)) (a .out .now) o (l .loop .n + (t .translate .result - l .loop .i) + (g .group-end .result - t .translate .result + 2)) (g .group-end .result)) (sym (q .quote .ensures))
-    (group-step _ _ _ _ _ (russian t) (more e) (stop e) (g .group-end .result) (g .group-end .ensures))
+    subst (λ (o : List ℕ). Filling (unwritten (a .desk .now)) (length (a .desk .now)) (a .out .now) o (l .loop .n + (t .translate .result - l .loop .i) + (g .stretch-from .result .last - t .translate .result + 2)) (g .stretch-from .result .last)) (sym (q .quote .ensures))
+    (group-step _ _ _ _ _ (russian t) (more e) (stop e) (g .stretch-from .result .last) (g .stretch-from .ensures .0))
 
 same-length-2 : tie.Need-same-length-2 Inv-loop μ-loop
 same-length-2 c = c .before .loop .inv .kept
@@ -124,7 +124,7 @@ fill-desk-spec =
     add-n
     same-length
     returns
-    group-end-requires
+    stretch-from-requires
     sub-quote
     part-quote-start
     part-quote-end

@@ -47,8 +47,8 @@ loop-holds c = weighing-start _
 run-of-requires : tie.Need-run-of-requires Inv-loop μ-loop
 run-of-requires c κs = search needs
 
-add-t8 : tie.Need-add-t8 Inv-loop μ-loop
-add-t8 c = omega (arith, behind (c .before) .few, at-end (c .before) .within, c .before .before .before .before .before .pre .1)
+add-t9 : tie.Need-add-t9 Inv-loop μ-loop
+add-t9 c = omega (arith, behind (c .before) .few, at-end (c .before) .within, c .before .before .before .before .before .pre .1)
 
 returns : tie.Need-returns Inv-loop μ-loop
 returns c = weighing-end _ _ _ (behind (c .before)) (omega arith)
@@ -65,20 +65,20 @@ returns-2 c = let v = c .before in let f = v .before .before .before in weighed-
 add-marks : tie.Need-add-marks Inv-loop μ-loop
 add-marks c = let f = c .before .before .before .before in omega (arith, behind f .few, inside (c .before .before .before), f .before .before .before .before .pre .1)
 
-add-latin-run : tie.Need-add-latin-run Inv-loop μ-loop
-add-latin-run c = omega (arith, inside (c .before .before .before))
+add-stretch-from : tie.Need-add-stretch-from Inv-loop μ-loop
+add-stretch-from c = omega (arith, inside (c .before .before .before))
 
-latin-run-requires : tie.Need-latin-run-requires Inv-loop μ-loop
-latin-run-requires c κs = let f = c .before .before .before .before in (f .before .before .before .before .pre .0, omega (arith, inside (c .before .before .before)))
+stretch-from-requires : tie.Need-stretch-from-requires Inv-loop μ-loop
+stretch-from-requires c κs = let f = c .before .before .before .before in (f .before .before .before .before .pre .0, omega (arith, inside (c .before .before .before)))
 
 loop-less : tie.Need-loop-less Inv-loop μ-loop
-loop-less c = let f = c .before .before .before .before .before in omega (arith, c .latin-run .ensures .low, c .latin-run .ensures .high, place f)
+loop-less c = let f = c .before .before .before .before .before in omega (arith, c .stretch-from .ensures .1 .low, c .stretch-from .ensures .1 .high, place f)
 
 loop-again : tie.Need-loop-again Inv-loop μ-loop
-loop-again c = let e = c .before in let f = e .before .before .before .before in weighing-latin _ _ _ (behind f) (inside (e .before .before .before)) _ (is-latin _ (letter e)) (c .latin-run .ensures)
+loop-again c = let e = c .before in let f = e .before .before .before .before in weighing-latin _ _ _ (behind f) (inside (e .before .before .before)) _ (is-latin _ (letter e)) (c .stretch-from .ensures .1)
 
-add-t12 : tie.Need-add-t12 Inv-loop μ-loop
-add-t12 c = omega (arith, c .before .loop .inv .few, c .before .loop .inv .long, c .before .before .before .pre .1)
+add-t13 : tie.Need-add-t13 Inv-loop μ-loop
+add-t13 c = omega (arith, c .before .loop .inv .few, c .before .loop .inv .long, c .before .before .before .pre .1)
 
 returns-3 : tie.Need-returns-3 Inv-loop μ-loop
 returns-3 c = weighing-end _ _ _ (c .before .loop .inv) (c .loop-test .left)
@@ -91,15 +91,15 @@ measure-desk-spec =
     μ-loop
     loop-holds
     run-of-requires
-    add-t8
+    add-t9
     returns
     shared-slice-read-value
     value-requires
     returns-2
     add-marks
-    add-latin-run
-    latin-run-requires
+    add-stretch-from
+    stretch-from-requires
     loop-less
     loop-again
-    add-t12
+    add-t13
     returns-3)
