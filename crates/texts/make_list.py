@@ -1,5 +1,5 @@
 #!/usr/bin/env python3
-"""Makes the stored list of texts: python3 make_list.py > list
+"""Makes the stored list of texts: python3 make_list.py > stdin
 
 One record a line, ended by LF, parts separated by one tab:
 

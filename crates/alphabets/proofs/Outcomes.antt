@@ -17,7 +17,7 @@ use Rattle.base.specs.declared.Verdict.the-variants.{Fine, Broken}
 use Rattle.base.specs.declared.Outcome.{Outcome}
 use Rattle.base.specs.declared.Outcome.the-variants.{Done, Refused}
 use Rattle.base.proofs.RuleLaws.{Clean, first-clean, fine-broken}
-use Rattle.base.proofs.CallLaws.{not-said, gives-one, Accepted, accepted, refused, gives-done, not-long, not-short, long-within, short-within}
+use Rattle.base.proofs.CallLaws.{not-said, gives-one, Accepted, accepted, refused, gives-done, not-long, not-short, within-limit, short-within}
 use Rattle.alphabets.specs.Grid.{Kind, unwritable, russian, latin, common, kind, spell, sign}
 use Rattle.alphabets.specs.Bank.{past, after, reads, plainly, reading}
 use Rattle.alphabets.specs.Best.{latinNext, sideFor, cross, best, Spot, nowhere, at, behind, spotAfter, bad, orStuck, writes, writing}
@@ -58,7 +58,7 @@ taken limit number input (stuck k) out n after g =
 taken limit number input (said t) out n after g =
     let w : Accepted (textRules limit number input (said t) out) t out n after = accepted (textRules limit number input (said t) out) t out n after g in
     let c : Clean (textRules limit number input (said t) out) = first-clean (textRules limit number input (said t) out) (w .clean) in
-    record { text = t; is = refl; count = w .count; within = long-within limit input (c .0); fits = short-within t out (c .1 .1 .0); filled = w .filled }
+    record { text = t; is = refl; count = w .count; within = within-limit limit input (c .0); fits = short-within t out (c .1 .1 .0); filled = w .filled }
 
 pub read-done : (s : Bool) (bank out : List ℕ) (n : ℕ) (a : List ℕ) → ReadTo s bank out (Done n) a → Taken 10000 bank (reading s bank) out n a
 unfolding ReadTo

@@ -1,21 +1,48 @@
--- The table of classes, and the loop to the first byte outside the x set. Assumes nothing.
-use Prim.Native.Nat.{ℕ, zero, suc, _+_, _<_, _≤_}
-use mathlib.Core.Path.{_≡_, refl, sym, ap, _∙_}
-use mathlib.Core.Bool.{Bool, true, false}
+-- Bytes of a range, texts that are the same, the table of classes, and the loop to the first byte outside the x set. Assumes nothing.
+use Prim.Native.Nat.{ℕ, suc, _+_, _<_, _≤_}
+use mathlib.Core.Path.{_≡_, refl, sym, ap, ap₂, _∙_}
+use mathlib.Core.Bool.{Bool, true, false, false≢true}
 use mathlib.Core.List.{List, [], _∷_}
 use native.Mathlib.Omega.{arith}
 use native.Mathlib.Numerals.{add-one}
 use lib.Dec.{T, eqb, leb, leb→le}
 use lib.ListN.{length, getD, drop, drop-of-length-le}
 use lib.Seq.{drop-cons}
-use borrow.Author.Tests.{eq-eqb, ne-eqb, lt-leb, le-leb}
-use Rattle.base.specs.Choice.{pick}
-use Rattle.base.specs.Bytes.{isIn, digit, capital, letter, marks, shared, xset, values, outside, classes, lead}
+use borrow.Author.Tests.{eq-eqb, ne-eqb, eqb-true, lt-leb, le-leb, leb-true}
+use Rattle.base.specs.Bytes.{byte, begins, isIn, digit, capital, letter, marks, shared, xset, outside, classes, lead, same}
+use Rattle.base.proofs.Bools.{left, right, both}
 use Rattle.base.proofs.Table.{every, and-left, and-right, values-at}
 
 -- the elements of a slice of bytes
 abbrev pub Bytes : List ℕ → Type 0
 Bytes s = (i : ℕ) → getD s i 0 < 256
+
+-- ---- what a digit and a capital are
+pub digit-range : (x : ℕ) → digit x ≡ true → (48 ≤ x) × (x ≤ 57)
+unfolding digit
+digit-range x e = (leb-true 48 x (left (leb 48 x) (leb x 57) e), leb-true x 57 (right (leb 48 x) (leb x 57) e))
+
+pub capital-range : (x : ℕ) → capital x ≡ true → (65 ≤ x) × (x ≤ 90)
+unfolding capital
+capital-range x e = (leb-true 65 x (left (leb 65 x) (leb x 90) e), leb-true x 90 (right (leb 65 x) (leb x 90) e))
+
+-- the first byte, which no text without one has
+pub begins-byte : (c : ℕ) (b : List ℕ) → eqb 0 c ≡ false → begins c b ≡ eqb (byte b 0) c
+begins-byte c [] e = sym e
+begins-byte c (x ∷ b) e = refl
+
+-- ---- the same text
+pub same-is : (s t : List ℕ) → same s t ≡ true → s ≡ t
+unfolding same
+same-is [] [] e = refl
+same-is [] (y ∷ t) e = absurd (false≢true e)
+same-is (x ∷ s) [] e = absurd (false≢true e)
+same-is (x ∷ s) (y ∷ t) e = ap₂ _∷_ (eqb-true x y (left (eqb x y) (same s t) e)) (same-is s t (right (eqb x y) (same s t) e))
+
+pub same-refl : (s : List ℕ) → same s s ≡ true
+unfolding same
+same-refl [] = refl
+same-refl (x ∷ s) = both (eq-eqb x x refl) (same-refl s)
 
 -- ---- a loop that passes over the front
 module _ (t s : List ℕ) (i : ℕ) (h : i < length s) where

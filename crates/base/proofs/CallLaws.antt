@@ -1,20 +1,22 @@
 -- The ways out of a call that puts a text into lent room, and back from an outcome to what it says. Assumes nothing.
 use Prim.Native.Nat.{ℕ, _<_, _≤_}
 use mathlib.Core.Path.{_≡_, refl, sym, ap, _∙_}
-use mathlib.Core.Bool.{Bool, true, false}
-use mathlib.Core.List.{List, [], _∷_}
+use mathlib.Core.List.{List, _∷_}
 use native.Mathlib.Omega.{arith}
-use lib.Dec.{ltb}
+use native.Mathlib.Decide.{decLt}
 use lib.ListN.{length}
-use borrow.Author.Tests.{lt-ltb, le-ltb, ltb-false}
-use Rattle.base.specs.Choice.{pick}
+use borrow.Author.Tests.{lt-ltb, le-ltb}
 use Rattle.base.specs.Rules.{then, first}
-use Rattle.base.specs.Calls.{Answer, said, stuck, long, short, stopped, outcome, over, room, Gives}
+use Rattle.base.specs.Calls.{said, stuck, long, short, outcome, over, room, Gives}
 use Rattle.base.specs.declared.Verdict.{Verdict}
 use Rattle.base.specs.declared.Verdict.the-variants.{Fine, Broken}
 use Rattle.base.specs.declared.Outcome.{Outcome}
 use Rattle.base.specs.declared.Outcome.the-variants.{Done, Refused}
 use Rattle.base.proofs.RuleLaws.{fine-broken}
+
+-- a contract that gives the answer itself: any two answers are equal
+pub one-answer : {A : Type 0} {x r s : A} → r ≡ x → s ≡ x → r ≡ s
+one-answer p q = p ∙ sym q
 
 -- any two outcomes are equal, the room counted
 pub gives-one : {rules : List Verdict} {t out : List ℕ} {r s : Outcome} {a b : List ℕ} → Gives rules t out r a → Gives rules t out s b → (r ≡ s) × (a ≡ b)
@@ -35,6 +37,13 @@ pub not-long : (limit : ℕ) (input : List ℕ) → length input ≤ limit → l
 unfolding long
 not-long limit input h = rw (le-ltb limit (length input) h)
 
+pub within-limit : (limit : ℕ) (input : List ℕ) → long limit input ≡ Fine → length input ≤ limit
+within-limit limit input e = go (decLt limit (length input))
+  where
+    go : Dec (limit < length input) → length input ≤ limit
+    go (yes h) = absurd (fine-broken 1 limit (sym e ∙ is-long limit input h))
+    go (no h) = omega arith
+
 pub is-short : {A : Type 0} (t out : List A) → length out < length t → short t out ≡ Broken 17 (length t)
 unfolding short
 is-short t out h = rw (lt-ltb (length out) (length t) h)
@@ -42,6 +51,13 @@ is-short t out h = rw (lt-ltb (length out) (length t) h)
 pub not-short : {A : Type 0} (t out : List A) → length t ≤ length out → short t out ≡ Fine
 unfolding short
 not-short t out h = rw (le-ltb (length out) (length t) h)
+
+pub enough : {A : Type 0} (t out : List A) → short t out ≡ Fine → length t ≤ length out
+enough t out e = go (decLt (length out) (length t))
+  where
+    go : Dec (length out < length t) → length t ≤ length out
+    go (yes h) = absurd (fine-broken 17 (length t) (sym e ∙ is-short t out h))
+    go (no h) = omega arith
 
 -- ---- back from an outcome
 done-refused : (n k p : ℕ) → Done n ≡ Refused k p → ⊥
@@ -72,6 +88,13 @@ refused rules t out k p after g = go (first rules) refl (g .answers) (g .leaves)
 pub not-said : (k : ℕ) (t : List ℕ) → stuck k ≡ said t → ⊥
 not-said k t e = let z : _≡_ {A = ℕ} 0 1 = cc in omega arith
 
+pub short-within : {A : Type 0} (t out : List A) → short t out ≡ Fine → length t ≤ length out
+short-within t out e = go (decLt (length out) (length t))
+  where
+    go : Dec (length out < length t) → length t ≤ length out
+    go (yes h) = absurd (fine-broken 17 (length t) (sym e ∙ is-short t out h))
+    go (no h) = omega arith
+
 -- a rule in front that is not broken
 pub gives-past : {v : Verdict} {rules : List Verdict} {t out : List ℕ} {r : Outcome} {after : List ℕ} → v ≡ Fine → Gives rules t out r after → Gives (v ∷ rules) t out r after
 gives-past {rules = rules} {t = t} {out = out} e g =
@@ -79,19 +102,3 @@ gives-past {rules = rules} {t = t} {out = out} e g =
       answers = g .answers ∙ ap (λ (w : Verdict). outcome (then w (first rules)) (length t)) (sym e);
       leaves = g .leaves ∙ ap (λ (w : Verdict). room (then w (first rules)) t out) (sym e);
     }
-
-pub long-within : (limit : ℕ) (input : List ℕ) → long limit input ≡ Fine → length input ≤ limit
-unfolding long
-long-within limit input e = go (ltb limit (length input)) refl e
-  where
-    go : (q : Bool) → ltb limit (length input) ≡ q → pick q (Broken 1 limit) Fine ≡ Fine → length input ≤ limit
-    go true q e = absurd (fine-broken 1 limit (sym e))
-    go false q e = ltb-false limit (length input) q
-
-pub short-within : {A : Type 0} (t out : List A) → short t out ≡ Fine → length t ≤ length out
-unfolding short
-short-within t out e = go (ltb (length out) (length t)) refl e
-  where
-    go : (q : Bool) → ltb (length out) (length t) ≡ q → pick q (Broken 17 (length t)) Fine ≡ Fine → length t ≤ length out
-    go true q e = absurd (fine-broken 17 (length t) (sym e))
-    go false q e = ltb-false (length out) (length t) q

@@ -1,6 +1,6 @@
 -- What a function returns on a way through its tests is what its definition says: each law takes off one test of the definition, by the
 -- fact that the test left. `search flags` (or `search flags depth 9`) puts them together. Assumes nothing.
-use mathlib.Core.Path.{_≡_, refl, sym, _∙_, ap, subst}
+use mathlib.Core.Path.{_≡_, sym, _∙_, ap, subst}
 use mathlib.Core.Bool.{Bool, true, false, not, _&&_, _||_}
 use Prim.Native.Nat.{ℕ, _≤_, _<_}
 use lib.Dec.{eqb, leb, ltb}

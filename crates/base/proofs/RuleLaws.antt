@@ -11,6 +11,25 @@ use Rattle.base.specs.declared.Verdict.the-variants.{Fine, Broken}
 pub fine-broken : (n p : ℕ) → Fine ≡ Broken n p → ⊥
 fine-broken n p e = let z : _≡_ {A = ℕ} 0 1 = cc in omega arith
 
+-- what stands behind a rule need only be the same where the rule is not broken
+pub then-under : (v w u : Verdict) → (v ≡ Fine → w ≡ u) → then v w ≡ then v u
+then-under Fine w u h = h refl
+then-under (Broken n p) w u h = refl
+
+pub then-fine : (v : Verdict) → then v Fine ≡ v
+then-fine Fine = refl
+then-fine (Broken n p) = refl
+
+pub then-clean : (v w : Verdict) → then v w ≡ Fine → (v ≡ Fine) × (w ≡ Fine)
+then-clean Fine w e = (refl, e)
+then-clean (Broken n p) w e = absurd (fine-broken n p (sym e))
+
+-- one entry more, behind the others
+pub first-last : (us : List Verdict) (v : Verdict) → first (us ++ v ∷ []) ≡ then (first us) v
+first-last [] v = then-fine v
+first-last (Fine ∷ us) v = first-last us v
+first-last (Broken n p ∷ us) v = refl
+
 -- no entry is broken
 abbrev pub Clean : List Verdict → Type 0
 Clean [] = Unit {0}

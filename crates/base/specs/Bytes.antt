@@ -4,7 +4,7 @@ use mathlib.Core.Bool.{Bool, true, false, not, _&&_, _||_}
 use mathlib.Core.List.{List, [], _∷_}
 use lib.ListN.{getD}
 use lib.Dec.{eqb, leb}
-use Rattle.base.specs.Choice.{pick}
+use Rattle.base.specs.Choice.{pick, all}
 
 -- the byte at i, and 0 past the end
 abbrev pub byte : List ℕ → ℕ → ℕ
@@ -63,6 +63,13 @@ begins c (x ∷ xs) = eqb x c
 abbrev pub empty {ℓ} : {A : Type ℓ} → List A → Bool
 empty [] = true
 empty (x ∷ xs) = false
+
+-- c does not stand in the text
+abbrev pub other : ℕ → ℕ → Bool
+other c x = not (eqb x c)
+
+abbrev pub without : ℕ → List ℕ → Bool
+without c l = all (other c) l
 
 -- the two texts are the same
 unfoldable pub same : List ℕ → List ℕ → Bool

@@ -1,7 +1,7 @@
 -- What a call comes to that puts a text into lent room: its rules in order, its answer, and the room then (N1, N17, K6). Assumes nothing.
 use Prim.Native.Nat.{ℕ, _+_}
 use mathlib.Core.Path.{_≡_}
-use mathlib.Core.List.{List, [], _∷_, _++_}
+use mathlib.Core.List.{List, [], _++_}
 use lib.Dec.{ltb, leb}
 use lib.ListN.{length, take, drop}
 use Rattle.base.specs.Choice.{pick}

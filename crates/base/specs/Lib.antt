@@ -2,3 +2,5 @@ pub mod Choice
 pub mod Bytes
 pub mod Rules
 pub mod Calls
+pub mod Bits
+pub mod Quoted

@@ -1,17 +1,35 @@
-// Bytes looked through, and put into lent room.
+// Bytes looked at, looked through, and put into lent room.
 ghost use mathlib.Core.Path.{_≡_};
 ghost use Prim.Native.Nat.{_+_, _≤_, _<_};
 ghost use lib.ListN.{length, drop, getD};
-ghost use Rattle.base.specs.Bytes.{lead};
+ghost use Rattle.base.specs.Bytes.{digit, capital, lead};
 ghost use Rattle.base.specs.Calls.{placed};
 
-fn wide(x: u8) -> usize
+pub fn wide(x: u8) -> u32
     ensures { λ r. ⌜ (r ≡ x) × (r < 256) ⌝ }
 {
-    x as usize
+    x as u32
 }
 
-fn class_of(t: &[u8; 256], b: u8) -> usize
+pub fn is_digit(x: u8) -> bool
+    ensures { λ r. ⌜ r ≡ digit x ⌝ }
+{
+    if x < 48 {
+        return false;
+    }
+    x <= 57
+}
+
+pub fn is_capital(x: u8) -> bool
+    ensures { λ r. ⌜ r ≡ capital x ⌝ }
+{
+    if x < 65 {
+        return false;
+    }
+    x <= 90
+}
+
+fn class_of(t: &[u8; 256], b: u8) -> u32
     ensures { λ r. ⌜ (r ≡ getD (now (t .entry)) b 0) × (r < 256) ⌝ }
 {
     wide(t[b as usize])

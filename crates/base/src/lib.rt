@@ -1,4 +1,5 @@
 // Answers, bytes and lent room: what every other crate is written with.
+pub mod bits;
 pub mod bytes;
 pub mod xset;
 

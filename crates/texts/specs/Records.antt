@@ -1,6 +1,5 @@
 -- A record of right form. Assumes nothing.
 use Prim.Native.Nat.{ℕ, _≤_}
-use Rattle.texts.specs.declared.records.Case.{Case}
 use Rattle.texts.specs.declared.records.Form.{Form}
 use Rattle.texts.specs.declared.records.Form.the-variants.{Right, Wrong}
 

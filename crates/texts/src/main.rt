@@ -1,4 +1,5 @@
-// Takes a stored list of texts through the two calls, and writes each record that comes out otherwise.
+// Takes a stored list of texts, made by make_list.py, through the two calls. Each record that comes out otherwise is
+// written: its name and what was answered, or `form`. An answer as expected there means that the room was not left so.
 mod lines;
 mod notation;
 mod records;

@@ -1,8 +1,10 @@
 // A record: taken apart, through its call, and compared.
 ghost use Prim.Native.Nat.{_≤_};
 ghost use mathlib.Core.Path.{_≡_};
-ghost use mathlib.Core.Bool.{true};
-ghost use lib.ListN.{length};
+ghost use mathlib.Core.Bool.{true, _||_};
+ghost use mathlib.Core.List.{[], _∷_};
+ghost use lib.ListN.{length, replicate};
+ghost use Rattle.base.specs.Bytes.{same as Bytes·same};
 ghost use Rattle.texts.specs.Notation.{Inside};
 ghost use Rattle.texts.specs.Records.{Fits};
 use crate::lines::find;
@@ -43,12 +45,12 @@ fn input_room() -> [u8; 10001]
 
 // Room to lend, filled with a byte that no text has that is read or written.
 fn lent_room() -> [u8; 10000]
-    ensures { λ r. ⌜ 10000 ≡ length r ⌝ }
+    ensures { λ r. ⌜ (10000 ≡ length r) × (r ≡ replicate 10000 170) ⌝ }
 {
     [0xAAu8; 10000]
 }
 
-fn is_sign(b: u8) -> bool {
+fn is_name_byte(b: u8) -> bool {
     match b {
         b'0'..=b'9' | b'A'..=b'Z' | b'a'..=b'z' | b'-' | b'_' | b'.' => true,
         _ => false,
@@ -73,7 +75,7 @@ fn is_name(name: &[u8]) -> bool {
     }
     let mut i = 0;
     while i < n {
-        if !is_sign(name[i]) {
+        if !is_name_byte(name[i]) {
             return false;
         }
         i += 1;
@@ -81,20 +83,25 @@ fn is_name(name: &[u8]) -> bool {
     true
 }
 
-fn is_either(s: &[u8], a: u8, b: u8) -> bool {
+fn is_either(s: &[u8], a: u8, b: u8) -> bool
+    ensures { λ r. ⌜ r ≡ (Bytes·same (now (s .entry)) (a ∷ []) || Bytes·same (now (s .entry)) (b ∷ [])) ⌝ }
+{
     if is_only(s, a) {
         return true;
     }
     is_only(s, b)
 }
 
-// Five or six parts, and of the first three the form.
-fn is_head(line: &[u8]) -> bool {
-    let n = parts(line);
-    if n < 5 {
-        return false;
+fn is_five_or_six(n: usize) -> bool {
+    if n == 5 {
+        return true;
     }
-    if n > 6 {
+    n == 6
+}
+
+// Five or six parts, and the form of the first three.
+fn is_head(line: &[u8]) -> bool {
+    if !is_five_or_six(parts(line)) {
         return false;
     }
     if !is_name(part(line, 0)) {

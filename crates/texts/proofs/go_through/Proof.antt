@@ -1,14 +1,9 @@
-use Prim.Native.Nat.{ℕ, _+_, _-_, _≤_, _<_}
+use Prim.Native.Nat.{_+_, _-_, _≤_}
 use native.Mathlib.Omega.{arith}
 use borrow.Author.Needs.{needs}
 use lib.ListN.{length}
 use Rattle.texts.proofs.go_through.Statement.{statement}
 use Rattle.texts.proofs.go_through.Tie as tie
-use Rattle.texts.proofs.go_through.Reads as reads
-use Rattle.texts.proofs.go_through.Lts as lts
-use Rattle.texts.proofs.lines.find.Reads as find-reads
-use Rattle.texts.proofs.report.tell.Reads as tell-reads
-use Rattle.texts.proofs.taken.Reads as taken-reads
 
 abbrev Inv-loop : tie.InvT-loop
 Inv-loop list texts₀ differ₀ at₀ t6 t7 texts differ at = (at ≤ length list + 1) × (texts ≤ at) × (differ ≤ texts)
@@ -16,55 +11,42 @@ Inv-loop list texts₀ differ₀ at₀ t6 t7 texts differ at = (at ≤ length li
 abbrev μ-loop : tie.MeasureT-loop
 μ-loop list texts₀ differ₀ at₀ t6 t7 texts differ at = length list + 1 - at
 
--- src/main.rt:36:5
 loop-holds : tie.Need-loop-holds Inv-loop μ-loop
 loop-holds c = (omega arith, omega arith, omega arith)
 
--- src/main.rt:37:13
 find-requires : tie.Need-find-requires Inv-loop μ-loop
 find-requires c κs = search needs
 
--- src/main.rt:38:19
 taken-requires : tie.Need-taken-requires Inv-loop μ-loop
 taken-requires c κs = search needs
 
--- src/main.rt:38:9
 add-differ : tie.Need-add-differ Inv-loop μ-loop
 add-differ c = omega arith
 
--- src/main.rt:39:9
 add-texts : tie.Need-add-texts Inv-loop μ-loop
 add-texts c = omega arith
 
--- src/main.rt:40:14
 add-at : tie.Need-add-at Inv-loop μ-loop
 add-at c = omega arith
 
--- src/main.rt:36:5
 loop-less : tie.Need-loop-less Inv-loop μ-loop
 loop-less c = omega arith
 
--- src/main.rt:36:5
 loop-again : tie.Need-loop-again Inv-loop μ-loop
 loop-again c = let t = c .before .find .ensures in let w = c .taken .ensures in (omega arith, omega arith, omega arith)
 
--- src/main.rt:42:17
 slice-aggregate-tell : tie.Need-slice-aggregate-tell Inv-loop μ-loop
 slice-aggregate-tell c = omega arith
 
--- src/main.rt:42:5
 tell-requires : tie.Need-tell-requires Inv-loop μ-loop
 tell-requires c κs = search needs
 
--- src/main.rt:43:18
 slice-aggregate-tell-2 : tie.Need-slice-aggregate-tell-2 Inv-loop μ-loop
 slice-aggregate-tell-2 c = omega arith
 
--- src/main.rt:43:5
 tell-requires-2 : tie.Need-tell-requires-2 Inv-loop μ-loop
 tell-requires-2 c κs = search needs
 
--- src/main.rt:32:1
 returns : tie.Need-returns Inv-loop μ-loop
 returns c = tt
 

@@ -1,3 +1,4 @@
+-- `base::bytes::copy` meets its contract: what is left of the part is put behind what was put. Assumes nothing.
 use Prim.Native.Nat.{_-_, _≤_, _+_}
 use mathlib.Core.Path.{_≡_, refl, sym, _∙_}
 use native.Mathlib.Omega.{arith}

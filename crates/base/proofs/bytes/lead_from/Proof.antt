@@ -1,3 +1,4 @@
+-- `base::bytes::lead_from` meets its contract: the lead from k on, a byte a turn. Assumes nothing.
 use Prim.Native.Nat.{_-_, _≤_, _+_}
 use mathlib.Core.Path.{_≡_, refl, sym, _∙_}
 use native.Mathlib.Omega.{arith}

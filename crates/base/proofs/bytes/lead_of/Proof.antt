@@ -1,3 +1,4 @@
+-- `base::bytes::lead_of` meets its contract: four bytes of class 0 a turn (`lead-four`). Assumes nothing.
 use Prim.Native.Nat.{_-_, _≤_, _+_}
 use mathlib.Core.Path.{_≡_, sym, _∙_}
 use native.Mathlib.Omega.{arith}

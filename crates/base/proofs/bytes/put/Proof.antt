@@ -1,3 +1,4 @@
+-- `base::bytes::put` meets its contract: it copies where the part fits. Assumes nothing.
 use mathlib.Core.Path.{sym}
 use native.Mathlib.Omega.{arith}
 use Rattle.base.proofs.Room.{placed-not}

@@ -1,3 +1,4 @@
+-- `base::xset::x_classes` meets its contract: the table is computed. Assumes nothing.
 use mathlib.Core.Path.{refl}
 use Rattle.base.specs.Bytes.{isIn, digit, capital, letter, marks, shared, xset, classes}
 use Rattle.base.proofs.xset.x_classes.Statement.{statement}

@@ -1,13 +1,10 @@
-use Prim.Native.Nat.{ℕ, _+_, _-_, _≤_, _<_}
-use mathlib.Core.Path.{_≡_, refl, sym, _∙_, ap}
+use Prim.Native.Nat.{ℕ, _-_, _≤_, _<_}
+use mathlib.Core.Path.{_≡_}
 use native.Mathlib.Omega.{arith}
-use borrow.Author.Needs.{needs}
 use lib.ListN.{length, getD}
 use Rattle.texts.proofs.LineLaws.{none-more}
 use Rattle.texts.proofs.lines.find.Statement.{statement}
 use Rattle.texts.proofs.lines.find.Tie as tie
-use Rattle.texts.proofs.lines.find.Reads as reads
-use Rattle.texts.proofs.lines.find.Lts as lts
 
 abbrev Inv-loop : tie.InvT-loop
 Inv-loop s i b k₀ k = (i ≤ k) × (k ≤ length s) × ((j : ℕ) → i ≤ j → j < k → getD s j 0 ≡ b → ⊥)
@@ -15,31 +12,24 @@ Inv-loop s i b k₀ k = (i ≤ k) × (k ≤ length s) × ((j : ℕ) → i ≤ j 
 abbrev μ-loop : tie.MeasureT-loop
 μ-loop s i b k₀ k = length s - k
 
--- src/lines.rt:15:5
 loop-holds : tie.Need-loop-holds Inv-loop μ-loop
 loop-holds c = (omega arith, omega arith, λ j l u e. absurd (omega arith))
 
--- src/lines.rt:16:12
 shared-slice-read-if1 : tie.Need-shared-slice-read-if1 Inv-loop μ-loop
 shared-slice-read-if1 c = omega arith
 
--- src/lines.rt:17:13
 returns : tie.Need-returns Inv-loop μ-loop
 returns c = let l = c .before .before .before in record { from = omega arith; within = omega arith; before = l .loop .inv .2; here = λ h. c .if1 .taken }
 
--- src/lines.rt:19:9
 add-k : tie.Need-add-k Inv-loop μ-loop
 add-k c = omega arith
 
--- src/lines.rt:15:5
 loop-less : tie.Need-loop-less Inv-loop μ-loop
 loop-less c = omega arith
 
--- src/lines.rt:15:5
 loop-again : tie.Need-loop-again Inv-loop μ-loop
 loop-again c = let l = c .before .before .before in let a = l .before .args in (omega arith, omega arith, none-more (a .s .now) (a .i) (a .b) (l .loop .k) (l .loop .inv .2) (c .if1 .left))
 
--- src/lines.rt:10:1
 returns-2 : tie.Need-returns-2 Inv-loop μ-loop
 returns-2 c = let l = c .before in record { from = omega arith; within = omega arith; before = l .loop .inv .2; here = λ h. absurd (omega arith) }
 

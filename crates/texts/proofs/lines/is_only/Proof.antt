@@ -1,22 +1,16 @@
 use mathlib.Core.List.{[], _∷_}
-use mathlib.Core.Path.{_≡_, refl, sym, _∙_, ap}
-use native.Mathlib.Omega.{arith}
-use Rattle.texts.proofs.LineLaws.{same-one, same-not}
+use mathlib.Core.Path.{sym}
 use borrow.Author.Needs.{needs}
+use Rattle.texts.proofs.LineLaws.{same-one, same-not}
 use Rattle.texts.proofs.lines.is_only.Statement.{statement}
 use Rattle.texts.proofs.lines.is_only.Tie as tie
-use Rattle.texts.proofs.lines.is_only.Reads as reads
-use Rattle.texts.proofs.lines.is_only.Lts as lts
 
--- src/lines.rt:65:9
 returns : tie.Need-returns
 returns c = sym (same-not (c .before .args .s .now) (_ ∷ []) (c .if1 .taken))
 
--- src/lines.rt:67:5
 shared-slice-read-result : tie.Need-shared-slice-read-result
 shared-slice-read-result c = search needs
 
--- src/lines.rt:61:1
 returns-2 : tie.Need-returns-2
 returns-2 c = sym (same-one (c .before .before .args .s .now) (c .before .before .args .b) (c .before .if1 .left))
 

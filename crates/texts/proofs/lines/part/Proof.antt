@@ -4,10 +4,6 @@ use borrow.Author.Needs.{needs}
 use lib.ListN.{length}
 use Rattle.texts.proofs.lines.part.Statement.{statement}
 use Rattle.texts.proofs.lines.part.Tie as tie
-use Rattle.texts.proofs.lines.part.Reads as reads
-use Rattle.texts.proofs.lines.part.Lts as lts
-use Rattle.texts.proofs.lines.behind.Reads as behind-reads
-use Rattle.texts.proofs.lines.find.Reads as find-reads
 
 abbrev Inv-loop : tie.InvT-loop
 Inv-loop line k at₀ left₀ at left = at ≤ length line
@@ -15,43 +11,33 @@ Inv-loop line k at₀ left₀ at left = at ≤ length line
 abbrev μ-loop : tie.MeasureT-loop
 μ-loop line k at₀ left₀ at left = left
 
--- src/lines.rt:52:5
 loop-holds : tie.Need-loop-holds Inv-loop μ-loop
 loop-holds c = omega arith
 
--- src/lines.rt:53:9
 behind-requires : tie.Need-behind-requires Inv-loop μ-loop
 behind-requires c κs = search needs
 
--- src/lines.rt:54:9
 sub-left : tie.Need-sub-left Inv-loop μ-loop
 sub-left c = omega arith
 
--- src/lines.rt:52:5
 loop-less : tie.Need-loop-less Inv-loop μ-loop
 loop-less c = omega arith
 
--- src/lines.rt:52:5
 loop-again : tie.Need-loop-again Inv-loop μ-loop
 loop-again c = c .behind .ensures .1
 
--- src/lines.rt:56:9
 find-requires : tie.Need-find-requires Inv-loop μ-loop
 find-requires c κs = search needs
 
--- src/lines.rt:57:5
 sub-result : tie.Need-sub-result Inv-loop μ-loop
 sub-result c = omega arith
 
--- src/lines.rt:57:5
 part-result-start : tie.Need-part-result-start Inv-loop μ-loop
 part-result-start c = omega arith
 
--- src/lines.rt:57:5
 part-result-end : tie.Need-part-result-end Inv-loop μ-loop
 part-result-end c = omega arith
 
--- src/lines.rt:49:1
 returns : tie.Need-returns Inv-loop μ-loop
 returns c = tt
 

@@ -1,5 +1,5 @@
-use Prim.Native.Nat.{ℕ, _+_, _-_, _≤_, _<_}
-use mathlib.Core.Path.{_≡_, refl, sym, _∙_, ap}
+use Prim.Native.Nat.{_+_, _-_, _≤_}
+use mathlib.Core.Path.{_≡_, refl}
 use mathlib.Core.Logic.{⊎-elim}
 use native.Mathlib.Omega.{arith}
 use borrow.Author.Needs.{needs}
@@ -8,8 +8,6 @@ use Rattle.texts.specs.Lines.{count}
 use Rattle.texts.proofs.LineLaws.{count-hit, count-miss, count-end}
 use Rattle.texts.proofs.lines.parts.Statement.{statement}
 use Rattle.texts.proofs.lines.parts.Tie as tie
-use Rattle.texts.proofs.lines.parts.Reads as reads
-use Rattle.texts.proofs.lines.parts.Lts as lts
 
 abbrev Inv-loop : tie.InvT-loop
 Inv-loop line n₀ i₀ n i = (i ≤ length line) × (n ≤ i + 1) × (n + count 9 (drop i line) ≡ 1 + count 9 line)
@@ -17,34 +15,27 @@ Inv-loop line n₀ i₀ n i = (i ≤ length line) × (n ≤ i + 1) × (n + count
 abbrev μ-loop : tie.MeasureT-loop
 μ-loop line n₀ i₀ n i = length line - i
 
--- src/lines.rt:30:5
 loop-holds : tie.Need-loop-holds Inv-loop μ-loop
 loop-holds c = (search needs, search needs, refl)
 
--- src/lines.rt:31:12
 shared-slice-read-if1 : tie.Need-shared-slice-read-if1 Inv-loop μ-loop
 shared-slice-read-if1 c = omega arith
 
--- src/lines.rt:32:13
 add-n : tie.Need-add-n Inv-loop μ-loop
 add-n c = omega arith
 
--- src/lines.rt:34:9
 add-i : tie.Need-add-i Inv-loop μ-loop
 add-i c = omega arith
 
--- src/lines.rt:30:5
 loop-less : tie.Need-loop-less Inv-loop μ-loop
 loop-less c = omega arith
 
--- src/lines.rt:30:5
 loop-again : tie.Need-loop-again Inv-loop μ-loop
 loop-again c = let l = c .before .before .before in let s = l .before .args .line .now in let h = c .before .before .loop-test .taken in
     ⊎-elim (λ w. (omega arith, omega arith, omega (arith, count-hit 9 s (l .loop .i) h (w .0 .taken))))
     (λ w. (omega arith, omega arith, omega (arith, count-miss 9 s (l .loop .i) h (w .0 .left))))
     (c .if1 .came)
 
--- src/lines.rt:25:1
 returns : tie.Need-returns Inv-loop μ-loop
 returns c = let l = c .before in omega (arith, count-end 9 (l .before .args .line .now) (l .loop .i) (c .loop-test .left))
 

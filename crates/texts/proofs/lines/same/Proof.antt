@@ -1,14 +1,11 @@
-use Prim.Native.Nat.{ℕ, _+_, _-_, _≤_, _<_}
-use mathlib.Core.Path.{_≡_, refl, sym, _∙_, ap}
+use Prim.Native.Nat.{_-_, _≤_}
+use mathlib.Core.Path.{_≡_, refl, sym, _∙_}
 use native.Mathlib.Omega.{arith}
-use borrow.Author.Needs.{needs}
 use lib.ListN.{length, drop}
 use Rattle.base.specs.Bytes.{same}
 use Rattle.texts.proofs.LineLaws.{same-on, same-stop, same-end, same-not}
 use Rattle.texts.proofs.lines.same.Statement.{statement}
 use Rattle.texts.proofs.lines.same.Tie as tie
-use Rattle.texts.proofs.lines.same.Reads as reads
-use Rattle.texts.proofs.lines.same.Lts as lts
 
 abbrev Inv-loop : tie.InvT-loop
 Inv-loop a b i₀ i = (i ≤ length a) × (length a ≡ length b) × (same a b ≡ same (drop i a) (drop i b))
@@ -16,39 +13,30 @@ Inv-loop a b i₀ i = (i ≤ length a) × (length a ≡ length b) × (same a b �
 abbrev μ-loop : tie.MeasureT-loop
 μ-loop a b i₀ i = length a - i
 
--- src/lines.rt:74:9
 returns : tie.Need-returns Inv-loop μ-loop
 returns c = let a = c .before .args in sym (same-not (a .a .now) (a .b .now) (c .if1 .taken))
 
--- src/lines.rt:77:5
 loop-holds : tie.Need-loop-holds Inv-loop μ-loop
 loop-holds c = (omega arith, c .if1 .left, refl)
 
--- src/lines.rt:78:12
 shared-slice-read-if2 : tie.Need-shared-slice-read-if2 Inv-loop μ-loop
 shared-slice-read-if2 c = omega arith
 
--- src/lines.rt:78:20
 shared-slice-read-if2-2 : tie.Need-shared-slice-read-if2-2 Inv-loop μ-loop
 shared-slice-read-if2-2 c = omega arith
 
--- src/lines.rt:79:13
 returns-2 : tie.Need-returns-2 Inv-loop μ-loop
 returns-2 c = let l = c .before .before .before .before in let a = l .before .before .args in sym (l .loop .inv .2 ∙ same-stop (a .a .now) (a .b .now) (l .loop .i) (omega arith) (omega arith) (c .if2 .taken))
 
--- src/lines.rt:81:9
 add-i : tie.Need-add-i Inv-loop μ-loop
 add-i c = omega arith
 
--- src/lines.rt:77:5
 loop-less : tie.Need-loop-less Inv-loop μ-loop
 loop-less c = omega arith
 
--- src/lines.rt:77:5
 loop-again : tie.Need-loop-again Inv-loop μ-loop
 loop-again c = let l = c .before .before .before .before in let a = l .before .before .args in (omega arith, l .loop .inv .1, l .loop .inv .2 ∙ same-on (a .a .now) (a .b .now) (l .loop .i) (omega arith) (omega arith) (c .if2 .left))
 
--- src/lines.rt:70:1
 returns-3 : tie.Need-returns-3 Inv-loop μ-loop
 returns-3 c = let l = c .before in let a = l .before .before .args in sym (l .loop .inv .2 ∙ same-end (a .a .now) (a .b .now) (l .loop .i) (omega arith) (omega arith))
 

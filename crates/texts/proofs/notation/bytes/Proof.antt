@@ -1,15 +1,10 @@
-use Prim.Native.Nat.{ℕ, _+_, _-_, _≤_, _<_}
-use mathlib.Core.Path.{_≡_, refl, sym, _∙_, ap}
+use Prim.Native.Nat.{_+_, _-_, _≤_}
+use mathlib.Core.Path.{_≡_, refl}
 use native.Mathlib.Omega.{arith}
 use borrow.Author.Needs.{needs}
 use lib.ListN.{length}
 use Rattle.texts.proofs.notation.bytes.Statement.{statement}
 use Rattle.texts.proofs.notation.bytes.Tie as tie
-use Rattle.texts.proofs.notation.bytes.Reads as reads
-use Rattle.texts.proofs.notation.bytes.Lts as lts
-use Rattle.texts.proofs.lines.find.Reads as find-reads
-use Rattle.texts.proofs.lines.is_only.Reads as is-only-reads
-use Rattle.texts.proofs.notation.piece.Reads as piece-reads
 
 abbrev Inv-loop : tie.InvT-loop
 Inv-loop s out₀ n₀ at₀ out n at = (length out ≡ length out₀) × (n ≤ length out) × (at ≤ length s + 1)
@@ -17,71 +12,54 @@ Inv-loop s out₀ n₀ at₀ out n at = (length out ≡ length out₀) × (n ≤
 abbrev μ-loop : tie.MeasureT-loop
 μ-loop s out₀ n₀ at₀ out n at = length s + 1 - at
 
--- src/notation.rt:154:8
 is-only-requires : tie.Need-is-only-requires Inv-loop μ-loop
 is-only-requires c κs = search needs
 
--- src/notation.rt:155:9
 returns : tie.Need-returns Inv-loop μ-loop
 returns c = (omega arith, omega arith)
 
--- src/notation.rt:159:5
 loop-holds : tie.Need-loop-holds Inv-loop μ-loop
 loop-holds c = (refl, omega arith, omega arith)
 
--- src/notation.rt:160:13
 find-requires : tie.Need-find-requires Inv-loop μ-loop
 find-requires c κs = search needs
 
--- src/notation.rt:161:34
 sub-piece : tie.Need-sub-piece Inv-loop μ-loop
 sub-piece c = omega arith
 
--- src/notation.rt:161:34
 part-piece-start : tie.Need-part-piece-start Inv-loop μ-loop
 part-piece-start c = omega arith
 
--- src/notation.rt:161:34
 part-piece-end : tie.Need-part-piece-end Inv-loop μ-loop
 part-piece-end c = omega arith
 
--- src/notation.rt:161:28
 piece-requires : tie.Need-piece-requires Inv-loop μ-loop
 piece-requires c κs = search needs
 
--- src/notation.rt:161:23
 enum-known-m : tie.Need-enum-known-m Inv-loop μ-loop
 enum-known-m c = search needs
 
--- src/notation.rt:162:13
 enum-told : tie.Need-enum-told Inv-loop μ-loop
 enum-told c = search needs
 
--- src/notation.rt:162:13
 same-length : tie.Need-same-length Inv-loop μ-loop
 same-length c = omega arith
 
--- src/notation.rt:162:13
 returns-2 : tie.Need-returns-2 Inv-loop μ-loop
 returns-2 c = tt
 
--- src/notation.rt:165:14
 add-at : tie.Need-add-at Inv-loop μ-loop
 add-at c = omega arith
 
--- src/notation.rt:159:5
 loop-less : tie.Need-loop-less Inv-loop μ-loop
 loop-less c = omega arith
 
--- src/notation.rt:159:5
 loop-again : tie.Need-loop-again Inv-loop μ-loop
 loop-again c = let p = c .before .before .before .before .before in let k = p .piece .kept .1 .0 in let h = rw (c .before .m .given .1) at (p .piece .ensures) in (omega (arith, k), omega (arith, k, h .1), omega arith)
 
--- src/notation.rt:151:1
 same-length-2 : tie.Need-same-length-2 Inv-loop μ-loop
 same-length-2 c = omega arith
 
--- src/notation.rt:151:1
 returns-3 : tie.Need-returns-3 Inv-loop μ-loop
 returns-3 c = (omega arith, omega arith)
 

@@ -1,62 +1,46 @@
-use Rattle.texts.proofs.NotationLaws.{digit-09, digit-AF, digit-af, before-0, behind-9, behind-F, behind-f}
 use mathlib.Core.Path.{sym}
 use native.Mathlib.Omega.{arith}
 use borrow.Author.Needs.{needs}
+use Rattle.texts.proofs.NotationLaws.{digit-09, digit-AF, digit-af, before-0, behind-9, behind-F, behind-f}
 use Rattle.texts.proofs.notation.digit.Statement.{statement}
 use Rattle.texts.proofs.notation.digit.Tie as tie
-use Rattle.texts.proofs.notation.digit.Reads as reads
-use Rattle.texts.proofs.notation.digit.Lts as lts
-use Rattle.texts.proofs.notation.wide.Reads as wide-reads
 
--- src/notation.rt:26:24
 wide-requires : tie.Need-wide-requires
 wide-requires c κs = search needs
 
--- src/notation.rt:26:24
 sub-result : tie.Need-sub-result
 sub-result c = search needs
 
--- src/notation.rt:27:24
 wide-requires-2 : tie.Need-wide-requires-2
 wide-requires-2 c κs = search needs
 
--- src/notation.rt:27:24
 sub-result-2 : tie.Need-sub-result-2
 sub-result-2 c = search needs
 
--- src/notation.rt:28:24
 wide-requires-3 : tie.Need-wide-requires-3
 wide-requires-3 c κs = search needs
 
--- src/notation.rt:28:24
 sub-result-3 : tie.Need-sub-result-3
 sub-result-3 c = search needs
 
--- src/notation.rt:22:1
 returns : tie.Need-returns
 returns c = let b = c .before .before .before .args .b in (omega (arith, digit-09 b (omega arith) (omega arith)), omega arith)
 
--- src/notation.rt:22:1
 returns-2 : tie.Need-returns-2
 returns-2 c = let b = c .before .before .before .before .before .args .b in (omega (arith, digit-AF b (omega arith) (omega arith)), omega arith)
 
--- src/notation.rt:22:1
 returns-3 : tie.Need-returns-3
 returns-3 c = let b = c .before .before .before .before .before .before .before .args .b in (omega (arith, digit-af b (omega arith) (omega arith)), omega arith)
 
--- src/notation.rt:22:1
 returns-4 : tie.Need-returns-4
 returns-4 c = (sym (before-0 (c .before .args .b) (omega arith)), omega arith)
 
--- src/notation.rt:22:1
 returns-5 : tie.Need-returns-5
 returns-5 c = (sym (behind-9 (c .before .before .before .args .b) (omega arith) (omega arith)), omega arith)
 
--- src/notation.rt:22:1
 returns-6 : tie.Need-returns-6
 returns-6 c = (sym (behind-F (c .before .before .before .before .before .args .b) (omega arith) (omega arith)), omega arith)
 
--- src/notation.rt:22:1
 returns-7 : tie.Need-returns-7
 returns-7 c = (sym (behind-f (c .before .before .before .before .before .before .args .b) (omega arith)), omega arith)
 

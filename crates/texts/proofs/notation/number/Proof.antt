@@ -1,16 +1,12 @@
-use mathlib.Core.Path.{_≡_, refl, sym, _∙_, ap, subst}
-use Prim.Native.Nat.{ℕ, _+_, _*_, _-_, _≤_, _<_}
-use mathlib.Core.Path.{_≡_, refl, sym, _∙_, ap}
+use mathlib.Core.Path.{_≡_, sym, _∙_, ap}
+use Prim.Native.Nat.{_+_, _*_, _-_, _≤_}
 use native.Mathlib.Omega.{arith}
 use borrow.Author.Needs.{needs}
 use lib.ListN.{length, drop}
-use Rattle.texts.specs.Notation.{digitOf, numberFrom, numberOf, Inside}
+use Rattle.texts.specs.Notation.{numberFrom, numberOf}
 use Rattle.texts.proofs.NotationLaws.{number-none, number-some, number-not, number-long, number-on, number-end}
 use Rattle.texts.proofs.notation.number.Statement.{statement}
 use Rattle.texts.proofs.notation.number.Tie as tie
-use Rattle.texts.proofs.notation.number.Reads as reads
-use Rattle.texts.proofs.notation.number.Lts as lts
-use Rattle.texts.proofs.notation.digit.Reads as digit-reads
 
 abbrev Inv-loop : tie.InvT-loop
 Inv-loop s n₀ i₀ n i = (i ≤ length s) × (n ≤ 99999) × (numberOf s ≡ numberFrom n (drop i s))
@@ -18,52 +14,40 @@ Inv-loop s n₀ i₀ n i = (i ≤ length s) × (n ≤ 99999) × (numberOf s ≡ 
 abbrev μ-loop : tie.MeasureT-loop
 μ-loop s n₀ i₀ n i = length s - i
 
--- src/notation.rt:38:9
 returns : tie.Need-returns Inv-loop μ-loop
 returns c = (sym (number-none (c .before .before .args .s .now) (c .if1 .taken)), tt)
 
--- src/notation.rt:42:5
 loop-holds : tie.Need-loop-holds Inv-loop μ-loop
 loop-holds c = (omega arith, omega arith, number-some (c .before .before .args .s .now) (c .if1 .left))
 
--- src/notation.rt:43:23
 shared-slice-read-digit : tie.Need-shared-slice-read-digit Inv-loop μ-loop
 shared-slice-read-digit c = omega arith
 
--- src/notation.rt:43:13
 digit-requires : tie.Need-digit-requires Inv-loop μ-loop
 digit-requires c κs = search needs
 
--- src/notation.rt:45:13
 returns-2 : tie.Need-returns-2 Inv-loop μ-loop
 returns-2 c = let l = c .before .before .before .before in let s = l .before .before .before .args .s .now in (sym (l .loop .inv .2 ∙ number-not s (l .loop .i) (l .loop .n) (omega arith) (omega (arith, c .before .digit .ensures .0))), tt)
 
--- src/notation.rt:48:13
 returns-3 : tie.Need-returns-3 Inv-loop μ-loop
 returns-3 c = let l = c .before .before .before .before .before in let s = l .before .before .before .args .s .now in (sym (l .loop .inv .2 ∙ number-long s (l .loop .i) (l .loop .n) (omega arith) (omega (arith, c .before .before .digit .ensures .0)) (c .if3 .taken)), tt)
 
--- src/notation.rt:50:13
 mul-n : tie.Need-mul-n Inv-loop μ-loop
 mul-n c = omega arith
 
--- src/notation.rt:50:13
 add-n : tie.Need-add-n Inv-loop μ-loop
 add-n c = omega arith
 
--- src/notation.rt:51:9
 add-i : tie.Need-add-i Inv-loop μ-loop
 add-i c = omega arith
 
--- src/notation.rt:42:5
 loop-less : tie.Need-loop-less Inv-loop μ-loop
 loop-less c = omega arith
 
--- src/notation.rt:42:5
 loop-again : tie.Need-loop-again Inv-loop μ-loop
 loop-again c = let l = c .before .before .before .before .before in let s = l .before .before .before .args .s .now in let d = c .before .before .digit .ensures .0 in
     (omega arith, omega arith, l .loop .inv .2 ∙ number-on s (l .loop .i) (l .loop .n) (omega arith) (omega (arith, d)) (omega arith) ∙ ap (λ k. numberFrom (l .loop .n * 10 + k) (drop (l .loop .i + 1) s)) (sym d))
 
--- src/notation.rt:34:1
 returns-4 : tie.Need-returns-4 Inv-loop μ-loop
 returns-4 c = let l = c .before in (sym (l .loop .inv .2 ∙ number-end (l .before .before .before .args .s .now) (l .loop .i) (l .loop .n) (omega arith)), (omega arith, omega arith))
 

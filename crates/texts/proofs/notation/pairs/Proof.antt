@@ -1,14 +1,11 @@
-use Rattle.texts.proofs.NotationLaws.{pair-there}
-use Prim.Native.Nat.{ℕ, _+_, _-_, _≤_, _<_}
-use mathlib.Core.Path.{_≡_, refl, sym, _∙_, ap}
+use Prim.Native.Nat.{_-_, _≤_}
+use mathlib.Core.Path.{_≡_, refl}
 use native.Mathlib.Omega.{arith}
 use borrow.Author.Needs.{needs}
 use lib.ListN.{length, length-set}
+use Rattle.texts.proofs.NotationLaws.{pair-there}
 use Rattle.texts.proofs.notation.pairs.Statement.{statement}
 use Rattle.texts.proofs.notation.pairs.Tie as tie
-use Rattle.texts.proofs.notation.pairs.Reads as reads
-use Rattle.texts.proofs.notation.pairs.Lts as lts
-use Rattle.texts.proofs.notation.pair.Reads as pair-reads
 
 abbrev Inv-loop : tie.InvT-loop
 Inv-loop s out₀ n at₀ i₀ out at i = (i ≤ length s) × (length out ≡ length out₀) × (n ≤ at) × (at ≤ length out)
@@ -16,64 +13,49 @@ Inv-loop s out₀ n at₀ i₀ out at i = (i ≤ length s) × (length out ≡ le
 abbrev μ-loop : tie.MeasureT-loop
 μ-loop s out₀ n at₀ i₀ out at i = length s - i
 
--- src/notation.rt:81:9
 returns : tie.Need-returns Inv-loop μ-loop
 returns c = tt
 
--- src/notation.rt:85:5
 loop-holds : tie.Need-loop-holds Inv-loop μ-loop
 loop-holds c = (omega arith, refl, omega arith, omega arith)
 
--- src/notation.rt:86:13
 pair-requires : tie.Need-pair-requires Inv-loop μ-loop
 pair-requires c κs = search needs
 
--- src/notation.rt:88:13
 same-length : tie.Need-same-length Inv-loop μ-loop
 same-length c = omega arith
 
--- src/notation.rt:88:13
 returns-2 : tie.Need-returns-2 Inv-loop μ-loop
 returns-2 c = tt
 
--- src/notation.rt:91:13
 same-length-2 : tie.Need-same-length-2 Inv-loop μ-loop
 same-length-2 c = omega arith
 
--- src/notation.rt:91:13
 returns-3 : tie.Need-returns-3 Inv-loop μ-loop
 returns-3 c = tt
 
--- src/notation.rt:93:19
 cast-out : tie.Need-cast-out Inv-loop μ-loop
 cast-out c = omega arith
 
--- src/notation.rt:93:9
 slice-write-out : tie.Need-slice-write-out Inv-loop μ-loop
 slice-write-out c = omega arith
 
--- src/notation.rt:94:9
 add-at : tie.Need-add-at Inv-loop μ-loop
 add-at c = omega arith
 
--- src/notation.rt:95:9
 add-i : tie.Need-add-i Inv-loop μ-loop
 add-i c = omega arith
 
--- src/notation.rt:85:5
 loop-less : tie.Need-loop-less Inv-loop μ-loop
 loop-less c = omega arith
 
--- src/notation.rt:85:5
 loop-again : tie.Need-loop-again Inv-loop μ-loop
 loop-again c = let l = c .before .before .before .before in let s = l .before .before .before .before .args .s .now in let p = c .before .before .pair .ensures in let h = pair-there s (l .loop .i) (omega arith) (omega arith) in
     (omega arith, simp length-set (l .loop .inv .1), omega arith, simp length-set (omega arith))
 
--- src/notation.rt:76:1
 same-length-3 : tie.Need-same-length-3 Inv-loop μ-loop
 same-length-3 c = omega arith
 
--- src/notation.rt:76:1
 returns-4 : tie.Need-returns-4 Inv-loop μ-loop
 returns-4 c = (omega arith, omega arith)
 

@@ -2,63 +2,43 @@ use native.Mathlib.Omega.{arith}
 use borrow.Author.Needs.{needs}
 use Rattle.texts.proofs.records.differs.Statement.{statement}
 use Rattle.texts.proofs.records.differs.Tie as tie
-use Rattle.texts.proofs.records.differs.Reads as reads
-use Rattle.texts.proofs.records.differs.Lts as lts
-use Rattle.texts.proofs.records.compared.Reads as compared-reads
-use Rattle.texts.proofs.records.form_of.Reads as form-of-reads
-use Rattle.texts.proofs.records.input_room.Reads as input-room-reads
-use Rattle.texts.proofs.records.lent_room.Reads as lent-room-reads
-use Rattle.texts.proofs.report.wrong.Reads as wrong-reads
 
--- src/records.rt:238:21
 input-room-requires : tie.Need-input-room-requires
 input-room-requires c κs = search needs
 
--- src/records.rt:239:22
 lent-room-requires : tie.Need-lent-room-requires
 lent-room-requires c κs = search needs
 
--- src/records.rt:240:30
 slice-aggregate-form-of : tie.Need-slice-aggregate-form-of
 slice-aggregate-form-of c = search needs
 
--- src/records.rt:240:42
 slice-aggregate-form-of-2 : tie.Need-slice-aggregate-form-of-2
 slice-aggregate-form-of-2 c = search needs
 
--- src/records.rt:240:9
 form-of-requires : tie.Need-form-of-requires
 form-of-requires c κs = search needs
 
--- src/records.rt:241:21
 enum-known-form : tie.Need-enum-known-form
 enum-known-form c = search needs
 
--- src/records.rt:242:9
 enum-told : tie.Need-enum-told
 enum-told c = search needs
 
--- src/records.rt:242:9
 wrong-requires : tie.Need-wrong-requires
 wrong-requires c κs = search needs
 
--- src/records.rt:243:9
 returns : tie.Need-returns
 returns c = search needs
 
--- src/records.rt:245:26
 slice-aggregate-compared : tie.Need-slice-aggregate-compared
 slice-aggregate-compared c = search needs
 
--- src/records.rt:245:34
 slice-aggregate-compared-2 : tie.Need-slice-aggregate-compared-2
 slice-aggregate-compared-2 c = search needs
 
--- src/records.rt:245:5
 compared-requires : tie.Need-compared-requires
 compared-requires c κs = let f = c .before .before .before in let g = f .before .before .before .before in let h = rw (f .form .given .1) at (g .form-of .ensures) in (omega (arith, h .0, g .form-of .kept .1 .0), h .1)
 
--- src/records.rt:235:1
 returns-2 : tie.Need-returns-2
 returns-2 c = search needs
 

@@ -1,53 +1,40 @@
 use mathlib.Core.Bool.{false≢true}
 use borrow.Author.Tests.{eqb-true}
-use Rattle.texts.proofs.RecordLaws.{same-done, same-refused}
 use borrow.Author.Needs.{needs}
+use Rattle.texts.proofs.RecordLaws.{same-done, same-refused}
 use Rattle.texts.proofs.records.is_same.Statement.{statement}
 use Rattle.texts.proofs.records.is_same.Tie as tie
-use Rattle.texts.proofs.records.is_same.Reads as reads
-use Rattle.texts.proofs.records.is_same.Lts as lts
 
--- src/records.rt:180:23
 enum-known-a : tie.Need-enum-known-a
 enum-known-a c = search needs
 
--- src/records.rt:181:27
 enum-known-b : tie.Need-enum-known-b
 enum-known-b c = search needs
 
--- src/records.rt:185:18
 enum-told : tie.Need-enum-told
 enum-told c = search needs
 
--- src/records.rt:187:28
 enum-known-a-2 : tie.Need-enum-known-a-2
 enum-known-a-2 c = search needs
 
--- src/records.rt:188:33
 enum-told-2 : tie.Need-enum-told-2
 enum-told-2 c = search needs
 
--- src/records.rt:190:25
 enum-known-b-2 : tie.Need-enum-known-b-2
 enum-known-b-2 c = search needs
 
--- src/records.rt:176:1
 returns : tie.Need-returns
 returns c = same-done _ _ (c .before .before .before .before .a .given .1) (c .before .b .given .1)
 
--- src/records.rt:176:1
 returns-2 : tie.Need-returns-2
 returns-2 c = λ e. absurd (false≢true e)
 
--- src/records.rt:176:1
 returns-3 : tie.Need-returns-3
 returns-3 c = λ e. absurd (false≢true e)
 
--- src/records.rt:176:1
 returns-4 : tie.Need-returns-4
 returns-4 c = same-refused _ _ _ _ (c .before .before .before .before .before .a2 .given .1) (c .before .before .b2 .given .1) (c .if1 .taken)
 
--- src/records.rt:176:1
 returns-5 : tie.Need-returns-5
 returns-5 c = λ e. absurd (c .if1 .left (eqb-true _ _ e))
 

@@ -3,76 +3,55 @@ use lib.ListN.{length-take}
 use borrow.Author.Needs.{needs}
 use Rattle.texts.proofs.records.refusal.Statement.{statement}
 use Rattle.texts.proofs.records.refusal.Tie as tie
-use Rattle.texts.proofs.records.refusal.Reads as reads
-use Rattle.texts.proofs.records.refusal.Lts as lts
-use Rattle.texts.proofs.lines.find.Reads as find-reads
-use Rattle.texts.proofs.notation.number.Reads as number-reads
 
--- src/records.rt:116:9
 find-requires : tie.Need-find-requires
 find-requires c κs = search needs
 
--- src/records.rt:118:9
 returns : tie.Need-returns
 returns c = search needs
 
--- src/records.rt:120:34
 slice-aggregate-number : tie.Need-slice-aggregate-number
 slice-aggregate-number c = simp length-take (omega arith)
 
--- src/records.rt:120:27
 number-requires : tie.Need-number-requires
 number-requires c κs = search needs
 
--- src/records.rt:120:19
 enum-known-rule : tie.Need-enum-known-rule
 enum-known-rule c = search needs
 
--- src/records.rt:121:9
 enum-told : tie.Need-enum-told
 enum-told c = search needs
 
--- src/records.rt:121:9
 returns-2 : tie.Need-returns-2
 returns-2 c = search needs
 
--- src/records.rt:123:38
 add-number : tie.Need-add-number
 add-number c = search needs
 
--- src/records.rt:123:35
 sub-number : tie.Need-sub-number
 sub-number c = search needs
 
--- src/records.rt:123:35
 part-number-start : tie.Need-part-number-start
 part-number-start c = search needs
 
--- src/records.rt:123:35
 part-number-end : tie.Need-part-number-end
 part-number-end c = search needs
 
--- src/records.rt:123:28
 number-requires-2 : tie.Need-number-requires-2
 number-requires-2 c κs = search needs
 
--- src/records.rt:123:19
 enum-known-place : tie.Need-enum-known-place
 enum-known-place c = search needs
 
--- src/records.rt:124:9
 enum-told-2 : tie.Need-enum-told-2
 enum-told-2 c = search needs
 
--- src/records.rt:124:9
 returns-3 : tie.Need-returns-3
 returns-3 c = search needs
 
--- src/records.rt:127:17
 cast-t15 : tie.Need-cast-t15
 cast-t15 c = let p = c .before .before .before .before .before .before in let h = rw (p .rule .given .1) at (p .before .before .number .ensures .1) in omega (arith, h .1)
 
--- src/records.rt:115:1
 returns-4 : tie.Need-returns-4
 returns-4 c = search needs
 

@@ -1,23 +1,17 @@
 use mathlib.Core.Path.{sym}
 use lib.ListN.{length-take}
 use lib.Seq.{take-all}
-use lib.ListN.{length-take}
 use borrow.Author.Needs.{needs}
 use native.Mathlib.Omega.{arith}
 use Rattle.texts.proofs.report.front.Statement.{statement}
 use Rattle.texts.proofs.report.front.Tie as tie
-use Rattle.texts.proofs.report.front.Reads as reads
-use Rattle.texts.proofs.report.front.Lts as lts
 
--- src/report.rt:41:24
 slice-aggregate-result : tie.Need-slice-aggregate-result
 slice-aggregate-result c = simp length-take (omega arith)
 
--- src/report.rt:38:1
 returns : tie.Need-returns
 returns c = search needs
 
--- src/report.rt:38:1
 returns-2 : tie.Need-returns-2
 returns-2 c = sym (take-all (c .before .args .n) (c .before .args .out .now) (c .if1 .left))
 

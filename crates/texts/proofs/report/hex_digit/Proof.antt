@@ -1,25 +1,19 @@
 use native.Mathlib.Omega.{arith}
-use Rattle.texts.proofs.NotationLaws.{digit-09, digit-AF}
 use Prim.Native.Nat.{_+_}
 use borrow.Author.Needs.{needs}
+use Rattle.texts.proofs.NotationLaws.{digit-09, digit-AF}
 use Rattle.texts.proofs.report.hex_digit.Statement.{statement}
 use Rattle.texts.proofs.report.hex_digit.Tie as tie
-use Rattle.texts.proofs.report.hex_digit.Reads as reads
-use Rattle.texts.proofs.report.hex_digit.Lts as lts
 
--- src/report.rt:18:17
 add-result : tie.Need-add-result
 add-result c = search needs
 
--- src/report.rt:18:33
 add-result-2 : tie.Need-add-result-2
 add-result-2 c = search needs
 
--- src/report.rt:14:1
 returns : tie.Need-returns
 returns c = omega (arith, digit-09 (c .before .args .x + 48) (omega arith) (omega arith))
 
--- src/report.rt:14:1
 returns-2 : tie.Need-returns-2
 returns-2 c = omega (arith, digit-AF (c .before .args .x + 55) (omega arith) (omega arith))
 

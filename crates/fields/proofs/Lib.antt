@@ -1,0 +1,10 @@
+pub mod LineLaws
+pub mod TagLaws
+pub mod FrameLaws
+pub mod FieldLaws
+pub mod ByLines
+pub mod PlaceLaws
+pub mod WrittenLaws
+pub mod ScanLaws
+pub mod PackLaws
+pub mod Examples

@@ -1,0 +1,148 @@
+-- Where the fields stand in the bytes of a message: their contents are parts of it, and the list is given by the colons. Assumes nothing.
+use Prim.Native.Nat.{ℕ, zero, suc, _+_, _*_, _-_, _≤_}
+use mathlib.Core.Path.{_≡_, refl, sym, ap, ap₂, _∙_}
+use mathlib.Core.Bool.{Bool, true, false, false≢true}
+use mathlib.Core.List.{List, [], _∷_, _++_, append-assoc}
+use native.Mathlib.Omega.{arith}
+use lib.Dec.{eqb}
+use native.Mathlib.Nat.{zero-add}
+use borrow.Author.Tests.{ne-eqb}
+use lib.ListN.{length, take, drop, length-append}
+use lib.Seq.{take-at, drop-at, drop-drop, getD-drop}
+use Rattle.base.specs.Choice.{pick, all}
+use Rattle.base.specs.Bytes.{byte, capital}
+use Rattle.base.specs.declared.Verdict.the-variants.{Fine}
+use Rattle.fields.specs.Field.{Field, field, closing, laid, lined, linesOf, message, body, lines, fields}
+use Rattle.fields.specs.Frame.{rule2, rule3, rule4}
+use Rattle.fields.specs.Places.{sizeOf, startOf, nextOf, endOf, colonsOf, listed}
+use Rattle.fields.specs.Shapes.{shaped, shapedTag, lineable}
+use Rattle.fields.specs.ByLines.{colonsAt, joined, startAt, firstOr, listedBy}
+use Rattle.base.proofs.Bools.{left, right}
+use Rattle.fields.proofs.TagLaws.{Shape, plain, lettered, shape-of}
+use Rattle.fields.proofs.ByLines.{colons-body}
+use Rattle.fields.proofs.FieldLaws.{message-fields, fields-lineable, fields-shaped, fields-dash, laid-size}
+
+-- ---- fields that stand in a message from o on
+laid-append : (ks ls : List (List ℕ)) → laid (ks ++ ls) ≡ laid ks ++ laid ls
+laid-append [] ls = refl
+laid-append (k ∷ ks) ls = ap (λ (x : List ℕ). k ++ 13 ∷ 10 ∷ x) (laid-append ks ls) ∙ sym (append-assoc k (13 ∷ 10 ∷ laid ks) (laid ls))
+
+pub size-append : (ks ls : List (List ℕ)) → sizeOf (ks ++ ls) ≡ sizeOf ks + sizeOf ls
+size-append [] ls = sym (zero-add (sizeOf ls))
+size-append (k ∷ ks) ls = let h = size-append ks ls in omega arith
+
+pub laid-joined : (l : List ℕ) (ls : List (List ℕ)) → laid (l ∷ ls) ≡ joined (l ∷ ls) ++ 13 ∷ 10 ∷ []
+laid-joined l [] = refl
+laid-joined l (k ∷ ls) = ap (λ (x : List ℕ). l ++ 13 ∷ 10 ∷ x) (laid-joined k ls) ∙ sym (append-assoc l (13 ∷ 10 ∷ joined (k ∷ ls)) (13 ∷ 10 ∷ []))
+
+pub record Standing (m : List ℕ) (o : ℕ) (fs : List Field) : Type 0 where
+  pub bytes : drop o m ≡ laid (linesOf fs) ++ closing
+  pub dash : o + sizeOf (linesOf fs) ≡ length m - 2
+  pub able : all lineable fs ≡ true
+  pub tags : all shapedTag fs ≡ true
+
+-- the content of a line with a tag starts behind the tag
+pub start-at : (m : List ℕ) (o : ℕ) (t r : List ℕ) → shaped t ≡ true → drop o m ≡ 58 ∷ (t ++ 58 ∷ r) → startAt m o ≡ o + 2 + length t
+unfolding startAt capital
+start-at m o t r e d = go (shape-of t e)
+  where
+    third : (u : List ℕ) → t ≡ u → byte m (o + 3) ≡ byte (58 ∷ (u ++ 58 ∷ r)) 3
+    third u q = sym (getD-drop o m 3 0) ∙ ap (λ (x : List ℕ). byte x 3) (d ∙ ap (λ (v : List ℕ). 58 ∷ (v ++ 58 ∷ r)) q)
+
+    go : Shape t → startAt m o ≡ o + 2 + length t
+    go (plain a b q x y) =
+        let n : length t ≡ 2 = ap length q in
+        let z : o + 4 ≡ o + 2 + length t = omega arith in
+        ap (λ (c : ℕ). pick (eqb c 58) (o + 4) (o + 5)) (third (a ∷ b ∷ []) q) ∙ z
+    go (lettered a b c q x y k) =
+        let n : length t ≡ 3 = ap length q in
+        let z : o + 5 ≡ o + 2 + length t = omega arith in
+        let f : eqb c 58 ≡ false = ne-eqb c 58 (λ p. false≢true (ap capital (sym p) ∙ k)) in
+        ap (λ (c : ℕ). pick (eqb c 58) (o + 4) (o + 5)) (third (a ∷ b ∷ c ∷ []) q) ∙ ap (λ (p : Bool). pick p (o + 4) (o + 5)) f ∙ z
+
+module _ (m : List ℕ) (o : ℕ) (t l : List ℕ) (ls : List (List ℕ)) (fs : List Field) (w : Standing m o (field t (l ∷ ls) ∷ fs)) where
+  pub field-bytes : drop o m ≡ 58 ∷ (t ++ 58 ∷ (laid (l ∷ ls) ++ (laid (linesOf fs) ++ closing)))
+  field-bytes = w .bytes ∙ ap (λ (x : List ℕ). ((58 ∷ (t ++ 58 ∷ l)) ++ 13 ∷ 10 ∷ x) ++ closing) (laid-append ls (linesOf fs)) ∙ simp append-assoc
+
+  pub next-standing : Standing m (nextOf o (field t (l ∷ ls))) fs
+  next-standing =
+      let n : ℕ = sizeOf (lined (field t (l ∷ ls))) in
+      let z = size-append (lined (field t (l ∷ ls))) (linesOf fs) in
+      let d = w .dash in
+      record {
+        bytes =
+            sym (drop-drop n o m) ∙ ap (drop n) (w .bytes ∙ ap (λ (x : List ℕ). x ++ closing) (laid-append (lined (field t (l ∷ ls))) (linesOf fs)) ∙ append-assoc (laid (lined (field t (l ∷ ls)))) (laid (linesOf fs)) closing)
+            ∙ drop-at (laid (lined (field t (l ∷ ls)))) (laid (linesOf fs) ++ closing) n (laid-size (lined (field t (l ∷ ls))));
+        dash = omega arith;
+        able = right (lineable (field t (l ∷ ls))) (all lineable fs) (w .able);
+        tags = right (shaped t) (all shapedTag fs) (w .tags);
+      }
+
+  pub content-bytes : drop (startOf o (field t (l ∷ ls))) m ≡ laid (l ∷ ls) ++ (laid (linesOf fs) ++ closing)
+  content-bytes =
+      let r = laid (l ∷ ls) ++ (laid (linesOf fs) ++ closing) in
+      let n : length (58 ∷ (t ++ 58 ∷ [])) ≡ 2 + length t = let h = length-append t (58 ∷ []) in omega arith in
+      let z : o + 2 + length t ≡ o + (2 + length t) = omega arith in
+      ap (λ (k : ℕ). drop k m) z ∙ sym (drop-drop (2 + length t) o m)
+      ∙ ap (drop (2 + length t)) (field-bytes ∙ ap (λ (x : List ℕ). 58 ∷ x) (sym (append-assoc t (58 ∷ []) r)))
+      ∙ drop-at (58 ∷ (t ++ 58 ∷ [])) r (2 + length t) n
+
+  -- from its start to its end a content is its lines, with CR LF between them
+  pub content-part : take (endOf o (field t (l ∷ ls)) - startOf o (field t (l ∷ ls))) (drop (startOf o (field t (l ∷ ls))) m) ≡ joined (l ∷ ls)
+  content-part =
+      let j = joined (l ∷ ls) in
+      let r = laid (linesOf fs) ++ closing in
+      let a = laid-joined l ls in
+      let b = ap length a ∙ length-append j (13 ∷ 10 ∷ []) in
+      let c = laid-size (l ∷ ls) in
+      let h = length-append t (58 ∷ l) in
+      let n : length j ≡ endOf o (field t (l ∷ ls)) - startOf o (field t (l ∷ ls)) = omega arith in
+      ap (take (endOf o (field t (l ∷ ls)) - startOf o (field t (l ∷ ls)))) (content-bytes ∙ ap (λ (x : List ℕ). x ++ r) a ∙ append-assoc j (13 ∷ 10 ∷ []) r)
+      ∙ take-at j (13 ∷ 10 ∷ r) (endOf o (field t (l ∷ ls)) - startOf o (field t (l ∷ ls))) n
+
+listed-standing : (m : List ℕ) (fs : List Field) (o : ℕ) → Standing m o fs → listed o fs ≡ listedBy m (length m - 2) (colonsOf o fs)
+unfolding listed listedBy
+listed-standing m [] o w = refl
+listed-standing m (field t [] ∷ fs) o w = absurd (false≢true (w .able))
+listed-standing m (field t (l ∷ ls) ∷ fs) o w =
+    let v = next-standing m o t l ls fs w in
+    let a = start-at m o t (laid (l ∷ ls) ++ (laid (linesOf fs) ++ closing)) (left (shaped t) (all shapedTag fs) (w .tags)) (field-bytes m o t l ls fs w) in
+    let b = ap (λ (n : ℕ). n - 2) (go fs v) in
+    let h = listed-standing m fs (nextOf o (field t (l ∷ ls))) v in
+    sym (ap₂ (λ (x : ℕ) (xs : List ℕ). o ∷ x ∷ xs) a (ap₂ (λ (x : ℕ) (xs : List ℕ). x ∷ xs) b (sym h)))
+  where
+    go : (gs : List Field) → Standing m (nextOf o (field t (l ∷ ls))) gs → firstOr (length m - 2) (colonsOf (nextOf o (field t (l ∷ ls))) gs) ≡ nextOf o (field t (l ∷ ls))
+    go [] v = let d = v .dash in omega arith
+    go (g ∷ gs) v = refl
+
+-- three numbers a field
+pub listed-length : (o : ℕ) (fs : List Field) → length (listed o fs) ≡ 3 * length fs
+unfolding listed
+listed-length o [] = refl
+listed-length o (f ∷ fs) = let h = listed-length (nextOf o f) fs in omega arith
+
+-- the colons, and the - behind them, stand within the lines
+pub colons-within : (fs : List Field) (o e k : ℕ) → o + sizeOf (linesOf fs) ≡ e → k ≤ length fs → (o ≤ byte (colonsOf o fs ++ e ∷ []) k) × (byte (colonsOf o fs ++ e ∷ []) k ≤ e)
+colons-within [] o e zero z h = (omega arith, omega arith)
+colons-within [] o e (suc k) z h = absurd (omega arith)
+colons-within (f ∷ fs) o e zero z h = (omega arith, omega arith)
+colons-within (f ∷ fs) o e (suc k) z h =
+    let s = size-append (lined f) (linesOf fs) in
+    let w = colons-within fs (nextOf o f) e k (omega arith) (omega arith) in
+    (omega (arith, w .0), w .1)
+
+-- ---- a message that 2, 3 and 4 do not refuse
+module _ (m : List ℕ) (e2 : rule2 m ≡ Fine) (e3 : rule3 m ≡ Fine) (e4 : rule4 m ≡ Fine) where
+  pub fields-stand : Standing m 5 (fields m)
+  unfolding message
+  fields-stand =
+      record {
+        bytes = ap (drop 5) (sym (message-fields m e2 e3 e4));
+        dash = fields-dash m e2 e3 e4;
+        able = fields-lineable m e4;
+        tags = fields-shaped m e4;
+      }
+
+  -- the list is given by the colons
+  pub listed-colons : listed 5 (fields m) ≡ listedBy m (length m - 2) (colonsAt 5 (lines (body m)))
+  listed-colons = listed-standing m (fields m) 5 fields-stand ∙ ap (listedBy m (length m - 2)) (sym (colons-body m e4))

@@ -1,0 +1,46 @@
+-- The fields found line by line, as code goes: where they open, and a walk over them (F4, F5, K2). Assumes nothing.
+use Prim.Native.Nat.{ℕ, _+_, _-_}
+use mathlib.Core.List.{List, [], _∷_, _++_, tail}
+use lib.Dec.{eqb}
+use lib.ListN.{length}
+use Rattle.base.specs.Choice.{pick}
+use Rattle.base.specs.Bytes.{byte, begins}
+use Rattle.fields.specs.Field.{Field, tagOf, upto}
+use Rattle.fields.specs.Places.{nextOf}
+
+-- the colons that open a field, in lines that stand from o on
+unfoldable pub colonsAt : ℕ → List (List ℕ) → List ℕ
+colonsAt o [] = []
+colonsAt o (l ∷ ls) = pick (begins 58 l) (o ∷ colonsAt (o + length l + 2) ls) (colonsAt (o + length l + 2) ls)
+
+-- ---- any walk: a field's step is given the state, its colon and its tag, and what the rest comes to from a state on; the end, the state
+-- and the place behind the last line
+module _ {S R : Type 0} (end : S → ℕ → R) (step : S → ℕ → List ℕ → (S → R) → R) where
+  unfoldable pub byFields : S → ℕ → List Field → R
+  byFields s o [] = end s o
+  byFields s o (f ∷ fs) = step s o (tagOf f) (λ q. byFields q (nextOf o f) fs)
+
+  -- over the lines, past those that open no field
+  unfoldable pub byLines : S → ℕ → List (List ℕ) → R
+  byLines s o [] = end s o
+  byLines s o (l ∷ ls) = pick (begins 58 l) (step s o (upto 58 (tail l)) (λ q. byLines q (o + length l + 2) ls)) (byLines s (o + length l + 2) ls)
+
+-- ---- the bytes of a content: its lines, with CR LF between them
+abbrev pub joined : List (List ℕ) → List ℕ
+joined [] = []
+joined (l ∷ []) = l
+joined (l ∷ k ∷ ls) = l ++ 13 ∷ 10 ∷ joined (k ∷ ls)
+
+-- ---- the list by its colons
+-- the content starts behind the tag's second colon
+unfoldable pub startAt : List ℕ → ℕ → ℕ
+startAt m o = pick (eqb (byte m (o + 3)) 58) (o + 4) (o + 5)
+
+abbrev pub firstOr : ℕ → List ℕ → ℕ
+firstOr e [] = e
+firstOr e (o ∷ os) = o
+
+-- and ends before the CR LF in front of the next colon, or of the - at e
+unfoldable pub listedBy : List ℕ → ℕ → List ℕ → List ℕ
+listedBy m e [] = []
+listedBy m e (o ∷ os) = o ∷ startAt m o ∷ (firstOr e os - 2) ∷ listedBy m e os

@@ -1,0 +1,125 @@
+-- The ways out of the call `frame`, and what a message that is not refused has. Assumes nothing.
+use Prim.Native.Nat.{ℕ, _≤_, _<_}
+use mathlib.Core.Path.{_≡_, refl, sym, ap, ap₂, _∙_}
+use mathlib.Core.Bool.{Bool, true, false}
+use mathlib.Core.List.{List}
+use native.Mathlib.Omega.{arith}
+use lib.ListN.{length}
+use Rattle.base.specs.Choice.{pick}
+use Rattle.base.specs.Rules.{then}
+use Rattle.base.specs.declared.Verdict.{Verdict}
+use Rattle.base.specs.declared.Verdict.the-variants.{Fine, Broken}
+use Rattle.base.proofs.RuleLaws.{then-fine, first-clean}
+use Rattle.base.proofs.CallLaws.{is-long, not-long, within-limit}
+use Rattle.fields.specs.Field.{fields}
+use Rattle.fields.specs.Frame.{limit, framed, rule1, rule2, rule3, rule4}
+use Rattle.fields.proofs.FrameLaws.{rule2-fine, framed-long}
+use Rattle.types.specs.Form.{placesOf}
+use Rattle.types.specs.Walk.{walked}
+use Rattle.types.specs.Tables.{most, padded}
+use Rattle.types.proofs.TableLaws.{few-places, no-places, some-places}
+use Rattle.types.proofs.WalkLaws.{AllRight, walked-accepted}
+use Rattle.types.proofs.WordLaws.{Sound, walked-sound}
+use Rattle.frame.specs.declared.Frame.{Frame}
+use Rattle.frame.specs.Frame.{frameRules, refusal, wordOf, capacity, spotsOf, bare, frameBy, frameOf}
+use Rattle.frame.proofs.PassLaws.{body567, bare-broken}
+
+-- ---- a message that is not refused
+pub record Taken (kind : ℕ) (m : List ℕ) : Type 0 where
+  pub within : length m ≤ limit
+  pub frame-fine : rule2 m ≡ Fine
+  pub bytes-fine : rule3 m ≡ Fine
+  pub lines-fine : rule4 m ≡ Fine
+  pub walk-fine : walked kind m ≡ Fine
+  pub long : 7 ≤ length m
+  pub right : AllRight (placesOf kind) 0 (fields m)
+  pub sound : Sound (placesOf kind) (fields m)
+  pub few : length (fields m) ≤ most
+
+pub taken : (kind : ℕ) (m : List ℕ) → refusal kind m ≡ Fine → Taken kind m
+unfolding refusal rule1
+taken kind m e =
+    let c = first-clean (frameRules kind m) e in
+    let w = c .1 .1 .1 .1 .1 .0 in
+    let s = walked-sound kind m w in
+    record {
+      within = within-limit limit m (c .1 .0);
+      frame-fine = c .1 .1 .0;
+      bytes-fine = c .1 .1 .1 .0;
+      lines-fine = c .1 .1 .1 .1 .0;
+      walk-fine = w;
+      long = framed-long m (rule2-fine m .0 (c .1 .1 .0));
+      right = walked-accepted kind m .0 w .fine;
+      sound = s;
+      few = omega (arith, s .few-fields, few-places kind);
+    }
+
+-- ---- the ways out
+by-frame : (m : List ℕ) (b : Bool) → framed m ≡ b → rule2 m ≡ pick b Fine (Broken 2 0)
+unfolding rule2
+by-frame m b e = ap (λ (t : Bool). pick t Fine (Broken 2 0)) e
+
+pub framed-fine : (m : List ℕ) → framed m ≡ true → rule2 m ≡ Fine
+framed-fine m e = by-frame m true e
+
+module _ (kind : ℕ) (m : List ℕ) where
+  pub is-18 : length (placesOf kind) ≡ 0 → bare (Broken 18 0) ≡ frameOf kind m
+  unfolding frameOf refusal
+  is-18 h = bare-broken kind m (ap (λ (v : Verdict). then v (then (rule1 m) (then (rule2 m) (then (rule3 m) (then (rule4 m) (then (walked kind m) Fine)))))) (no-places kind h))
+
+  module _ (h : length (placesOf kind) ≡ 0 → ⊥) where
+    from-1 : refusal kind m ≡ then (rule1 m) (then (rule2 m) (then (rule3 m) (then (rule4 m) (then (walked kind m) Fine))))
+    unfolding refusal
+    from-1 = ap (λ (v : Verdict). then v (then (rule1 m) (then (rule2 m) (then (rule3 m) (then (rule4 m) (then (walked kind m) Fine)))))) (some-places kind h)
+
+    pub is-1 : limit < length m → bare (Broken 1 limit) ≡ frameOf kind m
+    unfolding frameOf rule1
+    is-1 l = bare-broken kind m (from-1 ∙ ap (λ (v : Verdict). then v (then (rule2 m) (then (rule3 m) (then (rule4 m) (then (walked kind m) Fine))))) (is-long limit m l))
+
+    module _ (l : length m ≤ limit) where
+      from-2 : refusal kind m ≡ then (rule2 m) (then (rule3 m) (then (rule4 m) (then (walked kind m) Fine)))
+      unfolding rule1
+      from-2 = from-1 ∙ ap (λ (v : Verdict). then v (then (rule2 m) (then (rule3 m) (then (rule4 m) (then (walked kind m) Fine))))) (not-long limit m l)
+
+      pub is-2 : framed m ≡ false → bare (Broken 2 0) ≡ frameOf kind m
+      unfolding frameOf
+      is-2 e = bare-broken kind m (from-2 ∙ ap (λ (v : Verdict). then v (then (rule3 m) (then (rule4 m) (then (walked kind m) Fine)))) (by-frame m false e))
+
+      pub is-rest : framed m ≡ true → frameBy (body567 kind m) kind m ≡ frameOf kind m
+      unfolding frameOf
+      is-rest e =
+          sym (ap (λ (v : Verdict). frameBy v kind m)
+          (from-2 ∙ ap₂ (λ (v w : Verdict). then v (then (rule3 m) (then (rule4 m) w))) (by-frame m true e) (then-fine (walked kind m))))
+
+-- ---- what a caller learns of the struct
+-- what is handed on of a message that is not refused
+pub record Found (kind : ℕ) (m spots : List ℕ) (w : ℕ) : Type 0 where
+  pub clean : refusal kind m ≡ Fine
+  pub spots-are : spots ≡ padded capacity 0 (spotsOf m)
+  pub word-is : w ≡ wordOf kind m
+
+by-verdict : (kind : ℕ) (m : List ℕ) (v : Verdict) → frameBy v kind m .verdict ≡ v
+unfolding frameBy
+by-verdict kind m Fine = refl
+by-verdict kind m (Broken n p) = refl
+
+module _ (kind : ℕ) (m : List ℕ) {f : Frame} (e : f ≡ frameOf kind m) where
+  pub verdict-is : f .verdict ≡ refusal kind m
+  unfolding frameOf
+  verdict-is = ap (λ (g : Frame). g .verdict) e ∙ by-verdict kind m (refusal kind m)
+
+  pub refused-by : {v : Verdict} → f .verdict ≡ v → refusal kind m ≡ v
+  refused-by q = sym verdict-is ∙ q
+
+  module _ (q : f .verdict ≡ Fine) where
+    whole : f ≡ frameBy Fine kind m
+    unfolding frameOf
+    whole = e ∙ ap (λ (v : Verdict). frameBy v kind m) (refused-by q)
+
+    pub found : Found kind m (f .spots) (f .present)
+    unfolding frameBy
+    found = record { clean = refused-by q; spots-are = ap (λ (g : Frame). g .spots) whole; word-is = ap (λ (g : Frame). g .present) whole }
+
+    pub fields-counted : f .fields ≡ length (fields m)
+    unfolding frameBy
+    fields-counted = ap (λ (g : Frame). g .fields) whole

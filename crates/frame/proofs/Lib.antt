@@ -1,0 +1,7 @@
+pub mod RunLaws
+pub mod PassLaws
+pub mod LateLaws
+pub mod CallLaws
+pub mod Theorems
+pub mod Examples
+pub mod SmallLaws

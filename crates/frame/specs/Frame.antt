@@ -1,0 +1,45 @@
+-- What the quick pass finds in a message: its refusal by 18 and 1 to 7, or its fields' places and their word (O1, K3). Assumes nothing.
+use Prim.Native.Nat.{ℕ, _-_}
+use mathlib.Core.List.{List, [], _∷_, _++_}
+use lib.ListN.{length}
+use Rattle.base.specs.Rules.{first}
+use Rattle.base.specs.declared.Verdict.{Verdict}
+use Rattle.base.specs.declared.Verdict.the-variants.{Fine, Broken}
+use Rattle.fields.specs.Field.{fields}
+use Rattle.fields.specs.Frame.{rule1, rule2, rule3, rule4}
+use Rattle.fields.specs.Places.{colonsOf}
+use Rattle.types.specs.Form.{placesOf}
+use Rattle.types.specs.Walk.{word, rule18, walked}
+use Rattle.types.specs.Tables.{padded}
+use Rattle.frame.specs.declared.Frame.{Frame}
+
+-- the rules in order: 5, 6 and 7 are one walk
+abbrev pub frameRules : ℕ → List ℕ → List Verdict
+frameRules kind m = rule18 kind ∷ rule1 m ∷ rule2 m ∷ rule3 m ∷ rule4 m ∷ walked kind m ∷ []
+
+unfoldable pub refusal : ℕ → List ℕ → Verdict
+refusal kind m = first (frameRules kind m)
+
+-- a bit for each place present
+abbrev pub wordOf : ℕ → List ℕ → ℕ
+wordOf kind m = word (placesOf kind) (fields m)
+
+-- ---- what the pass finds
+-- as many places as the longest type has, and one for the -
+abbrev pub capacity : ℕ
+capacity = 15
+
+-- the colons of the fields, and behind them the -
+unfoldable pub spotsOf : List ℕ → List ℕ
+spotsOf m = colonsOf 5 (fields m) ++ (length m - 2) ∷ []
+
+-- nothing but the refusal
+abbrev pub bare : Verdict → Frame
+bare v = record { verdict = v; fields = 0; present = 0; spots = padded capacity 0 [] }
+
+unfoldable pub frameBy : Verdict → ℕ → List ℕ → Frame
+frameBy Fine kind m = record { verdict = Fine; fields = length (fields m); present = wordOf kind m; spots = padded capacity 0 (spotsOf m) }
+frameBy (Broken number place) kind m = bare (Broken number place)
+
+unfoldable pub frameOf : ℕ → List ℕ → Frame
+frameOf kind m = frameBy (refusal kind m) kind m

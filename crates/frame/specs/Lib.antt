@@ -1,0 +1,3 @@
+pub mod Frame
+pub mod Rest
+pub mod Cases

@@ -1,0 +1,5 @@
+pub mod WalkLaws
+pub mod WordLaws
+pub mod StepLaws
+pub mod TableLaws
+pub mod Examples

@@ -1,0 +1,256 @@
+-- The loops over lent tables: what one place more does to what is found. Assumes nothing.
+use Prim.Native.Nat.{ℕ, zero, suc, _+_, _≤_, _<_, min}
+use mathlib.Core.Path.{_≡_, refl, sym, ap, ap₂, _∙_}
+use mathlib.Core.Bool.{Bool, true, false, not, _&&_, _||_, or-false, or-self, true≢false}
+use mathlib.Core.List.{List, [], _∷_}
+use native.Mathlib.Omega.{arith}
+use native.Mathlib.Decide.{decLt}
+use native.Mathlib.Numerals.{add-one}
+use native.Mathlib.Nat.{add-zero, zero-add, suc-add, add-suc}
+use lib.Dec.{eqb, leb, ltb}
+use lib.ListN.{length, take, drop, getD, drop-of-length-le}
+use lib.Seq.{drop-cons}
+use borrow.Author.Tests.{eq-eqb, ne-eqb, eqb-true, eqb-false}
+use Rattle.base.specs.Choice.{pick, all}
+use Rattle.base.specs.Bytes.{same}
+use Rattle.types.specs.Form.{Place, may}
+use Rattle.types.specs.Walk.{among, isOf, optional, find, skips, wrong}
+use Rattle.fields.specs.Shapes.{unpack}
+use Rattle.types.specs.Tables.{most, toldAs, unpair, toldAt, toldFrom, told, findFrom, sought, stepIn, missing}
+use Rattle.types.specs.declared.Step.{Step}
+use Rattle.fields.proofs.PackLaws.{same-unpack}
+use Rattle.types.proofs.WalkLaws.{placeAt, Skipped, skips-iff, skips-not, not-skips, wrong-0, wrong-seated}
+
+-- ---- the places that tables stand for
+told-tags : (t : List ℕ) (m : Bool) (ts : List (List ℕ)) → isOf t (toldAs m ts) ≡ among t ts
+told-tags t true ts = refl
+told-tags t false ts = refl
+
+pub told-optional : (m : Bool) (ts : List (List ℕ)) → optional (toldAs m ts) ≡ not m
+told-optional true ts = refl
+told-optional false ts = refl
+
+eqb-swap : (x y : ℕ) → eqb x y ≡ eqb y x
+eqb-swap x y = go (eqb x y) refl
+  where
+    go : (b : Bool) → eqb x y ≡ b → b ≡ eqb y x
+    go true e = sym (eq-eqb y x (sym (eqb-true x y e)))
+    go false e = sym (ne-eqb y x (λ q. eqb-false x y e (sym q)))
+
+met : (tag x : ℕ) → same (unpack tag) (unpack x) ≡ eqb x tag
+met tag x = same-unpack tag x ∙ eqb-swap tag x
+
+-- the number is met where the tag is
+pub has-tag : (tags : List ℕ) (musts : List Bool) (i tag : ℕ) → isOf (unpack tag) (toldAt tags musts i) ≡ (eqb (getD tags (i + i) 0) tag || eqb (getD tags (i + i + 1) 0) tag)
+has-tag tags musts i tag = told-tags (unpack tag) (getD musts i false) (unpair (getD tags (i + i) 0) (getD tags (i + i + 1) 0)) ∙ go (getD tags (i + i) 0) (getD tags (i + i + 1) 0)
+  where
+    by : (x y : ℕ) (b : Bool) → eqb x y ≡ b → among (unpack tag) (pick b (unpack x ∷ []) (unpack x ∷ unpack y ∷ [])) ≡ (eqb x tag || eqb y tag)
+    by x y true e =
+        or-false (same (unpack tag) (unpack x)) ∙ met tag x ∙ sym (or-self (eqb x tag)) ∙ ap (λ (z : ℕ). eqb x tag || eqb z tag) (eqb-true x y e)
+    by x y false e = ap₂ _||_ (met tag x) (or-false (same (unpack tag) (unpack y)) ∙ met tag y)
+
+    go : (x y : ℕ) → among (unpack tag) (unpair x y) ≡ (eqb x tag || eqb y tag)
+    go x y = by x y (eqb x y) refl
+
+pub told-length : (tags : List ℕ) (musts : List Bool) (i n : ℕ) → length (toldFrom tags musts i n) ≡ n
+unfolding toldFrom
+told-length tags musts i zero = refl
+told-length tags musts i (suc n) = ap suc (told-length tags musts (suc i) n)
+
+told-from : (tags : List ℕ) (musts : List Bool) (i n k : ℕ) → k < n → placeAt (toldFrom tags musts i n) k ≡ toldAt tags musts (i + k)
+unfolding toldFrom
+told-from tags musts i zero k h = absurd (omega arith)
+told-from tags musts i (suc n) zero h = ap (toldAt tags musts) (sym (add-zero i))
+told-from tags musts i (suc n) (suc k) h = told-from tags musts (suc i) n k (omega arith) ∙ ap (toldAt tags musts) (suc-add i k ∙ sym (add-suc i k))
+
+pub told-at : (tags : List ℕ) (musts : List Bool) (n k : ℕ) → k < n → placeAt (toldFrom tags musts 0 n) k ≡ toldAt tags musts k
+told-at tags musts n k h = told-from tags musts 0 n k h ∙ ap (toldAt tags musts) (zero-add k)
+
+-- whether a place is mandatory does not change where a tag stands, and the tags not what is skipped
+pub told-find : (tags : List ℕ) (musts : List Bool) (t : List ℕ) (i n : ℕ) → find (toldFrom tags musts i n) t ≡ find (toldFrom tags [] i n) t
+unfolding toldFrom find
+told-find tags musts t i zero = refl
+told-find tags musts t i (suc n) =
+    ap₂ (λ (b : Bool) (k : ℕ). pick b 0 (suc k)) (told-tags t (getD musts i false) (unpair (getD tags (i + i) 0) (getD tags (i + i + 1) 0))) (told-find tags musts t (suc i) n)
+
+free : (tags : List ℕ) (musts : List Bool) (i n p q : ℕ) → all optional (drop p (take q (toldFrom tags musts i n))) ≡ all optional (drop p (take q (toldFrom [] musts i n)))
+unfolding toldFrom
+free tags musts i n p zero = refl
+free tags musts i zero p (suc q) = refl
+free tags musts i (suc n) zero (suc q) =
+    ap₂ _&&_ (told-optional (getD musts i false) _ ∙ sym (told-optional (getD musts i false) _)) (free tags musts (suc i) n zero q)
+free tags musts i (suc n) (suc p) (suc q) = free tags musts (suc i) n p q
+
+pub told-skips : (tags : List ℕ) (musts : List Bool) (n p q : ℕ) → skips (toldFrom tags musts 0 n) p q ≡ skips (toldFrom [] musts 0 n) p q
+told-skips tags musts n p q = ap not (free tags musts 0 n p q)
+
+pub told-wrong : (tags : List ℕ) (musts : List Bool) (n next q : ℕ) → wrong (toldFrom tags musts 0 n) next q ≡ wrong (toldFrom [] musts 0 n) next q
+unfolding wrong
+told-wrong tags musts n next q =
+    ap₂ (λ (k : ℕ) (b : Bool). pick (leb k q) 5 (pick (ltb q next) 6 (pick b 7 0)))
+    (told-length tags musts 0 n ∙ sym (told-length [] musts 0 n)) (told-skips tags musts n next q)
+
+-- ---- a loop to the first place with the tag
+module _ (ps : List Place) (t : List ℕ) (i : ℕ) where
+  pub find-met : i < length ps → isOf t (placeAt ps i) ≡ true → find (drop i ps) t ≡ 0
+  unfolding find
+  find-met h e = rw (drop-cons ps i (may []), e)
+
+  pub find-on : i < length ps → isOf t (placeAt ps i) ≡ false → find (drop i ps) t ≡ suc (find (drop (i + 1) ps) t)
+  unfolding find
+  find-on h e = rw (add-one, drop-cons ps i (may []), e)
+
+  pub find-end : length ps ≤ i → find (drop i ps) t ≡ 0
+  unfolding find
+  find-end h = rw (drop-of-length-le ps h)
+
+-- ---- a loop to the first mandatory place
+module _ (ps : List Place) (i q : ℕ) where
+  pub skips-met : i < q → optional (placeAt ps i) ≡ false → skips ps i q ≡ true
+  skips-met h e = skips-iff ps i q .1 (record { at = i; low = omega arith; high = h; mandatory = e })
+
+  pub skips-on : i < q → optional (placeAt ps i) ≡ true → skips ps i q ≡ skips ps (i + 1) q
+  skips-on h e = go (skips ps (i + 1) q) refl
+    where
+      later : (s : Skipped ps i q) → Dec (i < s .at) → Skipped ps (i + 1) q
+      later s (yes l) = record { at = s .at; low = omega arith; high = s .high; mandatory = s .mandatory }
+      later s (no l) = let z : i ≡ s .at = omega (arith, s .low) in absurd (true≢false (sym e ∙ ap (λ (k : ℕ). optional (placeAt ps k)) z ∙ s .mandatory))
+
+      go : (b : Bool) → skips ps (i + 1) q ≡ b → skips ps i q ≡ b
+      go true f =
+          let s = skips-iff ps (i + 1) q .0 f in
+          skips-iff ps i q .1 (record { at = s .at; low = omega (arith, s .low); high = s .high; mandatory = s .mandatory })
+      go false f = not-skips ps i q (λ s. skips-not ps (i + 1) q f (later s (decLt i (s .at))))
+
+  pub skips-end : q ≤ i → skips ps i q ≡ false
+  skips-end h = not-skips ps i q (λ s. omega (arith, s .low, s .high))
+
+-- ---- a loop from next on to the tag, or to a mandatory place
+pub record Seeking (ps : List Place) (next : ℕ) (t : List ℕ) (q : ℕ) : Type 0 where
+  pub low : next ≤ q
+  pub on : findFrom ps next t ≡ q + find (drop q ps) t
+  pub free-to : skips ps next q ≡ false
+
+pub seek-start : (ps : List Place) (next : ℕ) (t : List ℕ) → Seeking ps next t next
+seek-start ps next t = record { low = omega arith; on = refl; free-to = skips-end ps next next (omega arith) }
+
+module _ (ps : List Place) (next : ℕ) (t : List ℕ) where
+  right-there : (q : ℕ) → findFrom ps next t ≡ q → wrong ps next q ≡ 0 → sought ps next t ≡ q
+  unfolding sought
+  right-there q e w = rw (e, eq-eqb (wrong ps next q) 0 w)
+
+  wrong-there : (wrong ps next (findFrom ps next t) ≡ 0 → ⊥) → sought ps next t ≡ length ps
+  unfolding sought
+  wrong-there w = rw (ne-eqb (wrong ps next (findFrom ps next t)) 0 w)
+
+  module _ (q : ℕ) (s : Seeking ps next t q) where
+    pub seek-on : q < length ps → isOf t (placeAt ps q) ≡ false → optional (placeAt ps q) ≡ true → Seeking ps next t (q + 1)
+    seek-on h e o = record { low = omega (arith, s .low); on = s .on ∙ omega (arith, find-on ps t q h e); free-to = not-skips ps next (q + 1) (λ k. go k (decLt (k .at) q)) }
+      where
+        go : (k : Skipped ps next (q + 1)) → Dec (k .at < q) → ⊥
+        go k (yes l) = skips-not ps next q (s .free-to) (record { at = k .at; low = k .low; high = l; mandatory = k .mandatory })
+        go k (no l) = let z : q ≡ k .at = omega (arith, k .high) in true≢false (sym o ∙ ap (λ (j : ℕ). optional (placeAt ps j)) z ∙ k .mandatory)
+
+    pub seek-met : q < length ps → isOf t (placeAt ps q) ≡ true → sought ps next t ≡ q
+    seek-met h e = right-there q (s .on ∙ ap (λ (k : ℕ). q + k) (find-met ps t q h e) ∙ add-zero q) (wrong-0 ps next q h (s .low) (s .free-to))
+
+    pub seek-stop : q < length ps → isOf t (placeAt ps q) ≡ false → optional (placeAt ps q) ≡ false → sought ps next t ≡ length ps
+    seek-stop h e o =
+        let f = find-on ps t q h e in
+        wrong-there (λ w. wrong-seated ps next (findFrom ps next t) w .free (record { at = q; low = s .low; high = omega (arith, s .on); mandatory = o }))
+
+    pub seek-end : length ps ≤ q → sought ps next t ≡ length ps
+    seek-end h = wrong-there (λ w. omega (arith, wrong-seated ps next (findFrom ps next t) w .within, s .on))
+
+  -- ---- the step of a field
+  pub step-met : (q : ℕ) → q ≡ sought ps next t → q < length ps → record { place = q; wrong = 0 } ≡ stepIn ps next t
+  unfolding stepIn sought
+  step-met q e h = go (eqb (wrong ps next (findFrom ps next t)) 0) refl e
+    where
+      go : (b : Bool) → eqb (wrong ps next (findFrom ps next t)) 0 ≡ b → q ≡ pick b (findFrom ps next t) (length ps)
+          → _≡_ {A = Step} (record { place = q; wrong = 0 }) (pick b (record { place = findFrom ps next t; wrong = 0 }) (record { place = find ps t; wrong = wrong ps next (find ps t) }))
+      go true p e = ap (λ (k : ℕ). record { place = k; wrong = 0 }) e
+      go false p e = absurd (omega arith)
+
+  pub step-else : (q p w : ℕ) → q ≡ sought ps next t → length ps ≤ q → p ≡ find ps t → w ≡ wrong ps next p → record { place = p; wrong = w } ≡ stepIn ps next t
+  unfolding stepIn sought
+  step-else q p w e h f g = go (eqb (wrong ps next (findFrom ps next t)) 0) refl e
+    where
+      go : (b : Bool) → eqb (wrong ps next (findFrom ps next t)) 0 ≡ b → q ≡ pick b (findFrom ps next t) (length ps)
+          → _≡_ {A = Step} (record { place = p; wrong = w }) (pick b (record { place = findFrom ps next t; wrong = 0 }) (record { place = find ps t; wrong = wrong ps next (find ps t) }))
+      go true z e = absurd (omega (arith, wrong-seated ps next (findFrom ps next t) (eqb-true (wrong ps next (findFrom ps next t)) 0 z) .within))
+      go false z e = ap₂ (λ (k n : ℕ). record { place = k; wrong = n }) f (g ∙ ap (wrong ps next) f)
+
+-- ---- the loops over tables of n places
+module _ (tags : List ℕ) (musts : List Bool) (n q : ℕ) (h : q < n) where
+  row : q < length (toldFrom tags musts 0 n)
+  row = omega (arith, told-length tags musts 0 n)
+
+  row-tag : (t : List ℕ) (m : List Bool) {b : Bool} → isOf t (toldAt tags m q) ≡ b → isOf t (placeAt (toldFrom tags musts 0 n) q) ≡ b
+  row-tag t m e =
+      ap (isOf t) (told-at tags musts n q h) ∙ told-tags t (getD musts q false) _ ∙ sym (told-tags t (getD m q false) _) ∙ e
+
+  row-must : {b : Bool} → getD musts q false ≡ b → optional (placeAt (toldFrom tags musts 0 n) q) ≡ not b
+  row-must e = ap optional (told-at tags musts n q h) ∙ told-optional (getD musts q false) _ ∙ ap not e
+
+-- place_in
+pub record Looking (tags : List ℕ) (n : ℕ) (t : List ℕ) (q : ℕ) : Type 0 where
+  pub within : q ≤ n
+  pub rest : find (toldFrom tags [] 0 n) t ≡ q + find (drop q (toldFrom tags [] 0 n)) t
+
+pub look-start : (tags : List ℕ) (n : ℕ) (t : List ℕ) → Looking tags n t 0
+look-start tags n t = record { within = omega arith; rest = sym (zero-add (find (toldFrom tags [] 0 n) t)) }
+
+module _ {tags : List ℕ} {n : ℕ} {t : List ℕ} {q : ℕ} (l : Looking tags n t q) where
+  pub look-on : q < n → isOf t (toldAt tags [] q) ≡ false → Looking tags n t (q + 1)
+  look-on h e =
+      let f = find-on (toldFrom tags [] 0 n) t q (row tags [] n q h) (row-tag tags [] n q h t [] e) in
+      record { within = omega arith; rest = omega (arith, l .rest) }
+
+  pub look-met : q < n → isOf t (toldAt tags [] q) ≡ true → q ≡ find (toldFrom tags [] 0 n) t
+  look-met h e = omega (arith, l .rest, find-met (toldFrom tags [] 0 n) t q (row tags [] n q h) (row-tag tags [] n q h t [] e))
+
+  pub look-end : n ≤ q → n ≡ find (toldFrom tags [] 0 n) t
+  look-end h = omega (arith, l .rest, l .within, find-end (toldFrom tags [] 0 n) t q (omega (arith, told-length tags [] 0 n)))
+
+-- is_skipping
+module _ (musts : List Bool) (n q to : ℕ) (h : q < to) (l : to ≤ n) where
+  pub pass-met : getD musts q false ≡ true → skips (toldFrom [] musts 0 n) q to ≡ true
+  pass-met e = skips-met (toldFrom [] musts 0 n) q to h (row-must [] musts n q (omega arith) e)
+
+  pub pass-on : getD musts q false ≡ false → skips (toldFrom [] musts 0 n) q to ≡ skips (toldFrom [] musts 0 n) (q + 1) to
+  pass-on e = skips-on (toldFrom [] musts 0 n) q to h (row-must [] musts n q (omega arith) e)
+
+-- seek
+module _ (tags : List ℕ) (musts : List Bool) (n next : ℕ) (t : List ℕ) (q : ℕ) (s : Seeking (toldFrom tags musts 0 n) next t q) where
+  pub seeking-on : q < n → isOf t (toldAt tags [] q) ≡ false → getD musts q false ≡ false → Seeking (toldFrom tags musts 0 n) next t (q + 1)
+  seeking-on h e m = seek-on (toldFrom tags musts 0 n) next t q s (row tags musts n q h) (row-tag tags musts n q h t [] e) (row-must tags musts n q h m)
+
+  pub seeking-met : q < n → isOf t (toldAt tags [] q) ≡ true → q ≡ sought (toldFrom tags musts 0 n) next t
+  seeking-met h e = sym (seek-met (toldFrom tags musts 0 n) next t q s (row tags musts n q h) (row-tag tags musts n q h t [] e))
+
+  pub seeking-stop : q < n → isOf t (toldAt tags [] q) ≡ false → getD musts q false ≡ true → n ≡ sought (toldFrom tags musts 0 n) next t
+  seeking-stop h e m =
+      sym (seek-stop (toldFrom tags musts 0 n) next t q s (row tags musts n q h) (row-tag tags musts n q h t [] e) (row-must tags musts n q h m) ∙ told-length tags musts 0 n)
+
+  pub seeking-end : n ≤ q → n ≡ sought (toldFrom tags musts 0 n) next t
+  seeking-end h = sym (seek-end (toldFrom tags musts 0 n) next t q s (omega (arith, told-length tags musts 0 n)) ∙ told-length tags musts 0 n)
+
+-- step_of and is_missing, whose count may be any number
+module _ (tags : List ℕ) (musts : List Bool) (count c : ℕ) (e : c ≡ min count most) where
+  same-places : toldFrom tags musts 0 c ≡ told tags musts count
+  same-places = ap (toldFrom tags musts 0) e
+
+  pub step-found : (next : ℕ) (t : List ℕ) (q : ℕ) → q ≡ sought (toldFrom tags musts 0 c) next t → q < c → record { place = q; wrong = 0 } ≡ stepIn (told tags musts count) next t
+  step-found next t q s h =
+      step-met (toldFrom tags musts 0 c) next t q s (omega (arith, told-length tags musts 0 c)) ∙ ap (λ (ps : List Place). stepIn ps next t) same-places
+
+  pub step-looked : (next : ℕ) (t : List ℕ) (q p w : ℕ) → q ≡ sought (toldFrom tags musts 0 c) next t → c ≤ q → p ≡ find (toldFrom tags [] 0 c) t
+      → w ≡ wrong (toldFrom [] musts 0 c) next p → record { place = p; wrong = w } ≡ stepIn (told tags musts count) next t
+  step-looked next t q p w s h f g =
+      step-else (toldFrom tags musts 0 c) next t q p w s (omega (arith, told-length tags musts 0 c)) (f ∙ sym (told-find tags musts t 0 c)) (g ∙ sym (told-wrong tags musts c next p))
+      ∙ ap (λ (ps : List Place). stepIn ps next t) same-places
+
+pub missing-looked : (musts : List Bool) (count c : ℕ) → c ≡ min count most → (next : ℕ) → skips (toldFrom [] musts 0 c) next c ≡ missing musts count next
+unfolding missing
+missing-looked musts count c e next = ap (λ (n : ℕ). skips (toldFrom [] musts 0 n) next n) e
