@@ -1,15 +1,26 @@
 // The exports for C and Rust. A slice passes as a pointer and a length.
 ghost use mathlib.Core.Path.{_≡_};
-ghost use Prim.Native.Nat.{_≤_};
+ghost use Prim.Native.Nat.{_≤_, _<_};
 ghost use Rattle.alphabets.proofs.Outcomes.{Small};
-ghost use Rattle.desk.specs.Answer.{word, isOn};
-ghost use Rattle.desk.specs.Exports.{ReadWord, WrittenWord};
+ghost use Rattle.listing.specs.Lists.{spanOf};
+ghost use Rattle.desk.specs.Answer.{refusedWord, word, checkedWord, spanWord, isOn};
+ghost use Rattle.desk.specs.Exports.{ReadWord, WrittenWord, ListedWord};
+ghost use Rattle.desk.specs.Sizes.{SmallCheck, SmallSpan};
 use base::Outcome;
+use listing::Checked;
+use listing::Span;
 
 fn is_on(sign: u32) -> bool
     ensures { λ r. ⌜ r ≡ isOn sign ⌝ }
 {
     sign != 0
+}
+
+fn refused(number: u32, place: usize) -> u64
+    requires { ⌜ (number ≤ 18) × (place ≤ 10000) ⌝ }
+    ensures { λ r. ⌜ r ≡ refusedWord number place ⌝ }
+{
+    9223372036854775808 + number as u64 * 4294967296 + place as u64
 }
 
 // The answer as one number.
@@ -19,9 +30,27 @@ fn word_of(o: Outcome) -> u64
 {
     match o {
         Outcome::Done(n) => n as u64,
-        Outcome::Refused { number, place } => {
-            9223372036854775808 + number as u64 * 4294967296 + place as u64
-        }
+        Outcome::Refused { number, place } => refused(number, place),
+    }
+}
+
+fn checked_of(c: Checked) -> u64
+    requires { ⌜ SmallCheck c ⌝ }
+    ensures { λ r. ⌜ r ≡ checkedWord c ⌝ }
+{
+    match c {
+        Checked::Accepted { fields, present } => fields as u64 + present as u64 * 65536,
+        Checked::Refused { number, place } => refused(number, place),
+    }
+}
+
+fn span_of(s: Span) -> u64
+    requires { ⌜ SmallSpan s ⌝ }
+    ensures { λ r. ⌜ r ≡ spanWord s ⌝ }
+{
+    match s {
+        Span::Part { start, end } => start as u64 * 4294967296 + (end - start) as u64,
+        Span::Nothing => 0,
     }
 }
 
@@ -39,4 +68,21 @@ pub extern "C" fn desk_write_text(sign: u32, text: &[u8], out: &mut [u8]) -> u64
 {
     let o = alphabets::write_text(is_on(sign), text, out);
     word_of(o)
+}
+
+// 18, 1 to 7 and 17: the list of the fields. The check of contents takes its place when it comes.
+#[no_mangle]
+pub extern "C" fn desk_frame(kind: u32, message: &[u8], list: &mut [u32]) -> u64
+    ensures { λ r. ⌜ ListedWord kind (now (message .entry)) (now (list .entry)) r (now (list .exit)) ⌝ }
+{
+    let c = listing::calls::list_fields(kind, message, list);
+    checked_of(c)
+}
+
+#[no_mangle]
+pub extern "C" fn desk_span(kind: u32, message: &[u8], place: u32) -> u64
+    ensures { λ r. ⌜ r ≡ spanWord (spanOf kind (now (message .entry)) place) ⌝ }
+{
+    let s = listing::calls::span(kind, message, place as usize);
+    span_of(s)
 }

@@ -33,9 +33,9 @@ pub(crate) fn late_field(t: &[u8; 256], m: &[u8], i: usize, wrong: u32, place: u
     requires { ⌜ (now t ≡ classes) × Tail (now m) i ⌝ }
     ensures { λ r. ⌜ r ≡ after4 (now (m .entry)) i (Verdict.Broken wrong place) ⌝ }
 {
-    let e = m.len() - 2;
+    let dash = m.len() - 2;
     let mut at = i;
-    while at < e {
+    while at < dash {
         let end = end_of(t, m, at);
         if !is_ended(m, end) {
             return Verdict::Broken {

@@ -12,18 +12,18 @@ use Rattle.frame.proofs.late.late_field.Statement.{statement}
 use Rattle.frame.proofs.late.late_field.Tie as tie
 
 abbrev Inv-loop : tie.InvT-loop
-Inv-loop t m i wrong place e at₀ at = For4 m i at
+Inv-loop t m i wrong place dash at₀ at = For4 m i at
 
 abbrev μ-loop : tie.MeasureT-loop
-μ-loop t m i wrong place e at₀ at = length m - at
+μ-loop t m i wrong place dash at₀ at = length m - at
 
 -- the line that a turn passes
 line : (c : tie.Else1 Inv-loop μ-loop) → let k = c .before .before in let l = k .before .before in let m = l .before .before .args .m .now in
     Line m (l .loop .at) (k .end-of .result) (take (k .end-of .result - l .loop .at) (drop (l .loop .at) m))
 line c = c .before .before .end-of .ensures .line (sym (c .before .is-ended .ensures) ∙ not-false _ (c .if1 .left))
 
-sub-e : tie.Need-sub-e Inv-loop μ-loop
-sub-e c = let t = c .before .pre .1 in omega (arith, t .within)
+sub-dash : tie.Need-sub-dash Inv-loop μ-loop
+sub-dash c = let t = c .before .pre .1 in omega (arith, t .within)
 
 loop-holds : tie.Need-loop-holds Inv-loop μ-loop
 loop-holds c = for4-begin (c .before .pre .1)
@@ -90,7 +90,7 @@ late-field-spec =
     (tie.spec
     Inv-loop
     μ-loop
-    sub-e
+    sub-dash
     loop-holds
     end-of-requires
     is-ended-requires

@@ -1,0 +1,6 @@
+pub mod SpotLaws
+pub mod FillLaws
+pub mod ListLaws
+pub mod SpanLaws
+pub mod Theorems
+pub mod Examples
