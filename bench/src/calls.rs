@@ -2,6 +2,7 @@
 //!
 //! An answer below 2^63 is accepted; else it is 2^63 + number * 2^32 + place.
 
+pub mod frame;
 pub mod text;
 
 use crate::plain::Refusal;

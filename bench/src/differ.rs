@@ -1,8 +1,10 @@
 //! Both builds on the same generated inputs: answers and lent units must agree.
 
+pub mod frames;
 pub mod texts;
 
 use crate::plain::Refusal;
+use crate::random::Random;
 use std::collections::BTreeMap;
 use std::process::exit;
 
@@ -48,51 +50,73 @@ fn hex(bytes: &[u8]) -> String {
     bytes.iter().map(|b| format!("{b:02x}")).collect()
 }
 
-/// The pattern that lent bytes hold before a call.
-pub fn pattern(place: usize) -> u8 {
-    (place as u8).wrapping_mul(37) ^ 0xA5
+/// A unit that can be lent: a byte or a 32-bit number.
+pub trait Unit: Copy + PartialEq {
+    /// What stands at a place before the call.
+    fn pattern(place: usize) -> Self;
+}
+
+impl Unit for u8 {
+    fn pattern(place: usize) -> u8 {
+        (place as u8).wrapping_mul(37) ^ 0xA5
+    }
+}
+
+impl Unit for u32 {
+    fn pattern(place: usize) -> u32 {
+        (place as u32).wrapping_mul(0x9E37_79B1) ^ 0xA5A5_A5A5
+    }
 }
 
 /// Units behind the lent room that no call may touch.
-pub const GUARD: usize = 16;
+const GUARD: usize = 16;
 
-/// Lent bytes for one call, with a guard behind.
-pub struct Lent {
-    bytes: Vec<u8>,
+/// Lent room for one call, with a guard behind.
+pub struct Lent<T> {
+    units: Vec<T>,
     room: usize,
 }
 
-impl Lent {
-    pub fn new() -> Lent {
+impl<T: Unit> Lent<T> {
+    pub fn new() -> Lent<T> {
         Lent {
-            bytes: Vec::new(),
+            units: Vec::new(),
             room: 0,
         }
     }
 
-    /// Makes `room` bytes ready, filled with the pattern.
-    pub fn prepare(&mut self, room: usize) -> &mut [u8] {
-        self.bytes.clear();
-        self.bytes.extend((0..room + GUARD).map(pattern));
+    /// Makes `room` units ready, filled with the pattern.
+    pub fn prepare(&mut self, room: usize) -> &mut [T] {
+        self.units.clear();
+        self.units.extend((0..room + GUARD).map(T::pattern));
         self.room = room;
-        &mut self.bytes[..room]
+        &mut self.units[..room]
     }
 
-    /// The first `n` bytes.
-    pub fn written(&self, n: usize) -> &[u8] {
-        &self.bytes[..n]
+    /// The first `n` units.
+    pub fn written(&self, n: usize) -> &[T] {
+        &self.units[..n]
     }
 
-    /// Whether all from byte `n` on is still the pattern, the guard too.
+    /// Whether all from unit `n` on is still the pattern, the guard too.
     pub fn kept_from(&self, n: usize) -> bool {
-        n <= self.room
-            && self.bytes[n..]
-                .iter()
-                .enumerate()
-                .all(|(i, &b)| b == pattern(n + i))
+        let kept = |(i, &unit): (usize, &T)| unit == T::pattern(n + i);
+        n <= self.room && self.units[n..].iter().enumerate().all(kept)
     }
 
-    pub fn same_as(&self, other: &Lent) -> bool {
-        self.bytes == other.bytes
+    pub fn same_as(&self, other: &Lent<T>) -> bool {
+        self.units == other.units
+    }
+}
+
+/// A room that is too small, exact or larger.
+pub fn some_room(random: &mut Random, needed: usize) -> usize {
+    match random.below(6) {
+        0 => needed,
+        1 => needed.saturating_sub(1),
+        2 => 0,
+        3 => random.below(needed + 1),
+        4 => needed + 1,
+        _ => needed + random.between(2, 40),
     }
 }

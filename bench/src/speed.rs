@@ -1,5 +1,6 @@
 //! Both builds timed side by side.
 
+pub mod frames;
 pub mod texts;
 
 use std::hint::black_box;
@@ -27,14 +28,14 @@ pub fn side_by_side<R: ?Sized, A, B>(
     }
     let [proved, plain] = best;
     println!(
-        "{name:<48} {proved:>10.1} {plain:>10.1} {:>7.2}",
+        "{name:<56} {proved:>10.1} {plain:>10.1} {:>7.2}",
         proved / plain
     );
 }
 
 pub fn heading(what: &str) {
     println!(
-        "{what:<48} {:>10} {:>10} {:>7}",
+        "{what:<56} {:>10} {:>10} {:>7}",
         "proved ns", "plain ns", "ratio"
     );
 }

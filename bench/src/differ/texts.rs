@@ -1,9 +1,10 @@
 //! Texts alone: reading and writing by both builds, and round trips.
 
-use super::{stop, Lent, Seen};
+use super::{some_room, stop, Lent, Seen};
 use crate::calls::text as proved;
 use crate::plain::{text as plain, Refusal};
 use crate::random::Random;
+use crate::signs::{closed_bank_signs, LATIN, NEAR, READABLE, RUSSIAN, SHARED};
 
 type Call = fn(bool, &[u8], &mut [u8]) -> Result<usize, Refusal>;
 
@@ -48,8 +49,8 @@ pub fn run(count: usize, seed: u64) {
 struct Bench {
     random: Random,
     seen: Seen,
-    proved_room: Lent,
-    plain_room: Lent,
+    proved_room: Lent<u8>,
+    plain_room: Lent<u8>,
 }
 
 impl Bench {
@@ -82,7 +83,7 @@ impl Bench {
         self.seen.note(pair.name, &answer);
         let needed = answer.ok()?;
         let written = self.proved_room.written(needed).to_vec();
-        let room = self.room(needed);
+        let room = some_room(&mut self.random, needed);
         let answer = self.compare(pair, sign, text, room);
         self.seen.note(pair.name, &answer);
         let expected = if room < needed {
@@ -97,18 +98,6 @@ impl Bench {
             stop(&format!("{} with room {room}: {answer:?}", pair.name), text);
         }
         Some(written)
-    }
-
-    /// A room that is too small, exact or larger.
-    fn room(&mut self, needed: usize) -> usize {
-        match self.random.below(6) {
-            0 => needed,
-            1 => needed.saturating_sub(1),
-            2 => 0,
-            3 => self.random.below(needed + 1),
-            4 => needed + 1,
-            _ => needed + self.random.between(2, 40),
-        }
     }
 
     /// Both builds on one input and one size of room.
@@ -146,15 +135,6 @@ impl Bench {
 
 // Generated texts.
 
-const RUSSIAN: &[u8] = b"\xA8\xB9\xC0\xC1\xC2\xC3\xC4\xC5\xC6\xC7\xC8\xC9\xCA\xCB\xCC\xCD\xCE\xCF\
-\xD0\xD1\xD2\xD3\xD4\xD5\xD6\xD7\xD8\xD9\xDA\xDB\xDC\xDD\xDE\xDF";
-const LATIN: &[u8] = b"ABCDEFGHIJKLMNOPQRSTUVWXYZabcdefghijklmnopqrstuvwxyz";
-const SHARED: &[u8] = b"0123456789 /-?:().,+";
-/// The letters that have a reading on the Russian side.
-const READABLE: &[u8] = b"ABVGDEoJZIiKLMNOPRSTUFHCcQqxYXeuan";
-/// What stands close to the lawful bytes without being one of them.
-const NEAR: &[u8] = b"\x00\t\n\r!\"*;<=>@[`{|}~\x7F\xA7\xA9\xB8\xBA\xBF\xE0\xFFWb'";
-
 impl Bench {
     /// First the empty text and every single byte, then all sorts.
     fn text(&mut self, number: usize) -> Vec<u8> {
@@ -172,7 +152,7 @@ impl Bench {
             1 | 2 => self.runs(&[RUSSIAN, LATIN, SHARED], length),
             3 => self.runs(&[LATIN, SHARED], length),
             4 => self.runs(&[READABLE, SHARED, b"'"], length),
-            _ => self.bank_text(length),
+            _ => closed_bank_signs(&mut self.random, length),
         };
         if self.random.once_in(4) {
             self.damage(&mut text);
@@ -205,30 +185,6 @@ impl Bench {
             }
         }
         text.truncate(length);
-        text
-    }
-
-    /// A bank text that has a reading: sides in turn, the Russian one last.
-    fn bank_text(&mut self, length: usize) -> Vec<u8> {
-        let mut text = Vec::with_capacity(length);
-        let mut sides: [&[&[u8]]; 2] = [&[READABLE, SHARED], &[LATIN, SHARED]];
-        let rarely = *self.random.pick(&[2, 5, 30]);
-        while text.len() < length {
-            if self.random.once_in(rarely) {
-                text.push(b'\'');
-                sides.swap(0, 1);
-            } else {
-                let kind = *self.random.pick(sides[0]);
-                text.push(*self.random.pick(kind));
-            }
-        }
-        if text.iter().filter(|&&b| b == b'\'').count() % 2 == 1 {
-            // Closed within the length: the last byte gives way.
-            match text.last() {
-                Some(b'\'') => *text.last_mut().unwrap() = b' ',
-                _ => *text.last_mut().unwrap() = b'\'',
-            }
-        }
         text
     }
 

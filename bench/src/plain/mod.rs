@@ -1,6 +1,8 @@
 //! The plain build: the same calls as the archive, written from the rules alone.
 
+pub mod frame;
 pub mod text;
+pub mod types;
 
 /// Why a call was refused: the number a clerk sees, and the place it speaks of.
 #[derive(Clone, Copy, Debug, PartialEq, Eq)]

@@ -55,13 +55,13 @@ unfolding partAt
 part-small ps place o b [] a h l = tt
 part-small ps place o b (field t [] ∷ fs) a h l = absurd (false≢true a)
 part-small ps place o b (field t (x ∷ xs) ∷ fs) a h l =
-    go (eqb (find ps t) place) (part-small ps place (nextOf o f) b fs (right (lineable f) (all lineable fs) a) (omega arith) l)
+    go (eqb (find ps t) place) (part-small ps place (nextOf o (field t (x ∷ xs))) b fs (right (lineable (field t (x ∷ xs))) (all lineable fs) a) (omega (arith, sizes, size-append xs (linesOf fs))) l)
   where
-    f : Field
-    f = field t (x ∷ xs)
+    sizes : nextOf o (field t (x ∷ xs)) ≡ o + (suc (length (t ++ 58 ∷ x)) + 2 + sizeOf xs)
+    sizes = refl
 
-    go : (q : Bool) → SmallSpan (partAt ps place (nextOf o f) fs) → SmallSpan (pick q (Part (startOf o f) (endOf o f)) (partAt ps place (nextOf o f) fs))
-    go true s = (omega arith, omega arith)
+    go : (q : Bool) → SmallSpan (partAt ps place (nextOf o (field t (x ∷ xs))) fs) → SmallSpan (pick q (Part (startOf o (field t (x ∷ xs))) (endOf o (field t (x ∷ xs)))) (partAt ps place (nextOf o (field t (x ∷ xs))) fs))
+    go true s = (omega (arith, sizes, length-append t (58 ∷ x)), omega (arith, sizes, size-append xs (linesOf fs)))
     go false s = s
 
 pub span-small : (kind : ℕ) (m : List ℕ) (place : ℕ) → SmallSpan (spanOf kind m place)

@@ -10,8 +10,9 @@ use borrow.Author.Tests.{ne-eqb}
 use Rattle.base.specs.declared.Outcome.{Outcome}
 use Rattle.base.specs.declared.Outcome.the-variants.{Done, Refused}
 use Rattle.alphabets.proofs.Outcomes.{Small, read-one, write-one, read-small, write-small}
-use Rattle.desk.specs.Answer.{word, isOn}
-use Rattle.desk.specs.Exports.{ReadWord, WrittenWord}
+use Rattle.listing.proofs.Theorems.{lists-one}
+use Rattle.desk.specs.Answer.{word, checkedWord, isOn}
+use Rattle.desk.specs.Exports.{ReadWord, WrittenWord, ListedWord}
 
 pub on-is : (sign : ℕ) → not (eqb sign 0) ≡ isOn sign
 on-is zero = refl
@@ -50,9 +51,17 @@ write-word-one sign text out r q a b m n =
     let e = write-one (isOn sign) text out (m .answer) (n .answer) a b (m .call) (n .call) in
     (m .value ∙ ap word (e .0) ∙ sym (n .value), e .1)
 
+pub list-word-one : (kind : ℕ) (m list : List ℕ) (r q : ℕ) (a b : List ℕ) → ListedWord kind m list r a → ListedWord kind m list q b → (r ≡ q) × (a ≡ b)
+list-word-one kind m list r q a b x y =
+    let e = lists-one (x .call) (y .call) in
+    (x .value ∙ ap checkedWord (e .0) ∙ sym (y .value), e .1)
+
 -- number and place fit
 pub read-fits : (sign : ℕ) (bank out : List ℕ) (r : ℕ) (a : List ℕ) (m : ReadWord sign bank out r a) → Small (m .answer)
 read-fits sign bank out r a m = read-small (isOn sign) bank out (m .answer) a (m .call)
 
 pub write-fits : (sign : ℕ) (text out : List ℕ) (r : ℕ) (a : List ℕ) (m : WrittenWord sign text out r a) → Small (m .answer)
 write-fits sign text out r a m = write-small (isOn sign) text out (m .answer) a (m .call)
+
+pub small-refused : (k p : ℕ) → Small (Refused k p) → (k ≤ 18) × (p ≤ 10000)
+small-refused k p s = let a = s .0 in (omega arith, s .1)

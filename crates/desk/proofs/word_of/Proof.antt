@@ -1,48 +1,33 @@
-use Prim.Native.Nat.{_≤_}
-use mathlib.Core.Path.{subst, sym, ap}
-use native.Mathlib.Omega.{arith}
+use mathlib.Core.Path.{subst, sym, ap, _∙_}
 use Rattle.alphabets.proofs.Outcomes.{Small}
 use Rattle.desk.specs.Answer.{word}
+use Rattle.desk.proofs.Words.{small-refused}
 use borrow.Author.Needs.{needs}
 use Rattle.desk.proofs.word_of.Statement.{statement}
 use Rattle.desk.proofs.word_of.Tie as tie
+use Rattle.desk.proofs.word_of.Reads as reads
+use Rattle.desk.proofs.word_of.Lts as lts
+use Rattle.desk.proofs.refused.Reads as refused-reads
 
-small : (c : tie.After-known-told2) → (c .before .o2 .given .0 .0 ≤ 17) × (c .before .o2 .given .0 .1 .0 ≤ 10000)
-small c = subst Small (c .before .o2 .given .1) (c .before .before .before .pre)
-
+-- src/lib.rt:32:23
 enum-known-o : tie.Need-enum-known-o
 enum-known-o c = search needs
 
+-- src/lib.rt:33:28
 enum-known-o-2 : tie.Need-enum-known-o-2
 enum-known-o-2 c = search needs
 
-cast-result : tie.Need-cast-result
-cast-result c = search needs
+-- src/lib.rt:33:47
+refused-requires : tie.Need-refused-requires
+refused-requires c κs = small-refused _ _ (subst Small (c .before .o2 .given .1) (c .before .before .before .pre))
 
-mul-result : tie.Need-mul-result
-mul-result c = search needs
-
-add-result : tie.Need-add-result
-add-result c = omega (arith, small c .0, small c .1)
-
-add-result-2 : tie.Need-add-result-2
-add-result-2 c = omega (arith, small c .0, small c .1)
-
+-- src/lib.rt:27:1
 returns : tie.Need-returns
 returns c = search needs
 
+-- src/lib.rt:27:1
 returns-2 : tie.Need-returns-2
-returns-2 c = sym (ap word (c .before .o2 .given .1))
+returns-2 c = c .refused .ensures ∙ sym (ap word (c .before .before .o2 .given .1))
 
 pub word-of-spec : {M : Type 1} → statement M
-word-of-spec =
-    tie.close
-    (tie.spec
-    enum-known-o
-    enum-known-o-2
-    cast-result
-    mul-result
-    add-result
-    add-result-2
-    returns
-    returns-2)
+word-of-spec = tie.close (tie.spec enum-known-o enum-known-o-2 refused-requires returns returns-2)
