@@ -1,0 +1,5 @@
+pub mod Placed
+pub mod StartLaws
+pub mod FieldRules
+pub mod ContentLaws
+pub mod Examples

@@ -1,0 +1,11 @@
+pub mod JudgedLaws
+pub mod ValueLaws
+pub mod RuleLaws
+pub mod StepLaws
+pub mod LineLaws
+pub mod TextLaws
+pub mod DayLaws
+pub mod MoneyLaws
+pub mod PartLaws
+pub mod FaultLaws
+pub mod Examples

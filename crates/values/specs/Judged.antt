@@ -1,0 +1,110 @@
+-- The rules 9 to 13: each is a test of a message's values, and is broken at the first value that fails it (N9-N13). Assumes nothing.
+use Prim.Native.Nat.{ℕ}
+use mathlib.Core.Bool.{Bool, false, not, _&&_, _||_}
+use mathlib.Core.List.{List, [], _∷_}
+use Rattle.base.specs.Choice.{pick}
+use Rattle.base.specs.Bytes.{same}
+use Rattle.base.specs.Quoted.{bytes}
+use Rattle.base.specs.declared.Verdict.{Verdict}
+use Rattle.base.specs.declared.Verdict.the-variants.{Fine, Broken}
+use Rattle.fields.specs.Field.{Field}
+use Rattle.types.specs.Walk.{among}
+use Rattle.values.specs.Day.{realDay}
+use Rattle.values.specs.Values.{Kind, tag, date, money, party, tax, Value, placeOf, kindOf, withKpp, valuesIn}
+
+-- the first value that fails
+unfoldable pub firstBad : ℕ → (Kind → Bool) → List Value → Verdict
+firstBad number bad [] = Fine
+firstBad number bad (v ∷ vs) = pick (bad (kindOf v)) (Broken number (placeOf v)) (firstBad number bad vs)
+
+-- some value passes
+abbrev pub has : (Kind → Bool) → List Value → Bool
+has t [] = false
+has t (v ∷ vs) = t (kindOf v) || has t vs
+
+-- ---- tests of a value
+-- 9: a date that is no day
+abbrev pub noDay : Kind → Bool
+noDay (date s) = not (realDay s)
+noDay (tag t) = false
+noDay (money c a) = false
+noDay (party b a) = false
+noDay (tax t l) = false
+
+-- 10: a currency that is not the rouble
+abbrev pub foreign : Kind → Bool
+foreign (money c a) = not (same c (bytes "RUB"))
+foreign (tag t) = false
+foreign (date s) = false
+foreign (party b a) = false
+foreign (tax t l) = false
+
+-- 12: a BIK and an account whose last three digits differ
+abbrev pub apart : Kind → Bool
+apart (party b a) = not (same b a)
+apart (tag t) = false
+apart (date s) = false
+apart (money c a) = false
+apart (tax t l) = false
+
+-- a field with one of these tags
+abbrev pub tagged : List (List ℕ) → Kind → Bool
+tagged ts (tag t) = among t ts
+tagged ts (date s) = false
+tagged ts (money c a) = false
+tagged ts (party b a) = false
+tagged ts (tax t l) = false
+
+-- a tax line with a KPP, in a field with this tag
+abbrev pub kppIn : List ℕ → Kind → Bool
+kppIn u (tax t l) = same t u && withKpp l
+kppIn u (tag t) = false
+kppIn u (date s) = false
+kppIn u (money c a) = false
+kppIn u (party b a) = false
+
+-- ---- tests of a value among the others
+abbrev pub tags56 : List (List ℕ)
+tags56 = bytes "56A" ∷ bytes "56D" ∷ []
+
+abbrev pub tags57 : List (List ℕ)
+tags57 = bytes "57A" ∷ bytes "57D" ∷ []
+
+abbrev pub is56 : Kind → Bool
+is56 = tagged tags56
+
+abbrev pub is57 : Kind → Bool
+is57 = tagged tags57
+
+abbrev pub is26T : Kind → Bool
+is26T = tagged (bytes "26T" ∷ [])
+
+abbrev pub is77B : Kind → Bool
+is77B = tagged (bytes "77B" ∷ [])
+
+-- 11: a 56, and no 57
+abbrev pub without57 : List Value → Kind → Bool
+without57 vs k = is56 k && not (has is57 vs)
+
+-- 13: a 26T without 77B or without KPP in 50K and 59; a 77B without 26T
+abbrev pub taxWhole : List Value → Bool
+taxWhole vs = has is77B vs && (has (kppIn (bytes "50K")) vs && has (kppIn (bytes "59")) vs)
+
+abbrev pub taxBroken : List Value → Kind → Bool
+taxBroken vs k = (is26T k && not (taxWhole vs)) || (is77B k && not (has is26T vs))
+
+-- ---- the rules, over the fields of a message
+unfoldable pub rule9 : List Field → Verdict
+rule9 fs = firstBad 9 noDay (valuesIn 5 fs)
+
+unfoldable pub rule10 : List Field → Verdict
+rule10 fs = firstBad 10 foreign (valuesIn 5 fs)
+
+unfoldable pub rule11 : List Field → Verdict
+rule11 fs = firstBad 11 (without57 (valuesIn 5 fs)) (valuesIn 5 fs)
+
+unfoldable pub rule12 : List Field → Verdict
+rule12 fs = firstBad 12 apart (valuesIn 5 fs)
+
+unfoldable pub rule13 : List Field → Verdict
+rule13 fs = firstBad 13 (taxBroken (valuesIn 5 fs)) (valuesIn 5 fs)

@@ -1,0 +1,123 @@
+// The rules 9, 10 and 12 at one field, by its tag and its content: one more than the place, counted from the content's start, of its first
+// value that is wrong, or 0. And the tags that 11 asks for.
+ghost use mathlib.Core.Path.{_≡_};
+ghost use Rattle.fields.specs.Shapes.{unpack};
+ghost use Rattle.types.specs.Walk.{among};
+ghost use Rattle.values.specs.Values.{payment, partyTags, valuesOf};
+ghost use Rattle.values.specs.Judged.{noDay, foreign, apart, tags56, tags57};
+ghost use Rattle.values.specs.Answers.{faultOf};
+use super::days::is_day;
+use super::parts::is_apart;
+use super::parts::rpp_fault;
+
+// Tags as numbers.
+const TAG_32A: u32 = 3355201;
+
+const TAG_72: u32 = 3617280;
+
+const TAG_52A: u32 = 3486273;
+
+const TAG_56A: u32 = 3487297;
+
+const TAG_56D: u32 = 3487300;
+
+const TAG_57A: u32 = 3487553;
+
+const TAG_57D: u32 = 3487556;
+
+// 9 in 32A.
+fn paid_fault(content: &[u8]) -> usize
+    ensures { λ r. ⌜ r ≡ faultOf noDay (payment (now (content .entry))) ⌝ }
+{
+    if content.len() < 9 {
+        return 0;
+    }
+    if is_day(content, 0) {
+        return 0;
+    }
+    1
+}
+
+// 9: a date that is no day.
+pub fn day_fault(tag: u32, content: &[u8]) -> usize
+    ensures { λ r. ⌜ r ≡ faultOf noDay (valuesOf (unpack tag) (now (content .entry))) ⌝ }
+{
+    if tag == TAG_32A {
+        return paid_fault(content);
+    }
+    if tag == TAG_72 {
+        return rpp_fault(content);
+    }
+    0
+}
+
+// 10: a currency that is not the rouble.
+pub fn currency_fault(tag: u32, content: &[u8]) -> usize
+    ensures { λ r. ⌜ r ≡ faultOf foreign (valuesOf (unpack tag) (now (content .entry))) ⌝ }
+{
+    if tag != TAG_32A {
+        return 0;
+    }
+    if content.len() < 9 {
+        return 0;
+    }
+    if content[6] != 82 {
+        return 7;
+    }
+    if content[7] != 85 {
+        return 7;
+    }
+    if content[8] != 66 {
+        return 7;
+    }
+    0
+}
+
+fn has_party(tag: u32) -> bool
+    ensures { λ r. ⌜ r ≡ among (unpack tag) partyTags ⌝ }
+{
+    if tag == TAG_52A {
+        return true;
+    }
+    if tag == TAG_56A {
+        return true;
+    }
+    if tag == TAG_56D {
+        return true;
+    }
+    if tag == TAG_57A {
+        return true;
+    }
+    tag == TAG_57D
+}
+
+// 12: a party line whose BIK and account differ in the last three digits.
+pub fn party_fault(tag: u32, content: &[u8]) -> usize
+    ensures { λ r. ⌜ r ≡ faultOf apart (valuesOf (unpack tag) (now (content .entry))) ⌝ }
+{
+    if !has_party(tag) {
+        return 0;
+    }
+    if is_apart(content) {
+        return 1;
+    }
+    0
+}
+
+pub fn is_56(tag: u32) -> bool
+    ensures { λ r. ⌜ r ≡ among (unpack tag) tags56 ⌝ }
+{
+    if tag == TAG_56A {
+        return true;
+    }
+    tag == TAG_56D
+}
+
+pub fn is_57(tag: u32) -> bool
+    ensures { λ r. ⌜ r ≡ among (unpack tag) tags57 ⌝ }
+{
+    if tag == TAG_57A {
+        return true;
+    }
+    tag == TAG_57D
+}
