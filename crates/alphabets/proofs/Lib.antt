@@ -1,9 +1,13 @@
 pub mod GridLaws
 pub mod Back
 pub mod Shortest
-pub mod RunLaws
+pub mod FillLaws
 pub mod ReadLaws
 pub mod WriteLaws
 pub mod TextLaws
 pub mod Theorems
 pub mod Outcomes
+pub mod PieceLaws
+pub mod PartLaws
+pub mod SpokenLaws
+pub mod PartTheorems

@@ -68,7 +68,7 @@ pub write-done : (s : Bool) (desk out : List ℕ) (n : ℕ) (a : List ℕ) → W
 unfolding WrittenTo
 write-done s desk out n a m = taken 5000 15 desk (writing s desk) out n a m
 
--- ---- what is written for 5,000 signs is at most 10,000 bytes: g Latin groups of n signs take two apostrophes each
+-- ---- what is written is at most twice as long, so for 5,000 signs at most 10,000 bytes: g Latin groups of n signs take two apostrophes each
 record Groups (s : Bool) (n m : ℕ) : Type 0 where
   g : ℕ
   size : m ≡ n + 2 * g + pick s 1 0
@@ -86,17 +86,20 @@ groups false [] = record { g = 0; size = refl; few = omega arith }
 groups true [] = record { g = 0; size = refl; few = omega arith }
 groups s (x ∷ xs) = let t : Bool = sideFor (kind x) s (latinNext xs) in step s t (spell (kind x) t x) (length xs) (best t xs) (groups t xs)
 
-written-within : (s : Bool) (d t : List ℕ) → writing s d ≡ said t → length d ≤ 5000 → length t ≤ 10000
+pub twice-at-most : (m : ℕ) (s : Bool) (d t : List ℕ) → writing s d ≡ said t → length d ≤ 2 * m → length t ≤ 4 * m
 unfolding writes
-written-within false d t e h = omega (arith, ap length (plain-only d t e))
-written-within true d t e h = go (bad d) e
+twice-at-most m false d t e h = omega (arith, ap length (plain-only d t e))
+twice-at-most m true d t e h = go (bad d) e
   where
-    go : (p : Spot) → orStuck p (best false d) ≡ said t → length t ≤ 10000
+    go : (p : Spot) → orStuck p (best false d) ≡ said t → length t ≤ 4 * m
     go (at k) e = absurd (not-said k t e)
     go nowhere e =
         let w : Groups false (length d) (length (best false d)) = groups false d in
         let f : best false d ≡ t = cc in
         omega (arith, w .size, w .few, ap length f)
+
+written-within : (s : Bool) (d t : List ℕ) → writing s d ≡ said t → length d ≤ 5000 → length t ≤ 10000
+written-within s d t e h = omega (arith, twice-at-most 2500 s d t e (omega arith))
 
 -- ---- there and back: what write_text puts into its room, read_text reads as the desk text, where its own room is enough
 pub written-reads : (s : Bool) (desk out : List ℕ) (n : ℕ) (a : List ℕ) (back after : List ℕ) (r : Outcome)

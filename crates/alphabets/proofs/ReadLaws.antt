@@ -17,11 +17,13 @@ use Rattle.base.proofs.CallLaws.{not-said}
 use Rattle.base.proofs.Table.{every, at, and-left, and-right, otherwise, refuted}
 use Rattle.alphabets.specs.Grid.{grid, kind, sign}
 use Rattle.alphabets.specs.Bank.{past, after, reads}
-use Rattle.alphabets.specs.Steps.{sizeOf, onward, run, through, code, codes, unquoted}
+use Rattle.runs.specs.Runs.{run, through}
+use Rattle.alphabets.specs.Steps.{sizeOf, onward, code, codes, unquoted}
 use Rattle.alphabets.specs.declared.Size.{Size}
 use Rattle.alphabets.specs.declared.Size.the-variants.{Units, Bad}
 use Rattle.alphabets.proofs.GridLaws.{big-sign}
-use Rattle.alphabets.proofs.RunLaws.{through-length, Ended, ended, ahead, ahead-size, ahead-ahead, ahead-none, Behind, ahead-said, onward-onward, onward-none, Filling, filling-room, filling-by, filling-end}
+use Rattle.runs.proofs.RunLaws.{through-length, Ended, ended}
+use Rattle.alphabets.proofs.FillLaws.{ahead, ahead-size, ahead-ahead, ahead-none, Behind, ahead-said, onward-onward, onward-none, Filling, filling-room, filling-by, filling-end}
 
 -- ---- the table of codes
 -- a byte has a reading on a side if its code is above this

@@ -1,31 +1,28 @@
 -- The ways out of the calls for a text alone, and texts without the sign. Assumes nothing.
-use Prim.Native.Nat.{ℕ, zero, suc, _+_, _<_, _≤_}
-use mathlib.Core.Path.{_≡_, refl, sym, ap, _∙_, subst}
-use mathlib.Core.Bool.{Bool, true, false, true≢false, false≢true}
-use mathlib.Core.List.{List, [], _∷_, _++_}
+use Prim.Native.Nat.{ℕ, zero, suc, _<_, _≤_}
+use mathlib.Core.Path.{_≡_, refl, sym, ap, _∙_}
+use mathlib.Core.Bool.{Bool, true, false}
+use mathlib.Core.List.{List, [], _∷_}
 use native.Mathlib.Omega.{arith}
 use lib.Dec.{eqb, ltb}
 use lib.ListN.{length, getD}
 use borrow.Author.Tests.{lt-ltb, le-ltb, ltb-true, ltb-false}
-use lib.Seq.{sets, sets-eq}
 use Rattle.base.specs.Choice.{pick}
-use Rattle.base.specs.Bytes.{isIn, digit, capital, letter, marks, shared, xset, classes, outside, lead}
+use Rattle.base.specs.Bytes.{xset, classes, outside, lead}
 use Rattle.base.specs.Rules.{first}
-use Rattle.base.specs.Calls.{Answer, said, stuck, textOf, stopped, short, long, over, placed, Gives}
+use Rattle.base.specs.Calls.{Answer, said, stuck, textOf, stopped, short, over, Gives}
 use Rattle.base.specs.declared.Verdict.{Verdict}
-use Rattle.base.specs.declared.Verdict.the-variants.{Fine, Broken}
+use Rattle.base.specs.declared.Verdict.the-variants.{Broken}
 use Rattle.base.specs.declared.Outcome.the-variants.{Done, Refused}
 use Rattle.base.proofs.ByteLaws.{Bytes, class-at}
-use Rattle.base.proofs.CallLaws.{gives-refused, gives-done, gives-past, is-long, not-long, is-short, not-short}
-use Rattle.base.proofs.Room.{over-sets, placed-fits}
+use Rattle.base.proofs.CallLaws.{gives-refused, gives-done, is-long, is-short, not-short}
 use Rattle.alphabets.specs.Bank.{after, plainly}
 use Rattle.alphabets.proofs.Theorems.{no-xset-zero}
 use Rattle.alphabets.specs.Text.{textRules}
 use Rattle.alphabets.specs.Steps.{sizeOf, Fits}
-use Rattle.alphabets.specs.declared.Size.{Size}
 use Rattle.alphabets.specs.declared.Size.the-variants.{Units, Bad}
 
-units-bad : (n k : ℕ) → Units n ≡ Bad k → ⊥
+pub units-bad : (n k : ℕ) → Units n ≡ Bad k → ⊥
 units-bad n k e = let z : _≡_ {A = ℕ} 0 1 = cc in omega arith
 
 -- ---- the ways out of a call whose text was measured
@@ -91,8 +88,3 @@ module _ (s : List ℕ) (b : Bytes s) (k : ℕ) (e : k ≡ lead classes s) where
 
   pub plain-units : length s ≤ k → Units (length s) ≡ sizeOf (plainly s)
   plain-units h = sym (ap sizeOf (plain-whole h))
-
-  pub plain-put : (out : List ℕ) → length s ≤ k → length s ≤ length out → placed out 0 s ≡ over (textOf (plainly s)) out
-  plain-put out h l =
-      let z : 0 + length s ≤ length out = omega arith in
-      placed-fits out 0 s z ∙ sym (over-sets s out l) ∙ ap (λ (a : Answer). over (textOf a) out) (sym (plain-whole h))

@@ -19,12 +19,14 @@ use Rattle.base.proofs.Table.{every, and-left, and-right}
 use Rattle.base.proofs.Table as table
 use Rattle.alphabets.specs.Grid.{grid, Kind, unwritable, russian, latin, common, kind, spell, sign}
 use Rattle.alphabets.specs.Best.{latinFirst, latinNext, sideFor, best, Spot, nowhere, at, behind, spotAfter, bad, orStuck, writes}
-use Rattle.alphabets.specs.Steps.{sizeOf, onward, run, through, shape, shapes, due, group, LatinRun}
+use Rattle.runs.specs.Runs.{run, through}
+use Rattle.alphabets.specs.Steps.{sizeOf, onward, shape, shapes, due, group, LatinRun}
 use Rattle.alphabets.specs.declared.Size.{Size}
 use Rattle.alphabets.specs.declared.Size.the-variants.{Units, Bad}
 use Rattle.alphabets.proofs.GridLaws.{big-kind}
 use Rattle.alphabets.proofs.Shortest.{leave}
-use Rattle.alphabets.proofs.RunLaws.{through-length, Ended, ended, ahead, ahead-size, ahead-ahead, ahead-none, Behind, ahead-said, onward-onward, onward-none, Filling, filling-room, filling-by, filling-end}
+use Rattle.runs.proofs.RunLaws.{through-length, Ended, ended}
+use Rattle.alphabets.proofs.FillLaws.{ahead, ahead-size, ahead-ahead, ahead-none, Behind, ahead-said, onward-onward, onward-none, Filling, filling-room, filling-by, filling-end}
 
 -- ---- the table of shapes
 abbrev number : Kind → ℕ

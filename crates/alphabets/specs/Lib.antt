@@ -3,3 +3,5 @@ pub mod Bank
 pub mod Best
 pub mod Steps
 pub mod Text
+pub mod Pieces
+pub mod Parts

@@ -1,13 +1,16 @@
 -- Words of the contracts of private functions, and the code's two tables. No public contract cites this file. Assumes nothing.
-use Prim.Native.Nat.{ℕ, zero, suc, _+_, _-_, _≤_}
+use Prim.Native.Nat.{ℕ, suc, _+_, _-_, _≤_}
 use mathlib.Core.Path.{_≡_}
 use mathlib.Core.List.{List, [], _∷_}
 use mathlib.Core.Bool.{Bool, true, false, _&&_}
 use lib.Dec.{eqb, ltb}
-use lib.ListN.{length, getD, drop}
+use lib.ListN.{length, getD, drop, take}
 use Rattle.base.specs.Choice.{pick}
 use Rattle.base.specs.Bytes.{letter, values}
+use Rattle.runs.specs.Runs.{run, through}
 use Rattle.base.specs.Calls.{Answer, said, stuck}
+use Rattle.base.specs.declared.Outcome.{Outcome}
+use Rattle.base.specs.declared.Outcome.the-variants.{Done, Refused}
 use Rattle.alphabets.specs.Grid.{Kind, unwritable, russian, latin, common, grid, kind, sign}
 use Rattle.alphabets.specs.Best.{latinNext, best, bad, orStuck}
 use Rattle.alphabets.specs.declared.Size.{Size}
@@ -16,6 +19,11 @@ use Rattle.alphabets.specs.declared.Size.the-variants.{Units, Bad}
 abbrev pub sizeOf : Answer → Size
 sizeOf (said t) = Units (length t)
 sizeOf (stuck k) = Bad k
+
+-- a call's answer, by the size of its text and the room
+abbrev pub endingOf : ℕ → Size → ℕ → Outcome
+endingOf number (Bad k) room = Refused number k
+endingOf number (Units n) room = pick (ltb room n) (Refused 17 n) (Done n)
 
 -- the size of a text of which i bytes were taken and n units made, from that of the rest
 abbrev pub onward : ℕ → ℕ → Size → Size
@@ -27,14 +35,11 @@ abbrev pub Fits : Answer → ℕ → Type 0
 Fits (said t) room = length t ≤ room
 Fits (stuck k) room = ⊥
 
--- ---- a run: the bytes at the front whose value in a table is above a floor, and their values
-unfoldable pub run : List ℕ → ℕ → List ℕ → ℕ
-run t f [] = 0
-run t f (x ∷ xs) = pick (ltb f (getD t x 0)) (suc (run t f xs)) 0
-
-unfoldable pub through : List ℕ → ℕ → List ℕ → List ℕ
-through t f [] = []
-through t f (x ∷ xs) = pick (ltb f (getD t x 0)) (getD t x 0 ∷ through t f xs) []
+-- ---- reading in pieces
+-- what the run at the front stands for, on the Latin side and on the Russian one
+unfoldable pub spokenRun : List ℕ → Bool → List ℕ → List ℕ
+spokenRun t true b = take (run t 0 b) b
+spokenRun t false b = through t 1 b
 
 -- ---- reading: 0 for the apostrophe and outside the x set, 1 for a letter that only the Latin side reads, else what the Russian side reads
 unfoldable pub code : ℕ → ℕ

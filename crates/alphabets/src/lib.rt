@@ -1,21 +1,22 @@
 // Two alphabets: a bank text read, and a desk text written as the shortest bank text.
 mod grid;
+pub mod parts;
+pub mod pieces;
 mod reading;
-mod runs;
 mod writing;
 
 ghost use mathlib.Core.Path.{_≡_};
 ghost use Rattle.alphabets.specs.Text.{textRules, ReadTo, WrittenTo};
 ghost use Rattle.alphabets.specs.Bank.{plainly};
+ghost use Rattle.alphabets.specs.Steps.{endingOf};
 ghost use Rattle.base.specs.Calls.{Gives, textOf, stopped, short};
 ghost use mathlib.Core.List.{[], _∷_};
 use base::Outcome;
-use grid::BACK;
-use grid::GRID;
+use parts::put_plain;
+use parts::put_text;
+use pieces::back_table;
 use reading::fill;
 use reading::measure;
-use writing::fill_desk;
-use writing::measure_desk;
 
 // How many units a text takes, or the place where it stops.
 pub(crate) enum Size {
@@ -23,24 +24,31 @@ pub(crate) enum Size {
     Bad(usize),
 }
 
+// A call's answer, by the size of its text and the room.
+fn ending(number: u32, size: Size, room: usize) -> Outcome
+    ensures { λ r. ⌜ r ≡ endingOf number size room ⌝ }
+{
+    match size {
+        Size::Bad(k) => Outcome::Refused { number, place: k },
+        Size::Units(n) => {
+            if room < n {
+                return Outcome::Refused {
+                    number: 17,
+                    place: n,
+                };
+            }
+            Outcome::Done(n)
+        }
+    }
+}
+
 // A text without the sign: its own bytes, all of the x set.
 fn copy_text(number: u32, text: &[u8], out: &mut [u8]) -> Outcome
     ensures { λ r. ⌜ Gives (stopped number (plainly (now (text .entry))) ∷ short (textOf (plainly (now (text .entry)))) (now (out .entry)) ∷ []) (textOf (plainly (now (text .entry)))) (now (out .entry)) r (now (out .exit)) ⌝ }
 {
-    let t = base::xset::x_classes();
-    let k = base::bytes::lead_of(&t, text);
-    let n = text.len();
-    if k < n {
-        return Outcome::Refused { number, place: k };
-    }
-    if out.len() < n {
-        return Outcome::Refused {
-            number: 17,
-            place: n,
-        };
-    }
-    base::bytes::put(out, 0, text);
-    Outcome::Done(n)
+    let room = out.len();
+    let size = put_plain(text, out, 0);
+    ending(number, size, room)
 }
 
 // What a bank text says.
@@ -56,7 +64,7 @@ pub fn read_text(sign: bool, bank: &[u8], out: &mut [u8]) -> Outcome
     if !sign {
         return copy_text(14, bank, out);
     }
-    let back = BACK;
+    let back = back_table();
     match measure(&back, bank) {
         Size::Bad(k) => Outcome::Refused {
             number: 14,
@@ -85,24 +93,7 @@ pub fn write_text(sign: bool, desk: &[u8], out: &mut [u8]) -> Outcome
             place: 5000,
         };
     }
-    if !sign {
-        return copy_text(15, desk, out);
-    }
-    let grid = GRID;
-    match measure_desk(&grid, desk) {
-        Size::Bad(k) => Outcome::Refused {
-            number: 15,
-            place: k,
-        },
-        Size::Units(n) => {
-            if out.len() < n {
-                return Outcome::Refused {
-                    number: 17,
-                    place: n,
-                };
-            }
-            fill_desk(&grid, desk, out);
-            Outcome::Done(n)
-        }
-    }
+    let room = out.len();
+    let size = put_text(sign, desk, out, 0);
+    ending(15, size, room)
 }

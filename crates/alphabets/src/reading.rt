@@ -9,8 +9,8 @@ ghost use Rattle.base.specs.Calls.{over, textOf};
 ghost use Rattle.alphabets.specs.Bank.{reads};
 ghost use Rattle.alphabets.specs.Steps.{sizeOf, Fits, codes, unquoted};
 use super::Size;
-use super::runs::run_of;
-use super::runs::translate;
+use runs::run_of;
+use runs::translate;
 
 pub(crate) fn measure(back: &[u8; 256], bank: &[u8]) -> Size
     requires { ⌜ now back ≡ codes ⌝ }

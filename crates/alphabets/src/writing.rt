@@ -9,9 +9,17 @@ ghost use Rattle.base.specs.Calls.{over, textOf, placed};
 ghost use Rattle.alphabets.specs.Best.{latinNext, writes};
 ghost use Rattle.alphabets.specs.Steps.{sizeOf, Fits, shape, shapes, group, LatinRun};
 use super::Size;
-use super::runs::run_of;
-use super::runs::translate;
-use super::runs::value;
+use super::grid::GRID;
+use runs::run_of;
+use runs::translate;
+use runs::value;
+
+// The table, made once a call and lent down.
+pub(crate) fn grid_table() -> [u8; 256]
+    ensures { λ r. ⌜ r ≡ shapes ⌝ }
+{
+    GRID
+}
 
 // A stretch of signs that the Latin side takes: the place behind its last Latin letter, and the place behind it.
 struct Stretch {
@@ -46,7 +54,7 @@ fn stretch_from(grid: &[u8; 256], desk: &[u8], from: usize) -> Stretch
 }
 
 pub(crate) fn measure_desk(grid: &[u8; 256], desk: &[u8]) -> Size
-    requires { ⌜ (now grid ≡ shapes) × (length (now desk) ≤ 5000) ⌝ }
+    requires { ⌜ (now grid ≡ shapes) × (length (now desk) ≤ 10000) ⌝ }
     ensures { λ r. ⌜ r ≡ sizeOf (writes (now (desk .entry))) ⌝ }
 {
     let mut marks: usize = 0;
@@ -67,7 +75,7 @@ pub(crate) fn measure_desk(grid: &[u8; 256], desk: &[u8]) -> Size
 }
 
 // A part put into the room from n on; single letters among Russian ones are frequent.
-fn put_part(part: &[u8], out: &mut [u8], n: usize)
+pub(crate) fn put_part(part: &[u8], out: &mut [u8], n: usize)
     requires { ⌜ n + length (now part) ≤ length (now out) ⌝ }
     ensures { λ _. ⌜ now (out .exit) ≡ placed (now (out .entry)) n (now (part .entry)) ⌝ }
 {

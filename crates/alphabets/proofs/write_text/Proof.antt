@@ -1,87 +1,29 @@
-use Prim.Native.Nat.{ℕ, _≤_}
-use mathlib.Core.Path.{_≡_, _∙_, sym, subst, refl}
-use mathlib.Core.Bool.{Bool, true, false}
-use mathlib.Core.List.{List}
-use lib.ListN.{length}
-use borrow.Author.Tests.{not-true, not-false}
-use Rattle.base.specs.Calls.{textOf, Gives}
-use Rattle.base.specs.Bytes.{isIn, digit, capital, letter, marks, shared}
-use Rattle.base.specs.declared.Outcome.{Outcome}
 use Rattle.base.proofs.CallLaws.{gives-past, not-long}
-use Rattle.alphabets.specs.Grid.{grid, kind, sign}
-use Rattle.alphabets.specs.Best.{writes, writing}
-use Rattle.alphabets.specs.Steps.{sizeOf, shape, shapes, code, codes}
-use Rattle.alphabets.specs.Text.{WrittenTo, textRules}
-use Rattle.alphabets.specs.declared.Size.the-variants.{Units, Bad}
-use Rattle.alphabets.proofs.TextLaws.{too-long, stops, no-room, fine, room-for}
+use Rattle.alphabets.specs.Best.{writing}
+use Rattle.alphabets.specs.Text.{WrittenTo}
+use Rattle.alphabets.proofs.TextLaws.{too-long}
+use Rattle.alphabets.proofs.PartLaws.{gives-ending}
 use borrow.Author.Needs.{needs}
 use Rattle.alphabets.proofs.write_text.Statement.{statement}
 use Rattle.alphabets.proofs.write_text.Tie as tie
-
--- the call's outcome, once the limit and the sign are settled
-settled : (s t : Bool) (text out after : List ℕ) (r : Outcome) → s ≡ t → length text ≤ 5000 → Gives (textRules 5000 15 text (writing t text) out) (textOf (writing t text)) out r after → WrittenTo s text out r after
-unfolding WrittenTo
-settled s t text out after r e h g = subst (λ (q : Bool). Gives (textRules 5000 15 text (writing q text) out) (textOf (writing q text)) out r after) (sym e) g
-
--- what was measured
-bad : (c : tie.After-known-told) → Bad (c .before .k .given .0 .0) ≡ sizeOf (writes (c .before .before .before .before .before .before .before .before .before .args .desk .now))
-bad c = sym (c .before .k .given .1) ∙ c .before .before .before .measure-desk .ensures
-
-units : (c : tie.After-known-told2) → Units (c .before .n .given .0 .0) ≡ sizeOf (writes (c .before .before .before .before .before .before .before .before .before .args .desk .now))
-units c = sym (c .before .n .given .1) ∙ c .before .before .before .measure-desk .ensures
 
 returns : tie.Need-returns
 unfolding WrittenTo
 returns c = let a = c .before .before .before .args in too-long 5000 15 (a .desk .now) (writing (a .sign) (a .desk .now)) (a .out .now) (c .if1 .taken)
 
-copy-text-requires : tie.Need-copy-text-requires
-copy-text-requires c κs = search needs
+put-text-requires : tie.Need-put-text-requires
+put-text-requires c κs = search needs
+
+ending-requires : tie.Need-ending-requires
+ending-requires c κs = search needs
 
 same-length : tie.Need-same-length
 same-length c = search needs
 
 returns-2 : tie.Need-returns-2
-returns-2 c = let t = c .before .before .before .before in let a = t .before .before .before .before .args in settled (a .sign) false (a .desk .now) (a .out .now) _ _ (not-true _ (t .if2 .taken)) (t .before .if1 .left) (gives-past (not-long 5000 (a .desk .now) (t .before .if1 .left)) (c .before .before .copy-text .ensures))
-
-measure-desk-requires : tie.Need-measure-desk-requires
-unfolding isIn digit capital letter marks shared grid kind sign shape shapes code codes
-measure-desk-requires c κs = (refl, c .before .before .if1 .left)
-
-enum-known-k : tie.Need-enum-known-k
-enum-known-k c = search needs
-
-enum-known-n : tie.Need-enum-known-n
-enum-known-n c = search needs
-
-returns-3 : tie.Need-returns-3
-returns-3 c = let k = c .before in let e = k .before .before .before .before .before in let a = e .before .before .before .before .args in settled (a .sign) true (a .desk .now) (a .out .now) _ _ (not-false _ (e .if2 .left)) (e .before .if1 .left) (gives-past (not-long 5000 (a .desk .now) (e .before .if1 .left)) (no-room 15 (a .out .now) (writes (a .desk .now)) _ (units k) (c .if3 .taken)))
-
-fill-desk-requires : tie.Need-fill-desk-requires
-unfolding isIn digit capital letter marks shared grid kind sign shape shapes code codes
-fill-desk-requires c κs = let q = c .before .before in let a = q .before .before .before .before .before .before .before .before .before .before .args in (refl, room-for (writes (a .desk .now)) _ _ (units (q .before)) (q .if3 .left))
-
-returns-4 : tie.Need-returns-4
-returns-4 c = let e = c .before .before .before .before .before in let a = e .before .before .before .before .args in settled (a .sign) true (a .desk .now) (a .out .now) _ _ (not-false _ (e .if2 .left)) (e .before .if1 .left) (gives-past (not-long 5000 (a .desk .now) (e .before .if1 .left)) (stops 15 (a .out .now) (writes (a .desk .now)) _ (bad c)))
-
-same-length-2 : tie.Need-same-length-2
-same-length-2 c = search needs
-
-returns-5 : tie.Need-returns-5
-returns-5 c = let f = c .before .before in let q = f .before .before .before in let k = q .before in let e = k .before .before .before .before .before in let a = e .before .before .before .before .args in settled (a .sign) true (a .desk .now) (a .out .now) _ _ (not-false _ (e .if2 .left)) (e .before .if1 .left) (gives-past (not-long 5000 (a .desk .now) (e .before .if1 .left)) (fine 15 (a .out .now) (writes (a .desk .now)) _ _ (units k) (q .if3 .left) (f .fill-desk .ensures)))
+unfolding WrittenTo
+returns-2 c = let p = c .before .before .before in let e = p .before .before in let a = e .before .before .before .args in gives-past (not-long 5000 (a .desk .now) (e .if1 .left)) (gives-ending 15 (writing (a .sign) (a .desk .now)) (a .out .now) _ (p .put-text .result) _ (p .put-text .ensures .0) (p .put-text .ensures .1) (c .ending .ensures))
 
 pub write-text-spec : {M : Type 1} → statement M
 write-text-spec =
-    tie.close
-    (tie.spec
-    returns
-    copy-text-requires
-    same-length
-    returns-2
-    measure-desk-requires
-    enum-known-k
-    enum-known-n
-    returns-3
-    fill-desk-requires
-    returns-4
-    same-length-2
-    returns-5)
+    tie.close (tie.spec returns put-text-requires ending-requires same-length returns-2)

@@ -4,7 +4,7 @@ use native.Mathlib.Omega.{arith}
 use borrow.Author.Needs.{needs}
 use lib.ListN.{length, drop}
 use Rattle.alphabets.specs.Steps.{unquoted}
-use Rattle.alphabets.proofs.RunLaws.{Putting, putting-start, putting-below, putting-on, putting-end}
+use Rattle.runs.proofs.RunLaws.{Putting, putting-start, putting-below, putting-on, putting-end}
 use Rattle.alphabets.proofs.ReadLaws.{unquoted-more, unquoted-stop, unquoted-end}
 use Rattle.alphabets.proofs.reading.copy_latin.Statement.{statement}
 use Rattle.alphabets.proofs.reading.copy_latin.Tie as tie

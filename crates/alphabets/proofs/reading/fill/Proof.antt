@@ -1,17 +1,19 @@
 use mathlib.Core.Path.{subst}
 use lib.ListN.{getD}
 use lib.Seq.{sets}
-use Rattle.alphabets.specs.Steps.{through}
+use Rattle.runs.specs.Runs.{through}
 use Rattle.alphabets.proofs.ReadLaws.{russian-room, russian-step, russian-fits, read-end, latin-room, latin-fits, latin-inside, latin-step}
 use Prim.Native.Nat.{ℕ, _-_, _≤_, _<_, _+_}
 use mathlib.Core.Path.{_≡_, refl, sym, _∙_, ap}
 use mathlib.Core.List.{List}
 use native.Mathlib.Omega.{arith}
 use lib.ListN.{length, drop}
-use Rattle.alphabets.specs.Steps.{run, codes}
-use Rattle.alphabets.proofs.RunLaws.{Ended, ended}
+use Rattle.runs.specs.Runs.{run}
+use Rattle.alphabets.specs.Steps.{codes}
+use Rattle.runs.proofs.RunLaws.{Ended, ended, moved-whole}
+use borrow.Author.Needs.{needs}
 use Rattle.alphabets.proofs.ReadLaws.{unread}
-use Rattle.alphabets.proofs.RunLaws.{Filling, filling-start}
+use Rattle.alphabets.proofs.FillLaws.{Filling, filling-start}
 use Rattle.alphabets.proofs.reading.fill.Statement.{statement}
 use Rattle.alphabets.proofs.reading.fill.Tie as tie
 
@@ -21,19 +23,27 @@ Inv-loop back bank out₀ n₀ i₀ out n i = Filling (unread bank) (length bank
 abbrev μ-loop : tie.MeasureT-loop
 μ-loop back bank out₀ n₀ i₀ out n i = length bank - i
 
+-- there is room for the whole run
+moved : (c : tie.After-translate Inv-loop μ-loop) → let l = c .before .before .before in let a = l .before .before .before .args in (c .translate .result ≡ l .loop .i + run (a .back .now) 1 (drop (l .loop .i) (a .bank .now))) × (c .translate .last .1 .1 .1 .0 ≡ sets (l .loop .out) (l .loop .n) (through (a .back .now) 1 (drop (l .loop .i) (a .bank .now))))
+moved c =
+    let l = c .before .before .before in
+    let s = l .before .before .before in
+    let a = s .args in
+    moved-whole (a .back .now) (a .bank .now) (l .loop .out) (l .loop .i) (l .loop .n) _ _ (rw (s .pre .0) (russian-room _ _ _ _ _ (l .loop .inv))) (c .translate .ensures)
+
 -- behind the Russian run, and behind the Latin one
 place : (c : tie.After-translate Inv-loop μ-loop) → let l = c .before .before .before in let a = l .before .before .before in c .translate .result ≡ l .loop .i + run codes 1 (drop (l .loop .i) (a .args .bank .now))
 place c =
     let l = c .before .before .before in
     let a = l .before .before .before in
-    c .translate .ensures .0 ∙ ap (λ (t : List ℕ). l .loop .i + run t 1 (drop (l .loop .i) (a .args .bank .now))) (a .pre .0)
+    moved c .0 ∙ ap (λ (t : List ℕ). l .loop .i + run t 1 (drop (l .loop .i) (a .args .bank .now))) (a .pre .0)
 
 russian : (c : tie.After-translate Inv-loop μ-loop) → let l = c .before .before .before in let a = l .before .before .before in Filling (unread (a .args .bank .now)) (length (a .args .bank .now)) (a .args .out .now) (c .translate .last .1 .1 .1 .0) (l .loop .n + (c .translate .result - l .loop .i)) (c .translate .result)
 russian c =
     let l = c .before .before .before in
     let a = l .before .before .before in
     subst (λ (o : List ℕ). Filling (unread (a .args .bank .now)) (length (a .args .bank .now)) (a .args .out .now) o (l .loop .n + (c .translate .result - l .loop .i)) (c .translate .result))
-    (sym (c .translate .ensures .1 ∙ ap (λ (t : List ℕ). sets (l .loop .out) (l .loop .n) (through t 1 (drop (l .loop .i) (a .args .bank .now)))) (a .pre .0)))
+    (sym (moved c .1 ∙ ap (λ (t : List ℕ). sets (l .loop .out) (l .loop .n) (through t 1 (drop (l .loop .i) (a .args .bank .now)))) (a .pre .0)))
     (russian-step _ _ _ _ _ (l .loop .inv) (c .translate .result) (place c))
 
 stop : (c : tie.Else1 Inv-loop μ-loop) → let t = c .before .before .before in let m = t .before .before .before .before .before .before .args .bank .now in getD codes (getD m (t .translate .result) 0) 0 ≤ 1
@@ -50,7 +60,7 @@ loop-holds : tie.Need-loop-holds Inv-loop μ-loop
 loop-holds c = filling-start (unread (c .before .before .args .bank .now)) _ _ (c .before .before .pre .1)
 
 translate-requires : tie.Need-translate-requires Inv-loop μ-loop
-translate-requires c κs = let l = c .before .before in (l .loop .inv .long, rw (l .before .before .before .pre .0) (russian-room _ _ _ _ _ (l .loop .inv)))
+translate-requires c κs = search needs
 
 sub-n : tie.Need-sub-n Inv-loop μ-loop
 sub-n c = omega (arith, place (c .before .before))

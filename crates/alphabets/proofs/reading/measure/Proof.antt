@@ -4,8 +4,9 @@ use mathlib.Core.List.{List}
 use native.Mathlib.Omega.{arith}
 use borrow.Author.Needs.{needs}
 use lib.ListN.{length, drop}
-use Rattle.alphabets.specs.Steps.{run, codes}
-use Rattle.alphabets.proofs.RunLaws.{Ended, ended}
+use Rattle.runs.specs.Runs.{run}
+use Rattle.alphabets.specs.Steps.{codes}
+use Rattle.runs.proofs.RunLaws.{Ended, ended}
 use Rattle.alphabets.proofs.ReadLaws.{Measuring, measuring-start, measured, measured-bad, measured-open, measured-wrong, measuring-on, measuring-end}
 use Rattle.alphabets.proofs.reading.measure.Statement.{statement}
 use Rattle.alphabets.proofs.reading.measure.Tie as tie

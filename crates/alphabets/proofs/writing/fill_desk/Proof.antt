@@ -6,9 +6,12 @@ use mathlib.Core.List.{List}
 use native.Mathlib.Omega.{arith}
 use lib.ListN.{length, drop, take, getD}
 use lib.Seq.{sets}
-use Rattle.alphabets.specs.Steps.{run, through, shapes, Fits}
+use Rattle.runs.specs.Runs.{run, through}
+use Rattle.alphabets.specs.Steps.{shapes, Fits}
 use Rattle.base.specs.Calls.{Answer}
-use Rattle.alphabets.proofs.RunLaws.{Ended, ended, Filling, filling-start}
+use Rattle.runs.proofs.RunLaws.{Ended, ended, moved-whole}
+use borrow.Author.Needs.{needs}
+use Rattle.alphabets.proofs.FillLaws.{Filling, filling-start}
 use Rattle.alphabets.proofs.WriteLaws.{unwritten, unwritten-whole, run-room, run-step, run-fits, written-end, group-within, group-behind, group-room, group-step}
 use Rattle.alphabets.proofs.writing.fill_desk.Statement.{statement}
 use Rattle.alphabets.proofs.writing.fill_desk.Tie as tie
@@ -19,19 +22,27 @@ Inv-loop grid desk out₀ n₀ i₀ out n i = Filling (unwritten desk) (length d
 abbrev μ-loop : tie.MeasureT-loop
 μ-loop grid desk out₀ n₀ i₀ out n i = length desk - i
 
+-- there is room for the whole run
+moved : (c : tie.After-translate Inv-loop μ-loop) → let l = c .before .before .before in let a = l .before .before .before .args in (c .translate .result ≡ l .loop .i + run (a .grid .now) 1 (drop (l .loop .i) (a .desk .now))) × (c .translate .last .1 .1 .1 .0 ≡ sets (l .loop .out) (l .loop .n) (through (a .grid .now) 1 (drop (l .loop .i) (a .desk .now))))
+moved c =
+    let l = c .before .before .before in
+    let s = l .before .before .before in
+    let a = s .args in
+    moved-whole (a .grid .now) (a .desk .now) (l .loop .out) (l .loop .i) (l .loop .n) _ _ (rw (s .pre .0) (run-room _ _ _ _ _ (l .loop .inv))) (c .translate .ensures)
+
 -- behind the Russian run, and the group behind it
 place : (c : tie.After-translate Inv-loop μ-loop) → let l = c .before .before .before in let a = l .before .before .before in c .translate .result ≡ l .loop .i + run shapes 1 (drop (l .loop .i) (a .args .desk .now))
 place c =
     let l = c .before .before .before in
     let a = l .before .before .before in
-    c .translate .ensures .0 ∙ ap (λ (t : List ℕ). l .loop .i + run t 1 (drop (l .loop .i) (a .args .desk .now))) (a .pre .0)
+    moved c .0 ∙ ap (λ (t : List ℕ). l .loop .i + run t 1 (drop (l .loop .i) (a .args .desk .now))) (a .pre .0)
 
 russian : (c : tie.After-translate Inv-loop μ-loop) → let l = c .before .before .before in let a = l .before .before .before in Filling (unwritten (a .args .desk .now)) (length (a .args .desk .now)) (a .args .out .now) (c .translate .last .1 .1 .1 .0) (l .loop .n + (c .translate .result - l .loop .i)) (c .translate .result)
 russian c =
     let l = c .before .before .before in
     let a = l .before .before .before in
     subst (λ (o : List ℕ). Filling (unwritten (a .args .desk .now)) (length (a .args .desk .now)) (a .args .out .now) o (l .loop .n + (c .translate .result - l .loop .i)) (c .translate .result))
-    (sym (c .translate .ensures .1 ∙ ap (λ (t : List ℕ). sets (l .loop .out) (l .loop .n) (through t 1 (drop (l .loop .i) (a .args .desk .now)))) (a .pre .0)))
+    (sym (moved c .1 ∙ ap (λ (t : List ℕ). sets (l .loop .out) (l .loop .n) (through t 1 (drop (l .loop .i) (a .args .desk .now)))) (a .pre .0)))
     (run-step _ _ _ _ _ (l .loop .inv) (c .translate .result) (place c))
 
 stop : (c : tie.Else1 Inv-loop μ-loop) → let t = c .before .before .before in let m = t .before .before .before .before .before .before .args .desk .now in getD shapes (getD m (t .translate .result) 0) 0 ≤ 1
@@ -60,7 +71,7 @@ loop-holds : tie.Need-loop-holds Inv-loop μ-loop
 loop-holds c = let a = c .before .before .args in filling-start (unwritten (a .desk .now)) _ _ (subst (λ (w : Answer). Fits w (length (a .out .now))) (sym (unwritten-whole (a .desk .now))) (c .before .before .pre .1))
 
 translate-requires : tie.Need-translate-requires Inv-loop μ-loop
-translate-requires c κs = let l = c .before .before in (l .loop .inv .long, rw (l .before .before .before .pre .0) (run-room _ _ _ _ _ (l .loop .inv)))
+translate-requires c κs = search needs
 
 sub-n : tie.Need-sub-n Inv-loop μ-loop
 sub-n c = omega (arith, place (c .before .before))

@@ -4,8 +4,9 @@ use mathlib.Core.List.{List}
 use native.Mathlib.Omega.{arith}
 use borrow.Author.Needs.{needs}
 use lib.ListN.{length, drop, getD}
-use Rattle.alphabets.specs.Steps.{run, shapes}
-use Rattle.alphabets.proofs.RunLaws.{Ended, ended}
+use Rattle.runs.specs.Runs.{run}
+use Rattle.alphabets.specs.Steps.{shapes}
+use Rattle.runs.proofs.RunLaws.{Ended, ended}
 use Rattle.alphabets.proofs.WriteLaws.{is-unwritable, is-latin, Weighing, weighing-start, weighing-end, weighing-run, weighed-bad, weighing-latin}
 use Rattle.alphabets.proofs.writing.measure_desk.Statement.{statement}
 use Rattle.alphabets.proofs.writing.measure_desk.Tie as tie

@@ -3,10 +3,10 @@ use mathlib.Core.Path.{_≡_, refl}
 use native.Mathlib.Omega.{arith}
 use borrow.Author.Needs.{needs}
 use lib.ListN.{length, drop}
-use Rattle.alphabets.specs.Steps.{run}
-use Rattle.alphabets.proofs.RunLaws.{run-more, run-stop, run-end}
-use Rattle.alphabets.proofs.runs.run_on.Statement.{statement}
-use Rattle.alphabets.proofs.runs.run_on.Tie as tie
+use Rattle.runs.specs.Runs.{run}
+use Rattle.runs.proofs.RunLaws.{run-more, run-stop, run-end}
+use Rattle.runs.proofs.run_on.Statement.{statement}
+use Rattle.runs.proofs.run_on.Tie as tie
 
 abbrev Inv-loop : tie.InvT-loop
 Inv-loop t floor s i k₀ k = (k ≤ length s) × (i + run t floor (drop i s) ≡ k + run t floor (drop k s))

@@ -3,10 +3,10 @@ use mathlib.Core.Path.{_≡_, refl, sym, _∙_}
 use native.Mathlib.Omega.{arith}
 use borrow.Author.Needs.{needs}
 use lib.ListN.{length, drop}
-use Rattle.alphabets.specs.Steps.{run}
-use Rattle.alphabets.proofs.RunLaws.{run-next, run-stop}
-use Rattle.alphabets.proofs.runs.run_of.Statement.{statement}
-use Rattle.alphabets.proofs.runs.run_of.Tie as tie
+use Rattle.runs.specs.Runs.{run}
+use Rattle.runs.proofs.RunLaws.{run-next, run-stop}
+use Rattle.runs.proofs.run_in.Statement.{statement}
+use Rattle.runs.proofs.run_in.Tie as tie
 
 abbrev Inv-loop : tie.InvT-loop
 Inv-loop t floor s i k₀ k = (k ≤ length s) × (i + run t floor (drop i s) ≡ k + run t floor (drop k s))
@@ -117,8 +117,8 @@ run-on-requires c κs = search needs
 returns-5 : tie.Need-returns-5 Inv-loop μ-loop
 returns-5 c = c .run-on .ensures ∙ sym (c .before .before .loop .inv .1)
 
-pub run-of-spec : {M : Type 1} → statement M
-run-of-spec =
+pub run-in-spec : {M : Type 1} → statement M
+run-in-spec =
     tie.close
     (tie.spec
     Inv-loop

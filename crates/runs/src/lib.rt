@@ -1,11 +1,11 @@
 // Runs of bytes by their values in a lent table.
 ghost use mathlib.Core.Path.{_≡_};
-ghost use Prim.Native.Nat.{_+_, _≤_, _<_};
-ghost use lib.ListN.{length, drop, getD};
+ghost use Prim.Native.Nat.{_+_, _-_, _≤_, _<_};
+ghost use lib.ListN.{length, drop, take, getD};
 ghost use lib.Seq.{sets};
-ghost use Rattle.alphabets.specs.Steps.{run, through};
+ghost use Rattle.runs.specs.Runs.{run, through};
 
-pub(crate) fn value(t: &[u8; 256], b: u8) -> u8
+pub fn value(t: &[u8; 256], b: u8) -> u8
     ensures { λ r. ⌜ r ≡ getD (now (t .entry)) b 0 ⌝ }
 {
     t[b as usize]
@@ -27,7 +27,7 @@ fn run_on(t: &[u8; 256], floor: u8, s: &[u8], i: usize) -> usize
 }
 
 // The same, four bytes a turn.
-pub(crate) fn run_of(t: &[u8; 256], floor: u8, s: &[u8], i: usize) -> usize
+fn run_in(t: &[u8; 256], floor: u8, s: &[u8], i: usize) -> usize
     requires { ⌜ i ≤ length (now s) ⌝ }
     ensures { λ r. ⌜ r ≡ i + run (now (t .entry)) floor (drop i (now (s .entry))) ⌝ }
 {
@@ -50,6 +50,16 @@ pub(crate) fn run_of(t: &[u8; 256], floor: u8, s: &[u8], i: usize) -> usize
     run_on(t, floor, s, k)
 }
 
+// The same from any place.
+pub fn run_of(t: &[u8; 256], floor: u8, s: &[u8], i: usize) -> usize
+    ensures { λ r. ⌜ r ≡ i + run (now (t .entry)) floor (drop i (now (s .entry))) ⌝ }
+{
+    if s.len() < i {
+        return i;
+    }
+    run_in(t, floor, s, i)
+}
+
 // The run's values put into the room from n on; answers the place behind the run: a byte a turn.
 fn translate_on(t: &[u8; 256], s: &[u8], i: usize, out: &mut [u8], n: usize) -> usize
     requires { ⌜ (i ≤ length (now s)) × (n + length (through (now t) 1 (drop i (now s))) ≤ length (now out)) ⌝ }
@@ -70,7 +80,7 @@ fn translate_on(t: &[u8; 256], s: &[u8], i: usize, out: &mut [u8], n: usize) -> 
 }
 
 // The same, four bytes a turn.
-pub(crate) fn translate(t: &[u8; 256], s: &[u8], i: usize, out: &mut [u8], n: usize) -> usize
+fn translate_in(t: &[u8; 256], s: &[u8], i: usize, out: &mut [u8], n: usize) -> usize
     requires { ⌜ (i ≤ length (now s)) × (n + length (through (now t) 1 (drop i (now s))) ≤ length (now out)) ⌝ }
     ensures { λ r. ⌜ (r ≡ i + run (now (t .entry)) 1 (drop i (now (s .entry)))) × (now (out .exit) ≡ sets (now (out .entry)) n (through (now (t .entry)) 1 (drop i (now (s .entry))))) ⌝ }
 {
@@ -101,4 +111,22 @@ pub(crate) fn translate(t: &[u8; 256], s: &[u8], i: usize, out: &mut [u8], n: us
         k += 4;
     }
     translate_on(t, s, k, out, o)
+}
+
+// The same from any place, as far as the room goes.
+pub fn translate(t: &[u8; 256], s: &[u8], i: usize, out: &mut [u8], n: usize) -> usize
+    ensures { λ r. ⌜ (r ≡ i + run (now (t .entry)) 1 (take (length (now (out .entry)) - n) (drop i (now (s .entry))))) × (now (out .exit) ≡ sets (now (out .entry)) n (through (now (t .entry)) 1 (take (length (now (out .entry)) - n) (drop i (now (s .entry)))))) ⌝ }
+{
+    if s.len() < i {
+        return i;
+    }
+    if out.len() < n {
+        return i;
+    }
+    let m = out.len() - n;
+    if m < s.len() - i {
+        let e = i + m;
+        return translate_in(t, &s[..e], i, out, n);
+    }
+    translate_in(t, s, i, out, n)
 }

@@ -5,10 +5,10 @@ use mathlib.Core.Path.{_≡_, refl, sym, _∙_, ap}
 use native.Mathlib.Omega.{arith}
 use borrow.Author.Needs.{needs}
 use lib.ListN.{length, drop}
-use Rattle.alphabets.specs.Steps.{run, through}
-use Rattle.alphabets.proofs.RunLaws.{run-more, run-stop, run-end, through-more, through-stop, through-end, Putting, putting-start, putting-below, putting-on, putting-end}
-use Rattle.alphabets.proofs.runs.translate_on.Statement.{statement}
-use Rattle.alphabets.proofs.runs.translate_on.Tie as tie
+use Rattle.runs.specs.Runs.{run, through}
+use Rattle.runs.proofs.RunLaws.{run-more, run-stop, run-end, through-more, through-stop, through-end, Putting, putting-start, putting-below, putting-on, putting-end}
+use Rattle.runs.proofs.translate_on.Statement.{statement}
+use Rattle.runs.proofs.translate_on.Tie as tie
 
 abbrev Inv-loop : tie.InvT-loop
 Inv-loop t s i out₀ n k₀ o₀ out k o = (k ≤ length s) × (i + run t 1 (drop i s) ≡ k + run t 1 (drop k s)) × Putting out₀ out n o (through t 1 (drop i s)) (through t 1 (drop k s))

@@ -5,10 +5,10 @@ use native.Mathlib.Omega.{arith}
 use borrow.Author.Needs.{needs}
 use lib.ListN.{length, drop, set, getD}
 use lib.Seq.{length-sets}
-use Rattle.alphabets.specs.Steps.{run, through}
-use Rattle.alphabets.proofs.RunLaws.{run-next, run-stop, through-next, through-stop, Putting, putting-start, putting-below, putting-at, putting-end}
-use Rattle.alphabets.proofs.runs.translate.Statement.{statement}
-use Rattle.alphabets.proofs.runs.translate.Tie as tie
+use Rattle.runs.specs.Runs.{run, through}
+use Rattle.runs.proofs.RunLaws.{run-next, run-stop, through-next, through-stop, Putting, putting-start, putting-below, putting-at, putting-end}
+use Rattle.runs.proofs.translate_in.Statement.{statement}
+use Rattle.runs.proofs.translate_in.Tie as tie
 
 abbrev Inv-loop : tie.InvT-loop
 Inv-loop t s i out₀ n k₀ o₀ out k o = (k ≤ length s) × (i + run t 1 (drop i s) ≡ k + run t 1 (drop k s)) × Putting out₀ out n o (through t 1 (drop i s)) (through t 1 (drop k s))
@@ -167,8 +167,8 @@ same-length-5 c = let t = c .before .before in let l = t .before .before .before
 returns-5 : tie.Need-returns-5 Inv-loop μ-loop
 returns-5 c = let t = c .before .before in let l = t .before .before .before in (t .translate-on .ensures .0 ∙ sym (l .loop .inv .1), t .translate-on .ensures .1 ∙ sym (l .loop .inv .2 .whole))
 
-pub translate-spec : {M : Type 1} → statement M
-translate-spec =
+pub translate-in-spec : {M : Type 1} → statement M
+translate-in-spec =
     tie.close
     (tie.spec
     Inv-loop

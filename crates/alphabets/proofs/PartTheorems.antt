@@ -1,0 +1,214 @@
+-- What is promised of the calls for a text inside larger room: one outcome, the size and the text put agree with what is written, and pieces put one behind another are the text (T10, K6). Assumes nothing.
+use Prim.Native.Nat.{ℕ, zero, suc, _+_, _<_, _≤_}
+use mathlib.Core.Path.{_≡_, refl, sym, ap, _∙_}
+use mathlib.Core.Bool.{Bool, true, false, not}
+use mathlib.Core.List.{List, [], _∷_, _++_}
+use native.Mathlib.Omega.{arith}
+use native.Mathlib.Decide.{decLt}
+use lib.Dec.{eqb, ltb, leb}
+use lib.ListN.{length, getD, take, drop, length-append}
+use lib.Seq.{sets, length-sets}
+use borrow.Author.Tests.{ne-eqb, eqb-false, ltb-true, ltb-false, le-leb, lt-leb}
+use Rattle.base.specs.Choice.{pick}
+use Rattle.base.specs.Calls.{Answer, said, stuck, textOf, placed}
+use Rattle.base.proofs.CallLaws.{not-said, one-answer}
+use Rattle.base.proofs.Room.{sets-append, placed-fits, placed-not}
+use Rattle.alphabets.specs.Grid.{sign}
+use Rattle.alphabets.specs.Bank.{reads, reading}
+use Rattle.alphabets.specs.Best.{writing}
+use Rattle.alphabets.specs.Steps.{codes}
+use Rattle.alphabets.specs.Pieces.{Partly, got, halted, beyond, joining, partly, whole, pieceOf, floorOf, heardOf, pieceAfter, pieceIn, pieceOn}
+use Rattle.alphabets.specs.Parts.{extentOf, extent, written, fitted, spoken, pieceText}
+use Rattle.alphabets.specs.declared.parts.Extent.{Extent}
+use Rattle.alphabets.specs.declared.parts.Extent.the-variants.{Takes, Halts, Long}
+use Rattle.alphabets.specs.declared.pieces.Piece.{Piece}
+use Rattle.alphabets.specs.declared.pieces.Piece.the-variants.{Read, Stops}
+use Rattle.alphabets.proofs.Theorems.{reads-back}
+use Rattle.alphabets.proofs.Outcomes.{FirstAt, writable, unwritable-at, twice-at-most}
+use Rattle.alphabets.proofs.ReadLaws.{Heard, heard-above, heard-below}
+use Rattle.alphabets.proofs.PieceLaws.{same-floor, same-heard, piece-codes, piece-append, reads-partly}
+use Rattle.alphabets.proofs.PartLaws.{extent-long, written-long, extent-is, written-is}
+use Rattle.alphabets.proofs.SpokenLaws.{read-stops, text-read, text-length}
+
+-- ---- any two outcomes that a contract allows are equal, the room counted
+pub size-one : (s : Bool) (desk : List ℕ) (r q : Extent) → r ≡ extent s desk → q ≡ extent s desk → r ≡ q
+size-one s desk r q e f = one-answer e f
+
+pub put-one : (out t : List ℕ) (at r q : ℕ) (a b : List ℕ) → (r ≡ fitted out at t) × (a ≡ placed out at t) → (q ≡ fitted out at t) × (b ≡ placed out at t) → (r ≡ q) × (a ≡ b)
+put-one out t at r q a b e f = (one-answer (e .0) (f .0), one-answer (e .1) (f .1))
+
+-- ---- the size
+takes-halts : (n k : ℕ) → Takes n ≡ Halts k → ⊥
+takes-halts n k e = let z : _≡_ {A = ℕ} 0 1 = cc in omega arith
+
+takes-long : (n : ℕ) → Takes n ≡ Long → ⊥
+takes-long n e = let z : _≡_ {A = ℕ} 0 1 = cc in omega arith
+
+halts-long : (k : ℕ) → Halts k ≡ Long → ⊥
+halts-long k e = let z : _≡_ {A = ℕ} 0 1 = cc in omega arith
+
+-- a size told: the bank text that is put is the one that is written, it reads back, and n is its length
+pub record Written (s : Bool) (desk : List ℕ) (n : ℕ) : Type 0 where
+  pub within : length desk ≤ 10000
+  pub is : writing s desk ≡ said (written s desk)
+  pub count : n ≡ length (written s desk)
+  pub back : reading s (written s desk) ≡ said desk
+  pub small : n ≤ 20000
+
+pub size-takes : (s : Bool) (desk : List ℕ) (n : ℕ) → extent s desk ≡ Takes n → Written s desk n
+size-takes s desk n e = go (decLt 10000 (length desk))
+  where
+    by : (h : length desk ≤ 10000) (a : Answer) → writing s desk ≡ a → extentOf a ≡ Takes n → Written s desk n
+    by h (stuck k) p f = absurd (takes-halts n k (sym f))
+    by h (said t) p f =
+        let m : length t ≡ n = cc in
+        let w : written s desk ≡ t = written-is s desk h ∙ ap textOf p in
+        let q : writing s desk ≡ said (written s desk) = p ∙ ap said (sym w) in
+        record {
+          within = h;
+          is = q;
+          count = sym m ∙ ap length (sym w);
+          back = reads-back s desk (written s desk) q;
+          small = omega (arith, twice-at-most 5000 s desk t p (omega arith));
+        }
+
+    go : Dec (10000 < length desk) → Written s desk n
+    go (yes h) = absurd (takes-long n (sym e ∙ sym (extent-long s desk h)))
+    go (no h) = by (omega arith) (writing s desk) refl (sym (extent-is s desk (omega arith)) ∙ e)
+
+-- a place told: the first sign that can't be written, and no text is put
+pub record Unwritten (s : Bool) (desk : List ℕ) (k : ℕ) : Type 0 where
+  pub within : length desk ≤ 10000
+  pub is : writing s desk ≡ stuck k
+  pub first : FirstAt (writable s) desk k
+  pub none : written s desk ≡ []
+
+pub size-halts : (s : Bool) (desk : List ℕ) (k : ℕ) → extent s desk ≡ Halts k → Unwritten s desk k
+size-halts s desk k e = go (decLt 10000 (length desk))
+  where
+    by : (h : length desk ≤ 10000) (a : Answer) → writing s desk ≡ a → extentOf a ≡ Halts k → Unwritten s desk k
+    by h (said t) p f = absurd (takes-halts (length t) k f)
+    by h (stuck j) p f =
+        let m : j ≡ k = cc in
+        let q : writing s desk ≡ stuck k = p ∙ ap stuck m in
+        record { within = h; is = q; first = unwritable-at s desk k q; none = written-is s desk h ∙ ap textOf p }
+
+    go : Dec (10000 < length desk) → Unwritten s desk k
+    go (yes h) = absurd (halts-long k (sym e ∙ sym (extent-long s desk h)))
+    go (no h) = by (omega arith) (writing s desk) refl (sym (extent-is s desk (omega arith)) ∙ e)
+
+-- too long: over 10,000 bytes, and no text is put
+pub size-long : (s : Bool) (desk : List ℕ) → extent s desk ≡ Long → (10000 < length desk) × (written s desk ≡ [])
+size-long s desk e = go (decLt 10000 (length desk))
+  where
+    by : (a : Answer) → extentOf a ≡ Long → ⊥
+    by (said t) f = takes-long (length t) f
+    by (stuck k) f = halts-long k f
+
+    go : Dec (10000 < length desk) → (10000 < length desk) × (written s desk ≡ [])
+    go (yes h) = (h, written-long s desk h)
+    go (no h) = absurd (by (writing s desk) (sym (extent-is s desk (omega arith)) ∙ e))
+
+-- the text put: where it fits, as many bytes as its size, in their place and nowhere else; else none
+pub put-fits : (out : List ℕ) (at : ℕ) (t : List ℕ) → at + length t ≤ length out → (fitted out at t ≡ length t) × (placed out at t ≡ take at out ++ t ++ drop (at + length t) out)
+unfolding fitted placed
+put-fits out at t h = let e : leb (at + length t) (length out) ≡ true = le-leb (at + length t) (length out) h in (rw e, rw e)
+
+pub put-misses : (out : List ℕ) (at : ℕ) (t : List ℕ) → length out < at + length t → (fitted out at t ≡ 0) × (placed out at t ≡ out)
+unfolding fitted
+put-misses out at t h = (rw (lt-leb (at + length t) (length out) h), placed-not out at t h)
+
+-- two texts put one behind the other are their join put at once
+pub put-behind : (out : List ℕ) (at : ℕ) (t u : List ℕ) → at + length t + length u ≤ length out → placed (placed out at t) (at + length t) u ≡ placed out at (t ++ u)
+put-behind out at t u h =
+    let l : length (sets out at t) ≡ length out = length-sets out at t in
+    ap (λ (o : List ℕ). placed o (at + length t) u) (placed-fits out at t (omega arith))
+    ∙ placed-fits (sets out at t) (at + length t) u (omega arith)
+    ∙ sym (placed-fits out at (t ++ u) (omega (arith, length-append t u)) ∙ sets-append t u out at)
+
+-- ---- pieces of a bank text
+read-same : (m n : ℕ) (y z : Bool) → Read m y ≡ Read n z → y ≡ z
+read-same m n y z e = cc
+
+spoken-append : (t : List ℕ) (s : Bool) (a b : List ℕ) (n : ℕ) (z : Bool) → pieceIn t s a ≡ Read n z → spoken t s (a ++ b) ≡ spoken t s a ++ spoken t z b
+unfolding pieceIn spoken
+spoken-append t s [] b n z e = ap (λ (y : Bool). spoken t y b) (read-same 0 n s z e)
+spoken-append t s (x ∷ a) b n z e = go (ltb (floorOf s) (getD t x 0)) (eqb x 39) e (λ m. spoken-append t s a b m z) (λ m. spoken-append t (not s) a b m z)
+  where
+    more : {X : Type 0} (j : ℕ) (p : Piece) → pieceAfter 1 j p ≡ Read n z → ((m : ℕ) → p ≡ Read m z → X) → X
+    more j (Stops k) e ih = absurd (read-stops n (1 + k) z e)
+    more j (Read m y) e ih = ih m (ap (Read m) (read-same (j + m) n y z e))
+
+    go : (q r : Bool) → pick q (pieceAfter 1 1 (pieceIn t s a)) (pick r (pieceAfter 1 0 (pieceIn t (not s) a)) (Stops 0)) ≡ Read n z
+        → ((m : ℕ) → pieceIn t s a ≡ Read m z → spoken t s (a ++ b) ≡ spoken t s a ++ spoken t z b) → ((m : ℕ) → pieceIn t (not s) a ≡ Read m z → spoken t (not s) (a ++ b) ≡ spoken t (not s) a ++ spoken t z b)
+        → pick q (heardOf s (getD t x 0) x ∷ spoken t s (a ++ b)) (pick r (spoken t (not s) (a ++ b)) [])
+        ≡ pick q (heardOf s (getD t x 0) x ∷ spoken t s a) (pick r (spoken t (not s) a) []) ++ spoken t z b
+    go true r e f g = ap (λ (u : List ℕ). heardOf s (getD t x 0) x ∷ u) (more 1 (pieceIn t s a) e f)
+    go false true e f g = more 0 (pieceIn t (not s) a) e g
+    go false false e f g = absurd (read-stops n 0 z e)
+
+-- a piece and the piece behind it, from the side then, stand for what their join stands for
+pub text-append : (t : List ℕ) (s : Bool) (a b : List ℕ) (n : ℕ) (z : Bool) (m : ℕ) (y : Bool) → pieceIn t s a ≡ Read n z → pieceIn t z b ≡ Read m y → pieceText t s (a ++ b) ≡ pieceText t s a ++ pieceText t z b
+text-append t s a b n z m y e f =
+    text-read t s (a ++ b) (n + m) y (piece-append t s a b ∙ ap (λ (p : Piece). pieceOn (length a) p (λ q. pieceIn t q b)) e ∙ ap (pieceAfter (length a) n) f)
+    ∙ spoken-append t s a b n z e
+    ∙ ap (λ (u : List ℕ). u ++ spoken t z b) (sym (text-read t s a n z e))
+    ∙ ap (λ (u : List ℕ). pieceText t s a ++ u) (sym (text-read t z b m y f))
+
+-- so two pieces put one behind the other are their join put at once
+pub pieces-behind : (t : List ℕ) (s : Bool) (a b : List ℕ) (n : ℕ) (z : Bool) (m : ℕ) (y : Bool) (out : List ℕ) (at : ℕ) → pieceIn t s a ≡ Read n z → pieceIn t z b ≡ Read m y → at + n + m ≤ length out
+    → placed (placed out at (pieceText t s a)) (at + n) (pieceText t z b) ≡ placed out at (pieceText t s (a ++ b))
+pieces-behind t s a b n z m y out at e f h =
+    let i : n ≡ length (pieceText t s a) = text-length t s a n z e in
+    let j : m ≡ length (pieceText t z b) = text-length t z b m y f in
+    ap (λ (k : ℕ). placed (placed out at (pieceText t s a)) (at + k) (pieceText t z b)) i
+    ∙ put-behind out at (pieceText t s a) (pieceText t z b) (omega arith)
+    ∙ ap (placed out at) (sym (text-append t s a b n z m y e f))
+
+-- by the table of codes: what the alphabets read
+got-same : (u v : List ℕ) (y z : Bool) → got u y ≡ got v z → u ≡ v
+got-same u v y z e = cc
+
+not-got : (k : ℕ) (u : List ℕ) (z : Bool) → halted k ≡ got u z → ⊥
+not-got k u z e = let w : _≡_ {A = ℕ} 0 1 = cc in omega arith
+
+spoken-codes : (s : Bool) (b u : List ℕ) (z : Bool) → partly s b ≡ got u z → spoken codes s b ≡ u
+unfolding partly spoken
+spoken-codes s [] u z e = got-same [] u s z e
+spoken-codes s (x ∷ xs) u z e = go (ltb (floorOf s) (getD codes x 0)) refl (eqb x 39) refl e (λ v. spoken-codes s xs v z) (λ v. spoken-codes (not s) xs v z)
+  where
+    beyond-got : (p : Partly) → beyond p ≡ got u z → p ≡ got u z
+    beyond-got (got v y) e = e
+    beyond-got (halted k) e = absurd (not-got (suc k) u z e)
+
+    joined : (y h : ℕ) (l : List ℕ) (p : Partly) → y ≡ h → joining y p ≡ got u z → ((v : List ℕ) → p ≡ got v z → l ≡ v) → h ∷ l ≡ u
+    joined zero h l p q e ih = absurd (not-got 0 u z e)
+    joined (suc y) h l (halted k) q e ih = absurd (not-got (suc k) u z e)
+    joined (suc y) h l (got v w) q e ih =
+        let f : w ≡ z = cc in
+        ap (λ (j : ℕ). j ∷ l) (sym q) ∙ ap (λ (r : List ℕ). suc y ∷ r) (ih v (ap (got v) f)) ∙ got-same (suc y ∷ v) u w z e
+
+    go : (q : Bool) → ltb (floorOf s) (getD codes x 0) ≡ q → (r : Bool) → eqb x 39 ≡ r → pick r (beyond (partly (not s) xs)) (joining (sign s x) (partly s xs)) ≡ got u z
+        → ((v : List ℕ) → partly s xs ≡ got v z → spoken codes s xs ≡ v) → ((v : List ℕ) → partly (not s) xs ≡ got v z → spoken codes (not s) xs ≡ v)
+        → pick q (heardOf s (getD codes x 0) x ∷ spoken codes s xs) (pick r (spoken codes (not s) xs) []) ≡ u
+    go true l r k e f g =
+        let w : Heard s x = heard-above s x (rw (same-floor s) at (ltb-true (floorOf s) (getD codes x 0) l)) in
+        let n : r ≡ false = sym k ∙ ne-eqb x 39 (w .no-mark) in
+        joined (sign s x) (heardOf s (getD codes x 0) x) (spoken codes s xs) (partly s xs) (w .is ∙ sym (same-heard s (getD codes x 0) x))
+        (ap (λ (q : Bool). pick q (beyond (partly (not s) xs)) (joining (sign s x) (partly s xs))) (sym n) ∙ e) f
+    go false l true k e f g = g u (beyond-got (partly (not s) xs) e)
+    go false l false k e f g =
+        let y : sign s x ≡ 0 = heard-below s x (rw (same-floor s) at (ltb-false (floorOf s) (getD codes x 0) l)) (eqb-false x 39 k) in
+        absurd (not-got 0 u z (ap (λ (n : ℕ). joining n (partly s xs)) (sym y) ∙ e))
+
+pub text-codes : (s : Bool) (b u : List ℕ) (z : Bool) → partly s b ≡ got u z → pieceText codes s b ≡ u
+text-codes s b u z e = text-read codes s b (length u) z (piece-codes s b ∙ ap pieceOf e) ∙ spoken-codes s b u z e
+
+-- a whole bank text, as one piece from the Russian side, stands for what it says
+pub text-whole : (b d : List ℕ) → reads false b ≡ said d → pieceText codes false b ≡ d
+text-whole b d e = go (partly false b) refl (sym (reads-partly false b) ∙ e)
+  where
+    go : (p : Partly) → partly false b ≡ p → whole (length b) p ≡ said d → pieceText codes false b ≡ d
+    go (halted k) q f = absurd (not-said k d f)
+    go (got u true) q f = absurd (not-said (length b) d f)
+    go (got u false) q f = let m : u ≡ d = cc in text-codes false b u false q ∙ m
