@@ -5,21 +5,16 @@ use mathlib.Core.Bool.{Bool, true, false, not, _&&_, _||_, and-true}
 use mathlib.Core.List.{List, [], _∷_}
 use native.Mathlib.Omega.{arith}
 use native.Mathlib.Numerals.{add-one}
-use lib.Dec.{eqb}
+use lib.Dec.{eqb, ltb}
 use lib.ListN.{length, getD, take, drop, drop-of-length-le, length-drop}
 use lib.Seq.{drop-cons, drop-drop}
-use borrow.Author.Tests.{eq-eqb, ne-eqb, eqb-true, eqb-false}
+use borrow.Author.Tests.{lt-ltb, le-ltb, eq-eqb, ne-eqb, eqb-true, eqb-false}
 use Rattle.base.specs.Choice.{pick}
-use Rattle.base.specs.Bytes.{byte, digit, empty, same}
+use Rattle.base.specs.Bytes.{byte, digit, begins, empty, same}
 use Rattle.formats.specs.Format.{member, run, counted, apart, notPlus, meets, fits}
 
 -- ---- runs
--- at the end of the text, and behind the most bytes, there is none
-pub run-end : (c n : ℕ) (s : List ℕ) (i : ℕ) → length s ≤ i → run c n (drop i s) ≡ 0
-unfolding run
-run-end c zero s i h = refl
-run-end c (suc n) s i h = ap (run c (suc n)) (drop-of-length-le s h)
-
+-- behind the most bytes there is none
 pub run-full : (c n k : ℕ) (s : List ℕ) → n ≤ k → run c (n - k) s ≡ 0
 unfolding run
 run-full c n k s h = let z : n - k ≡ 0 = omega arith in ap (λ (j : ℕ). run c j s) z
@@ -35,29 +30,57 @@ run-next c n k s at b h l q =
     ∙ ap (λ (u : Bool). pick u (suc (run c (n - (k + 1)) (drop (suc (at + k)) s))) 0) q
     ∙ ap (λ (m : ℕ). pick b (suc (run c (n - (k + 1)) (drop m s))) 0) e
 
+-- digits in two numbers are digits
+either-run : (n : ℕ) (s : List ℕ) → run 132 n s ≡ run 137 n s
+unfolding run member
+either-run zero s = refl
+either-run (suc n) [] = refl
+either-run (suc n) (b ∷ s) = ap (λ (k : ℕ). pick (digit b) (suc k) 0) (either-run n s)
+
+pub run-either : (c n : ℕ) (s : List ℕ) → c ≡ 137 → run 132 n s ≡ run c n s
+run-either c n s e = either-run n s ∙ ap (λ (x : ℕ). run x n s) (sym e)
+
+-- bytes past the end take no part
+within : (c n m : ℕ) (l : List ℕ) → m ≤ n → (m < n → length l ≤ m) → run c m l ≡ run c n l
+unfolding run
+within c zero zero l h f = refl
+within c zero (suc m) l h f = absurd (omega arith)
+within c (suc n) zero [] h f = refl
+within c (suc n) zero (b ∷ l) h f = absurd (omega (arith, f (omega arith)))
+within c (suc n) (suc m) [] h f = refl
+within c (suc n) (suc m) (b ∷ l) h f = ap (λ (k : ℕ). pick (member c b) (suc k) 0) (within c n m l (omega arith) (λ k. omega (arith, f (omega arith))))
+
+pub run-least : (c n m : ℕ) (s : List ℕ) (i : ℕ) → m ≤ n → (m < n → length s - i ≤ m) → run c m (drop i s) ≡ run c n (drop i s)
+run-least c n m s i h f = within c n m (drop i s) h (λ k. simp length-drop (f k))
+
 pub is-digits : (x : ℕ) → member 132 x ≡ digit x
 unfolding member
 is-digits x = refl
 
--- any bytes: all there are, or the most
-any-short : (n : ℕ) (s : List ℕ) → length s ≤ n → length s ≡ run 136 n s
+-- a digit more, and one more behind k of them
+a-digit : (n m : ℕ) (s : List ℕ) (i j : ℕ) → suc n ≡ m → suc i ≡ j → i < length s → digit (getD s i 0) ≡ true → run 132 m (drop i s) ≡ suc (run 132 n (drop j s))
+unfolding run
+a-digit n m s i j em ej h e =
+    ap₂ (run 132) (sym em) (drop-cons s i 0 h)
+    ∙ ap (λ (u : Bool). pick u (suc (run 132 n (drop (suc i) s))) 0) (is-digits (getD s i 0) ∙ e)
+    ∙ ap (λ (k : ℕ). suc (run 132 n (drop k s))) ej
+
+pub run-on : (k : ℕ) (s : List ℕ) (i : ℕ) → ((n : ℕ) → run 132 (k + n) (drop i s) ≡ k + run 132 n (drop (i + k) s)) → i + k < length s → digit (getD s (i + k) 0) ≡ true
+    → (n : ℕ) → run 132 (k + 1 + n) (drop i s) ≡ k + 1 + run 132 n (drop (i + (k + 1)) s)
+run-on k s i f h e n =
+    let z : k + 1 + n ≡ k + (1 + n) = omega arith in
+    let p : run 132 (1 + n) (drop (i + k) s) ≡ suc (run 132 n (drop (i + (k + 1)) s)) = a-digit n (1 + n) s (i + k) (i + (k + 1)) (omega arith) (omega arith) h e in
+    ap (λ (m : ℕ). run 132 m (drop i s)) z ∙ f (1 + n) ∙ omega (arith, p)
+
+-- any bytes: as many as there are to take
+any-bytes : (n : ℕ) (s : List ℕ) → n ≤ length s → n ≡ run 136 n s
 unfolding run member
-any-short zero [] h = refl
-any-short zero (b ∷ s) h = absurd (omega arith)
-any-short (suc n) [] h = refl
-any-short (suc n) (b ∷ s) h = ap suc (any-short n s (omega arith))
+any-bytes zero s h = refl
+any-bytes (suc n) [] h = absurd (omega arith)
+any-bytes (suc n) (b ∷ s) h = ap suc (any-bytes n s (omega arith))
 
-any-long : (n : ℕ) (s : List ℕ) → n ≤ length s → n ≡ run 136 n s
-unfolding run member
-any-long zero s h = refl
-any-long (suc n) [] h = absurd (omega arith)
-any-long (suc n) (b ∷ s) h = ap suc (any-long n s (omega arith))
-
-pub run-short : (c n : ℕ) (s : List ℕ) (i : ℕ) → c ≡ 136 → length s - i ≤ n → length s - i ≡ run c n (drop i s)
-run-short c n s i e h = sym (length-drop i s) ∙ any-short n (drop i s) (simp length-drop h) ∙ ap (λ (x : ℕ). run x n (drop i s)) (sym e)
-
-pub run-long : (c n : ℕ) (s : List ℕ) (i : ℕ) → c ≡ 136 → n ≤ length s - i → n ≡ run c n (drop i s)
-run-long c n s i e h = any-long n (drop i s) (simp length-drop h) ∙ ap (λ (x : ℕ). run x n (drop i s)) (sym e)
+pub run-any : (c n : ℕ) (s : List ℕ) (i : ℕ) → c ≡ 136 → i + n ≤ length s → n ≡ run c n (drop i s)
+run-any c n s i e h = any-bytes n (drop i s) (simp length-drop (omega arith)) ∙ ap (λ (x : ℕ). run x n (drop i s)) (sym e)
 
 -- ---- items
 three : (f : List ℕ) (j : ℕ) → j + 3 ≤ length f → drop j f ≡ getD f j 0 ∷ getD f (j + 1) 0 ∷ getD f (j + 2) 0 ∷ drop (j + 3) f
@@ -73,11 +96,12 @@ three f j h =
 -- what an item says, c its class and f the format behind it
 abbrev said : ℕ → ℕ → ℕ → List ℕ → List ℕ → Bool
 said c a n f s =
-    pick (eqb c 128) (empty s)
+    pick (ltb c 128) (begins c s && fits f (drop 1 s))
+    (pick (eqb c 128) (empty s)
     (pick (eqb c 129) true
     (pick (eqb c 130) (empty s || fits f s)
     (pick (eqb c 131) (meets a s && fits f s)
-    (counted c a n (run c n s) && fits f (drop (run c n s) s)))))
+    (counted c a n (run c n s) && fits f (drop (run c n s) s))))))
 
 item : (f : List ℕ) (j : ℕ) (s : List ℕ) → 3 * j + 3 ≤ length f
     → fits (drop (3 * j) f) s ≡ said (getD f (3 * j) 0) (getD f (3 * j + 1) 0) (getD f (3 * j + 2) 0) (drop (3 * (j + 1)) f) s
@@ -99,31 +123,50 @@ at-end s i b k e = go (drop i s) b (length-drop i s) e
 -- by the item's class: what the rest of the text must fit
 module _ (f : List ℕ) (j : ℕ) (s : List ℕ) (i : ℕ) (h : 3 * j + 3 ≤ length f) (k : i ≤ length s) where
   pub fits-stop : (b : Bool) → getD f (3 * j) 0 ≡ 128 → eqb i (length s) ≡ b → fits (drop (3 * j) f) (drop i s) ≡ b
-  fits-stop b e q = item f j (drop i s) h ∙ simp (eq-eqb _ _ e) (at-end s i b k q)
+  fits-stop b e q = item f j (drop i s) h ∙ simp (le-ltb (getD f (3 * j) 0) 128 (omega arith), eq-eqb _ _ e) (at-end s i b k q)
 
   pub fits-rest : (getD f (3 * j) 0 ≡ 128 → ⊥) → getD f (3 * j) 0 ≡ 129 → fits (drop (3 * j) f) (drop i s) ≡ true
-  fits-rest e₁ e = item f j (drop i s) h ∙ simp (ne-eqb _ _ e₁, eq-eqb _ _ e)
+  fits-rest e₁ e = item f j (drop i s) h ∙ simp (le-ltb (getD f (3 * j) 0) 128 (omega arith), ne-eqb _ _ e₁, eq-eqb _ _ e)
 
   pub fits-perhaps : (b : Bool) → (getD f (3 * j) 0 ≡ 128 → ⊥) → (getD f (3 * j) 0 ≡ 129 → ⊥) → getD f (3 * j) 0 ≡ 130 → eqb i (length s) ≡ b
       → fits (drop (3 * j) f) (drop i s) ≡ (b || fits (drop (3 * (j + 1)) f) (drop i s))
-  fits-perhaps b e₁ e₂ e q = item f j (drop i s) h ∙ simp (ne-eqb _ _ e₁, ne-eqb _ _ e₂, eq-eqb _ _ e, at-end s i b k q)
+  fits-perhaps b e₁ e₂ e q = item f j (drop i s) h ∙ simp (le-ltb (getD f (3 * j) 0) 128 (omega arith), ne-eqb _ _ e₁, ne-eqb _ _ e₂, eq-eqb _ _ e, at-end s i b k q)
 
   pub fits-such : (b : Bool) → (getD f (3 * j) 0 ≡ 128 → ⊥) → (getD f (3 * j) 0 ≡ 129 → ⊥) → (getD f (3 * j) 0 ≡ 130 → ⊥) → getD f (3 * j) 0 ≡ 131
       → meets (getD f (3 * j + 1) 0) (drop i s) ≡ b → fits (drop (3 * j) f) (drop i s) ≡ (b && fits (drop (3 * (j + 1)) f) (drop i s))
-  fits-such b e₁ e₂ e₃ e q = item f j (drop i s) h ∙ simp (ne-eqb _ _ e₁, ne-eqb _ _ e₂, ne-eqb _ _ e₃, eq-eqb _ _ e, q)
+  fits-such b e₁ e₂ e₃ e q = item f j (drop i s) h ∙ simp (le-ltb (getD f (3 * j) 0) 128 (omega arith), ne-eqb _ _ e₁, ne-eqb _ _ e₂, ne-eqb _ _ e₃, eq-eqb _ _ e, q)
 
   -- a and n are the item's numbers, r its run, v whether that is as many as it asks for
-  pub fits-run : (b v : Bool) (r a n : ℕ) → (getD f (3 * j) 0 ≡ 128 → ⊥) → (getD f (3 * j) 0 ≡ 129 → ⊥) → (getD f (3 * j) 0 ≡ 130 → ⊥)
+  pub fits-run : (b v : Bool) (r a n : ℕ) → 128 ≤ getD f (3 * j) 0 → (getD f (3 * j) 0 ≡ 128 → ⊥) → (getD f (3 * j) 0 ≡ 129 → ⊥) → (getD f (3 * j) 0 ≡ 130 → ⊥)
       → (getD f (3 * j) 0 ≡ 131 → ⊥) → a ≡ getD f (3 * j + 1) 0 → n ≡ getD f (3 * j + 2) 0 → r ≡ run (getD f (3 * j) 0) n (drop i s)
       → v ≡ counted (getD f (3 * j) 0) a n r → v ≡ b
       → fits (drop (3 * j) f) (drop i s) ≡ (b && fits (drop (3 * (j + 1)) f) (drop (i + r) s))
-  fits-run b v r a n e₁ e₂ e₃ e₄ ea en er ev eb =
+  fits-run b v r a n e₀ e₁ e₂ e₃ e₄ ea en er ev eb =
       let p : r ≡ run (getD f (3 * j) 0) (getD f (3 * j + 2) 0) (drop i s) = er ∙ ap (λ (x : ℕ). run (getD f (3 * j) 0) x (drop i s)) en in
       let q : counted (getD f (3 * j) 0) (getD f (3 * j + 1) 0) (getD f (3 * j + 2) 0) r ≡ b = sym (ap₂ (λ (x y : ℕ). counted (getD f (3 * j) 0) x y r) ea en) ∙ sym ev ∙ eb in
       item f j (drop i s) h
-      ∙ simp (ne-eqb _ _ e₁, ne-eqb _ _ e₂, ne-eqb _ _ e₃, ne-eqb _ _ e₄)
+      ∙ simp (le-ltb (getD f (3 * j) 0) 128 e₀, ne-eqb _ _ e₁, ne-eqb _ _ e₂, ne-eqb _ _ e₃, ne-eqb _ _ e₄)
       (ap (λ (x : ℕ). counted (getD f (3 * j) 0) (getD f (3 * j + 1) 0) (getD f (3 * j + 2) 0) x && fits (drop (3 * (j + 1)) f) (drop x (drop i s))) (sym p)
       ∙ ap₂ (λ (u : Bool) (l : List ℕ). u && fits (drop (3 * (j + 1)) f) l) q (drop-drop r i s))
+
+  -- a byte of a word: it stands there, or another, or none
+  module _ (hc : getD f (3 * j) 0 < 128) where
+    letter : i < length s → (b : Bool) → eqb (getD s i 0) (getD f (3 * j) 0) ≡ b → fits (drop (3 * j) f) (drop i s) ≡ (b && fits (drop (3 * (j + 1)) f) (drop (i + 1) s))
+    letter l b e =
+        item f j (drop i s) h
+        ∙ simp (lt-ltb (getD f (3 * j) 0) 128 hc) (ap (λ (t : List ℕ). begins (getD f (3 * j) 0) t && fits (drop (3 * (j + 1)) f) (drop 1 t)) (drop-cons s i 0 l)
+        ∙ ap₂ (λ (t : Bool) (n : ℕ). t && fits (drop (3 * (j + 1)) f) (drop n s)) e (sym (add-one i)))
+
+    pub letter-yes : i < length s → getD s i 0 ≡ getD f (3 * j) 0 → fits (drop (3 * j) f) (drop i s) ≡ fits (drop (3 * (j + 1)) f) (drop (i + 1) s)
+    letter-yes l e = letter l true (eq-eqb _ _ e)
+
+    pub letter-no : i < length s → (getD s i 0 ≡ getD f (3 * j) 0 → ⊥) → fits (drop (3 * j) f) (drop i s) ≡ false
+    letter-no l e = letter l false (ne-eqb _ _ e)
+
+    pub letter-none : i ≡ length s → fits (drop (3 * j) f) (drop i s) ≡ false
+    letter-none e =
+        item f j (drop i s) h
+        ∙ simp (lt-ltb (getD f (3 * j) 0) 128 hc) (ap (λ (t : List ℕ). begins (getD f (3 * j) 0) t && fits (drop (3 * (j + 1)) f) (drop 1 t)) (drop-of-length-le s {i = i} (omega arith)))
 
 -- fewer than three numbers are left
 short : (f : List ℕ) (s : List ℕ) → length f < 3 → fits f s ≡ false

@@ -5,7 +5,7 @@ use mathlib.Core.List.{List, [], _∷_}
 use lib.Dec.{eqb, leb, ltb}
 use lib.ListN.{take, drop}
 use Rattle.base.specs.Choice.{pick}
-use Rattle.base.specs.Bytes.{byte, between, digit, capital, empty, same}
+use Rattle.base.specs.Bytes.{byte, between, digit, capital, begins, empty, same}
 use Rattle.base.specs.Quoted.{bytes}
 use Rattle.formats.specs.Words.{ofStop, ofRest, ofPerhaps, ofSuch, ofDigit, ofCapital, ofSign, ofOther, ofAny, ofDigitOr, parted, unlikePlus, wayOfPayment, purposeNumber}
 
@@ -15,13 +15,12 @@ sign b = capital b || digit b
 
 unfoldable pub member : ℕ → ℕ → Bool
 member c b =
-    pick (ltb c ofStop) (eqb b c)
-    (pick (eqb c ofDigit) (digit b)
+    pick (eqb c ofDigit) (digit b)
     (pick (eqb c ofCapital) (capital b)
     (pick (eqb c ofSign) (sign b)
     (pick (eqb c ofOther) (not (eqb b 47))
     (pick (eqb c ofAny) true
-    (pick (eqb c ofDigitOr) (digit b) false))))))
+    (pick (eqb c ofDigitOr) (digit b) false)))))
 
 -- how many bytes at the front are of class c, and no more than n
 unfoldable pub run : ℕ → ℕ → List ℕ → ℕ
@@ -68,11 +67,12 @@ fits [] s = false
 fits (c ∷ []) s = false
 fits (c ∷ a ∷ []) s = false
 fits (c ∷ a ∷ n ∷ f) s =
-    pick (eqb c ofStop) (empty s)
+    pick (ltb c ofStop) (begins c s && fits f (drop 1 s))
+    (pick (eqb c ofStop) (empty s)
     (pick (eqb c ofRest) true
     (pick (eqb c ofPerhaps) (empty s || fits f s)
     (pick (eqb c ofSuch) (meets a s && fits f s)
-    (counted c a n (run c n s) && fits f (drop (run c n s) s)))))
+    (counted c a n (run c n s) && fits f (drop (run c n s) s))))))
 
 -- the format whose first item is item k of a table
 abbrev pub formatAt : List ℕ → ℕ → List ℕ

@@ -1,11 +1,11 @@
 -- The words that line formats are written with. Each is a row of items, three numbers an item: a class, the fewest and the most bytes of it.
--- A format is its words joined, and is the table that code reads. Assumes nothing.
+-- An item whose first number is below 128 is just that byte. A format is its words joined, and is the table that code reads. Assumes nothing.
 use Prim.Native.Nat.{ℕ}
 use Prim.Native.String.{String}
 use mathlib.Core.List.{List, [], _∷_}
 use Rattle.base.specs.Quoted.{bytes}
 
--- ---- classes; a number below 128 is the class of that byte alone
+-- ---- classes
 abbrev pub ofStop : ℕ
 ofStop = 128
 
@@ -54,7 +54,7 @@ such k = ofSuch ∷ k ∷ 0 ∷ []
 -- just this text
 abbrev pub each : List ℕ → List ℕ
 each [] = []
-each (b ∷ s) = b ∷ 1 ∷ 1 ∷ each s
+each (b ∷ s) = b ∷ 0 ∷ 0 ∷ each s
 
 abbrev pub text : String → List ℕ
 text s = each (bytes s)
@@ -80,9 +80,9 @@ signs n = ofSign ∷ n ∷ n ∷ []
 abbrev pub noSlash : List ℕ
 noSlash = ofOther ∷ 1 ∷ 1 ∷ []
 
--- from a to n bytes; that they are of the set is 3, which comes before
-abbrev pub any : ℕ → ℕ → List ℕ
-any a n = ofAny ∷ a ∷ n ∷ []
+-- a byte; that it is of the set is 3, which comes before
+abbrev pub any : List ℕ
+any = ofAny ∷ 1 ∷ 1 ∷ []
 
 -- ---- conditions: the slashes of C20, not + alone, a way of payment (Crpp), a number of C26T
 abbrev pub parted : ℕ

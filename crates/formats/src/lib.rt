@@ -1,7 +1,10 @@
 // Line formats as tables of numbers, and one matcher for them all.
 ghost use mathlib.Core.Path.{_≡_};
-ghost use Prim.Native.Nat.{_+_, _≤_};
+ghost use mathlib.Core.Bool.{true};
+ghost use Prim.Native.Nat.{ℕ, _+_, _-_, _≤_, _<_};
+ghost use mathlib.Core.List.{List};
 ghost use lib.ListN.{length, drop};
+ghost use Rattle.base.specs.Bytes.{digit};
 ghost use Rattle.formats.specs.Format.{sign, member, run, counted, meets, fits, formatAt};
 use base::bytes::is_capital;
 use base::bytes::is_digit;
@@ -28,9 +31,6 @@ fn is_sign(b: u8) -> bool
 pub fn is_of(c: u8, b: u8) -> bool
     ensures { λ r. ⌜ r ≡ member c b ⌝ }
 {
-    if c < 128 {
-        return b == c;
-    }
     if c == 132 {
         return is_digit(b);
     }
@@ -52,18 +52,44 @@ pub fn is_of(c: u8, b: u8) -> bool
     false
 }
 
-// How many bytes from at on are digits, and no more than n: the commonest class, in a loop that makes no choice of class.
-pub fn run_digits(n: usize, s: &[u8], at: usize) -> usize
-    ensures { λ r. ⌜ r ≡ run 132 n (drop at (now (s .entry))) ⌝ }
+// w digits: no way out before the last, so that they are tested at once.
+fn are_digits(w: usize, s: &[u8], i: usize) -> bool
+    requires { ⌜ i + w ≤ length (now s) ⌝ }
+    ensures { λ r. ⌜ (r ≡ true → (n : ℕ) → run 132 (w + n) (drop i (now (s .entry))) ≡ w + run 132 n (drop (i + w) (now (s .entry)))) ⌝ }
 {
-    if s.len() < at {
-        return 0;
-    }
+    let mut fine = true;
     let mut k = 0;
-    while k < n {
-        if s.len() <= at + k {
+    while k < w {
+        if !is_digit(s[i + k]) {
+            fine = false;
+        }
+        k += 1;
+    }
+    fine
+}
+
+// How many of n bytes are digits, the first of them passed already, as far as w at a time go.
+fn digits_by(w: usize, n: usize, s: &[u8], at: usize, passed: usize) -> usize
+    requires { ⌜ (1 ≤ w) × (at + n ≤ length (now s)) × (passed ≤ n) ⌝ }
+    ensures { λ r. ⌜ (r ≤ n) × (r + run 132 (n - r) (drop (at + r) (now (s .entry))) ≡ passed + run 132 (n - passed) (drop (at + passed) (now (s .entry)))) ⌝ }
+{
+    let mut k = passed;
+    while w <= n - k {
+        if !are_digits(w, s, at + k) {
             return k;
         }
+        k += w;
+    }
+    k
+}
+
+// The same to their end, a byte a turn.
+fn digits_from(n: usize, s: &[u8], at: usize, passed: usize) -> usize
+    requires { ⌜ (at + n ≤ length (now s)) × (passed ≤ n) ⌝ }
+    ensures { λ r. ⌜ (r ≤ n) × (r ≡ passed + run 132 (n - passed) (drop (at + passed) (now (s .entry)))) ⌝ }
+{
+    let mut k = passed;
+    while k < n {
         if !is_digit(s[at + k]) {
             return k;
         }
@@ -72,32 +98,71 @@ pub fn run_digits(n: usize, s: &[u8], at: usize) -> usize
     k
 }
 
-// How many bytes from at on are of class c, and no more than n.
-fn run_of(c: u8, n: usize, s: &[u8], at: usize) -> usize
-    requires { ⌜ at ≤ length (now s) ⌝ }
-    ensures { λ r. ⌜ (r ≡ run c n (drop at (now (s .entry)))) × (at + r ≤ length (now (s .entry))) ⌝ }
+// How many of n bytes are digits: the commonest class, sixteen, four and one at a time.
+fn run_digits(n: usize, s: &[u8], at: usize) -> usize
+    requires { ⌜ at + n ≤ length (now s) ⌝ }
+    ensures { λ r. ⌜ (r ≤ n) × (r ≡ run 132 n (drop at (now (s .entry)))) ⌝ }
 {
-    if c == 132 {
-        return run_digits(n, s, at);
-    }
-    if c == 136 {
-        let left = s.len() - at;
-        if left < n {
-            return left;
-        }
-        return n;
-    }
+    digits_from(n, s, at, digits_by(4, n, s, at, digits_by(16, n, s, at, 0)))
+}
+
+// How many of n bytes are of class c: a byte a turn.
+fn run_each(c: u8, n: usize, s: &[u8], at: usize) -> usize
+    requires { ⌜ at + n ≤ length (now s) ⌝ }
+    ensures { λ r. ⌜ (r ≤ n) × (r ≡ run c n (drop at (now (s .entry)))) ⌝ }
+{
     let mut k = 0;
     while k < n {
-        if s.len() <= at + k {
-            return k;
-        }
         if !is_of(c, s[at + k]) {
             return k;
         }
         k += 1;
     }
     k
+}
+
+// A class of digits.
+fn is_of_digits(c: u8) -> bool
+    ensures { λ r. ⌜ (r ≡ true → (n : ℕ) (s : List ℕ) → run 132 n s ≡ run c n s) ⌝ }
+{
+    if c == 132 {
+        return true;
+    }
+    c == 137
+}
+
+// The same, by the class.
+fn run_of(c: u8, n: usize, s: &[u8], at: usize) -> usize
+    requires { ⌜ at + n ≤ length (now s) ⌝ }
+    ensures { λ r. ⌜ (r ≤ n) × (r ≡ run c n (drop at (now (s .entry)))) ⌝ }
+{
+    if is_of_digits(c) {
+        return run_digits(n, s, at);
+    }
+    if c == 133 {
+        return run_each(133, n, s, at);
+    }
+    if c == 134 {
+        return run_each(134, n, s, at);
+    }
+    if c == 136 {
+        return n;
+    }
+    run_each(c, n, s, at)
+}
+
+fn least(a: usize, b: usize) -> usize
+    ensures { λ r. ⌜ (r ≤ a) × (r ≤ b) × (r < a → b ≤ r) ⌝ }
+{
+    if a < b { a } else { b }
+}
+
+// How many bytes from at on are of class c, and no more than n.
+fn run_from(c: u8, n: usize, s: &[u8], at: usize) -> usize
+    requires { ⌜ at ≤ length (now s) ⌝ }
+    ensures { λ r. ⌜ (r ≡ run c n (drop at (now (s .entry)))) × (at + r ≤ length (now (s .entry))) ⌝ }
+{
+    run_of(c, least(n, s.len() - at), s, at)
 }
 
 fn is_counted(c: u8, a: usize, n: usize, r: usize) -> bool
@@ -129,6 +194,17 @@ pub fn has_format(f: &[u8], k: usize, s: &[u8]) -> bool
     while j < f.len() / 3 {
         let i = 3 * j;
         let c = f[i];
+        if c < 128 {
+            if at == s.len() {
+                return false;
+            }
+            if s[at] != c {
+                return false;
+            }
+            at += 1;
+            j += 1;
+            continue;
+        }
         if c == 128 {
             return at == s.len();
         }
@@ -150,7 +226,7 @@ pub fn has_format(f: &[u8], k: usize, s: &[u8]) -> bool
             continue;
         }
         let n = size(f[i + 2]);
-        let r = run_of(c, n, s, at);
+        let r = run_from(c, n, s, at);
         if !is_counted(c, size(f[i + 1]), n, r) {
             return false;
         }

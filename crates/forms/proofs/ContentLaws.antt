@@ -9,7 +9,7 @@ use lib.Dec.{eqb}
 use lib.ListN.{length, drop}
 use borrow.Author.Tests.{eqb-true, eqb-false}
 use Rattle.base.specs.Choice.{pick, all}
-use Rattle.base.specs.Bytes.{digit, capital, begins, empty, without, same}
+use Rattle.base.specs.Bytes.{begins, empty, without, same}
 use Rattle.base.specs.Quoted.{bytes}
 use Rattle.base.specs.declared.Verdict.the-variants.{Fine, Broken}
 use Rattle.fields.specs.Field.{Field, field, fields}
@@ -17,16 +17,16 @@ use Rattle.fields.specs.Places.{startOf}
 use Rattle.fields.specs.ByLines.{joined}
 use Rattle.types.specs.Form.{Place, must, placesOf, forms, form103, form202}
 use Rattle.types.specs.Walk.{find, walked}
+use Rattle.types.specs.Sign.{firstLine, signOf}
 use Rattle.types.specs.Tables.{tagsOf}
 use Rattle.types.proofs.WalkLaws.{Seated, Accepted, seated, walked-accepted}
 use Rattle.types.proofs.TableLaws.{no-form}
-use Rattle.formats.specs.Format.{member, run, counted, apart, notPlus, wayFirst, purpose, meets, fits}
-use Rattle.machine.specs.Machine.{cell, endsAt, nextAt, beginsAs, tookOf, took, right}
+use Rattle.machine.specs.Machine.{cell, endsAt, right}
 use Rattle.machine.proofs.LineLaws.{lines-joined}
 use Rattle.forms.specs.Formats.{formats}
 use Rattle.forms.specs.States.{rows, dead}
 use Rattle.forms.specs.FieldRules.{WrongAt}
-use Rattle.forms.specs.Contents.{Start, on, starts103, starts202, stateIn, startsOf, stateOf, firstLine, signOf, rightField, rule8, rightContent}
+use Rattle.forms.specs.Contents.{Start, on, starts103, starts202, stateIn, startsOf, stateOf, rightField, rule8, rightContent}
 use Rattle.forms.proofs.FieldRules.{fine-iff, broken-iff}
 
 -- ---- 8 in words
@@ -92,28 +92,26 @@ same-tags kind sign = go (eqb kind 103) (eqb kind 202) refl refl
     go false true p q = tags-202 sign ∙ ap (λ (k : ℕ). tagsIn (placesOf k)) (sym (eqb-true kind 202 q))
     go false false p q = sym (ap tagsIn (no-form kind (eqb-false kind 103 p) (eqb-false kind 202 q)))
 
--- ---- no right content is empty: no field may end where it starts, and no empty line comes first
+-- ---- no right content is empty: no field may end where it starts, and no line is empty
 abbrev Opens : ℕ → Type 0
-Opens q = (endsAt rows q ≡ false) × (took formats rows q [] ≡ 0)
+Opens q = endsAt rows q ≡ false
 
 opens : (kind : ℕ) (sign : Bool) (t : List ℕ) → Opens (stateOf kind sign t)
-unfolding starts103 starts202 formats rows cell tookOf beginsAs fits member run counted meets apart notPlus same wayFirst purpose digit capital
-opens = each-start Opens (refl, refl) by103 by202
+unfolding starts103 starts202 rows cell
+opens = each-start Opens refl by103 by202
   where
     by103 : (sign : Bool) → EachStart Opens (starts103 sign)
-    by103 true = ((refl, refl), ((refl, refl), ((refl, refl), ((refl, refl), ((refl, refl), ((refl, refl), ((refl, refl), ((refl, refl), ((refl, refl), ((refl, refl), ((refl, refl), ((refl, refl), ((refl, refl), ((refl, refl), ((refl, refl), ((refl, refl), tt))))))))))))))))
-    by103 false = ((refl, refl), ((refl, refl), ((refl, refl), ((refl, refl), ((refl, refl), ((refl, refl), ((refl, refl), ((refl, refl), ((refl, refl), ((refl, refl), ((refl, refl), ((refl, refl), ((refl, refl), ((refl, refl), ((refl, refl), ((refl, refl), tt))))))))))))))))
+    by103 true = (refl, (refl, (refl, (refl, (refl, (refl, (refl, (refl, (refl, (refl, (refl, (refl, (refl, (refl, (refl, (refl, tt))))))))))))))))
+    by103 false = (refl, (refl, (refl, (refl, (refl, (refl, (refl, (refl, (refl, (refl, (refl, (refl, (refl, (refl, (refl, (refl, tt))))))))))))))))
 
     by202 : (sign : Bool) → EachStart Opens (starts202 sign)
-    by202 true = ((refl, refl), ((refl, refl), ((refl, refl), ((refl, refl), ((refl, refl), ((refl, refl), ((refl, refl), ((refl, refl), ((refl, refl), ((refl, refl), ((refl, refl), ((refl, refl), tt))))))))))))
-    by202 false = ((refl, refl), ((refl, refl), ((refl, refl), ((refl, refl), ((refl, refl), ((refl, refl), ((refl, refl), ((refl, refl), ((refl, refl), ((refl, refl), ((refl, refl), ((refl, refl), tt))))))))))))
+    by202 true = (refl, (refl, (refl, (refl, (refl, (refl, (refl, (refl, (refl, (refl, (refl, (refl, tt))))))))))))
+    by202 false = (refl, (refl, (refl, (refl, (refl, (refl, (refl, (refl, (refl, (refl, (refl, (refl, tt))))))))))))
 
 pub right-nonempty : (kind : ℕ) (sign : Bool) (t : List ℕ) (ls : List (List ℕ)) → rightField kind sign (field t ls) ≡ true → empty (firstLine ls) ≡ false
 unfolding rightField right
-right-nonempty kind sign t [] e = absurd (false≢true (sym (opens kind sign t .0) ∙ e))
-right-nonempty kind sign t ([] ∷ ls) e =
-    let q = stateOf kind sign t in
-    absurd (false≢true (sym (ap (λ (w : ℕ). pick (eqb w 0) false (right formats rows (nextAt rows w) ls)) (opens kind sign t .1)) ∙ e))
+right-nonempty kind sign t [] e = absurd (false≢true (sym (opens kind sign t) ∙ e))
+right-nonempty kind sign t ([] ∷ ls) e = absurd (false≢true e)
 right-nonempty kind sign t ((x ∷ l) ∷ ls) e = refl
 
 -- ---- the sign of a message whose walk is accepted: its first field is 20

@@ -3,22 +3,17 @@ use Prim.Native.Nat.{ℕ, _*_}
 use mathlib.Core.Path.{_≡_, refl}
 use mathlib.Core.List.{List}
 use lib.ListN.{length, take, drop}
-use Rattle.forms.specs.Formats.{formats, anything, never, slash, slashes, innDigit, rppMark, ten, twelve, fifteen, seventeen, reference, nonref, cred, our, purposeCode, dateAndAmount, ownAccount, partyBik, partyAccount, bankCode, account, taxLine, taxLine10, upTo35, voLine, voSigned, nzpLine, nzpSigned, onLine, rppLine, budget, #anything, #never, #slash, #slashes, #innDigit, #rppMark, #ten, #twelve, #fifteen, #seventeen, #reference, #nonref, #cred, #our, #purposeCode, #dateAndAmount, #ownAccount, #partyBik, #partyAccount, #bankCode, #account, #taxLine, #taxLine10, #upTo35, #voLine, #voSigned, #nzpLine, #nzpSigned, #onLine, #rppLine, #budget}
+use Rattle.forms.specs.Formats.{formats, anything, slash, slashes, innDigit, rppMark, reference, nonref, cred, our, purposeCode, dateAndAmount, ownAccount, partyBik, partyAccount, bankCode, account, taxLine, taxLine10, voText, voAlone, voSignedText, voSignedAlone, nzpText, nzpAlone, nzpSignedText, nzpSignedAlone, onLine, rppLine, #anything, #slash, #slashes, #innDigit, #rppMark, #reference, #nonref, #cred, #our, #purposeCode, #dateAndAmount, #ownAccount, #partyBik, #partyAccount, #bankCode, #account, #taxLine, #taxLine10, #voText, #voAlone, #voSignedText, #voSignedAlone, #nzpText, #nzpAlone, #nzpSignedText, #nzpSignedAlone, #onLine, #rppLine}
 
 abbrev Stands : ℕ → List ℕ → Type 0
 Stands k x = take (length x) (drop (3 * k) formats) ≡ x
 
 pub placed :
     Stands #anything anything
-    × Stands #never never
     × Stands #slash slash
     × Stands #slashes slashes
     × Stands #innDigit innDigit
     × Stands #rppMark rppMark
-    × Stands #ten ten
-    × Stands #twelve twelve
-    × Stands #fifteen fifteen
-    × Stands #seventeen seventeen
     × Stands #reference reference
     × Stands #nonref nonref
     × Stands #cred cred
@@ -32,13 +27,15 @@ pub placed :
     × Stands #account account
     × Stands #taxLine taxLine
     × Stands #taxLine10 taxLine10
-    × Stands #upTo35 upTo35
-    × Stands #voLine voLine
-    × Stands #voSigned voSigned
-    × Stands #nzpLine nzpLine
-    × Stands #nzpSigned nzpSigned
+    × Stands #voText voText
+    × Stands #voAlone voAlone
+    × Stands #voSignedText voSignedText
+    × Stands #voSignedAlone voSignedAlone
+    × Stands #nzpText nzpText
+    × Stands #nzpAlone nzpAlone
+    × Stands #nzpSignedText nzpSignedText
+    × Stands #nzpSignedAlone nzpSignedAlone
     × Stands #onLine onLine
     × Stands #rppLine rppLine
-    × Stands #budget budget
 unfolding formats
-placed = (refl, refl, refl, refl, refl, refl, refl, refl, refl, refl, refl, refl, refl, refl, refl, refl, refl, refl, refl, refl, refl, refl, refl, refl, refl, refl, refl, refl, refl, refl, refl)
+placed = (refl, refl, refl, refl, refl, refl, refl, refl, refl, refl, refl, refl, refl, refl, refl, refl, refl, refl, refl, refl, refl, refl, refl, refl, refl, refl, refl, refl)

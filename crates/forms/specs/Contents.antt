@@ -1,15 +1,16 @@
 -- 8: a field's content is as its tag asks (section C, N8, T1). Assumes nothing.
 use Prim.Native.Nat.{ℕ}
 use Prim.Native.String.{String}
-use mathlib.Core.Bool.{Bool, true, false}
+use mathlib.Core.Bool.{Bool}
 use mathlib.Core.List.{List, [], _∷_}
 use lib.Dec.{eqb}
 use Rattle.base.specs.Choice.{pick}
-use Rattle.base.specs.Bytes.{begins, same}
+use Rattle.base.specs.Bytes.{same}
 use Rattle.base.specs.Quoted.{bytes}
 use Rattle.base.specs.declared.Verdict.{Verdict}
 use Rattle.fields.specs.Field.{Field, field, fields}
 use Rattle.fields.specs.Places.{startOf}
+use Rattle.types.specs.Sign.{signOf}
 use Rattle.machine.specs.Lines.{linesIn}
 use Rattle.machine.specs.Machine.{right}
 use Rattle.forms.specs.Formats.{formats}
@@ -40,15 +41,6 @@ startsOf kind sign = pick (eqb kind 103) (starts103 sign) (pick (eqb kind 202) (
 
 unfoldable pub stateOf : ℕ → Bool → List ℕ → ℕ
 stateOf kind sign t = stateIn (startsOf kind sign) t
-
--- ---- the sign: the first field 20 begins with +
-abbrev pub firstLine : List (List ℕ) → List ℕ
-firstLine [] = []
-firstLine (l ∷ ls) = l
-
-unfoldable pub signOf : List Field → Bool
-signOf [] = false
-signOf (field t ls ∷ fs) = pick (same t (bytes "20")) (begins 43 (firstLine ls)) (signOf fs)
 
 -- ---- 8
 unfoldable pub rightField : ℕ → Bool → Field → Bool

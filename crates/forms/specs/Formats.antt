@@ -1,4 +1,5 @@
--- The line formats of 103 and 202, their table, and where in it each stands: #x is the number of the first item of x. Assumes nothing.
+-- The line formats of 103 and 202, their table, and where in it each stands: #x is the number of the first item of x. How long a line may be
+-- is its row's width (States); no line is empty. Assumes nothing.
 use Prim.Native.Nat.{ℕ}
 use mathlib.Core.List.{List, _++_}
 use Rattle.formats.specs.Words.{stop, rest, perhaps, such, text, digits, digitsFrom, digitsOr, capitals, signs, noSlash, any, parted, unlikePlus, wayOfPayment, purposeNumber}
@@ -7,10 +8,6 @@ use Rattle.formats.specs.Words.{stop, rest, perhaps, such, text, digits, digits
 -- any line
 abbrev pub anything : List ℕ
 anything = rest
-
--- no line
-abbrev pub never : List ℕ
-never = such 0 ++ stop
 
 -- /
 abbrev pub slash : List ℕ
@@ -28,26 +25,10 @@ innDigit = text "INN" ++ digits 1 ++ rest
 abbrev pub rppMark : List ℕ
 rppMark = text "/RPP/" ++ rest
 
--- more than (VO, five digits and )
-abbrev pub ten : List ℕ
-ten = any 10 10 ++ rest
-
--- the same with the sign
-abbrev pub twelve : List ℕ
-twelve = any 12 12 ++ rest
-
--- the same behind /NZP/
-abbrev pub fifteen : List ℕ
-fifteen = any 15 15 ++ rest
-
--- and with the sign
-abbrev pub seventeen : List ℕ
-seventeen = any 17 17 ++ rest
-
--- ---- what a line holds
--- C20: 1 to 16 bytes, no / at either end, no //, not + alone
+-- ---- what a line holds (a name, a text: any line)
+-- C20: no / at either end, no //, not + alone
 abbrev pub reference : List ℕ
-reference = such parted ++ such unlikePlus ++ any 1 16 ++ stop
+reference = such parted ++ such unlikePlus ++ rest
 
 -- C21
 abbrev pub nonref : List ℕ
@@ -85,9 +66,9 @@ partyAccount = text "/" ++ digits 20 ++ stop
 abbrev pub bankCode : List ℕ
 bankCode = capitals 6 ++ signs 2 ++ perhaps ++ signs 3 ++ stop
 
--- Caccount: / and 1 to 34 bytes, the first no /
+-- Caccount: / and a byte that is no /
 abbrev pub account : List ℕ
-account = text "/" ++ noSlash ++ any 0 33 ++ stop
+account = text "/" ++ noSlash ++ rest
 
 -- Ctax: INN, 10 or 12 digits, perhaps .KPP and nine digits
 abbrev pub taxLine : List ℕ
@@ -97,51 +78,54 @@ taxLine = text "INN" ++ digitsOr 10 12 ++ perhaps ++ text ".KPP" ++ digits 9 ++ 
 abbrev pub taxLine10 : List ℕ
 taxLine10 = text "INN" ++ digits 10 ++ perhaps ++ text ".KPP" ++ digits 9 ++ stop
 
--- Cname; a line of text in 70; a later line of 77B
-abbrev pub upTo35 : List ℕ
-upTo35 = any 1 35 ++ stop
+-- Cdetails: the VO code, and text behind it on its line
+abbrev pub voText : List ℕ
+voText = text "(VO" ++ digits 5 ++ text ")" ++ any ++ rest
 
--- Cdetails: the VO code and what follows on its line
-abbrev pub voLine : List ℕ
-voLine = text "(VO" ++ digits 5 ++ text ")" ++ any 0 26 ++ stop
+-- the code alone
+abbrev pub voAlone : List ℕ
+voAlone = text "(VO" ++ digits 5 ++ text ")" ++ stop
 
 -- with the sign
-abbrev pub voSigned : List ℕ
-voSigned = text "'(VO" ++ digits 5 ++ text ")'" ++ any 0 24 ++ stop
+abbrev pub voSignedText : List ℕ
+voSignedText = text "'(VO" ++ digits 5 ++ text ")'" ++ any ++ rest
+
+-- the code alone
+abbrev pub voSignedAlone : List ℕ
+voSignedAlone = text "'(VO" ++ digits 5 ++ text ")'" ++ stop
 
 -- C72: behind /NZP/
-abbrev pub nzpLine : List ℕ
-nzpLine = text "/NZP/(VO" ++ digits 5 ++ text ")" ++ any 0 21 ++ stop
+abbrev pub nzpText : List ℕ
+nzpText = text "/NZP/(VO" ++ digits 5 ++ text ")" ++ any ++ rest
+
+-- the code alone
+abbrev pub nzpAlone : List ℕ
+nzpAlone = text "/NZP/(VO" ++ digits 5 ++ text ")" ++ stop
 
 -- with the sign
-abbrev pub nzpSigned : List ℕ
-nzpSigned = text "/NZP/'(VO" ++ digits 5 ++ text ")'" ++ any 0 19 ++ stop
+abbrev pub nzpSignedText : List ℕ
+nzpSignedText = text "/NZP/'(VO" ++ digits 5 ++ text ")'" ++ any ++ rest
 
--- C72: a later line of details
+-- the code alone
+abbrev pub nzpSignedAlone : List ℕ
+nzpSignedAlone = text "/NZP/'(VO" ++ digits 5 ++ text ")'" ++ stop
+
+-- C72: a later line of details: // and a byte
 abbrev pub onLine : List ℕ
-onLine = text "//" ++ any 1 33 ++ stop
+onLine = text "//" ++ any ++ rest
 
 -- Crpp: /RPP/, 1 to 3 digits, a date, a digit, a way of payment, perhaps a date, with dots between
 abbrev pub rppLine : List ℕ
 rppLine = text "/RPP/" ++ digitsFrom 1 3 ++ text "." ++ digits 6 ++ text "." ++ digits 1 ++ text "." ++ such wayOfPayment ++ capitals 4 ++ perhaps ++ text "." ++ digits 6 ++ stop
 
--- C77B: the first line
-abbrev pub budget : List ℕ
-budget = text "/" ++ any 0 34 ++ stop
-
 -- ---- the table
 unfoldable pub formats : List ℕ
 formats =
     anything
-    ++ never
     ++ slash
     ++ slashes
     ++ innDigit
     ++ rppMark
-    ++ ten
-    ++ twelve
-    ++ fifteen
-    ++ seventeen
     ++ reference
     ++ nonref
     ++ cred
@@ -155,104 +139,97 @@ formats =
     ++ account
     ++ taxLine
     ++ taxLine10
-    ++ upTo35
-    ++ voLine
-    ++ voSigned
-    ++ nzpLine
-    ++ nzpSigned
+    ++ voText
+    ++ voAlone
+    ++ voSignedText
+    ++ voSignedAlone
+    ++ nzpText
+    ++ nzpAlone
+    ++ nzpSignedText
+    ++ nzpSignedAlone
     ++ onLine
     ++ rppLine
-    ++ budget
 
 abbrev pub #anything : ℕ
 #anything = 0
 
-abbrev pub #never : ℕ
-#never = 1
-
 abbrev pub #slash : ℕ
-#slash = 3
+#slash = 1
 
 abbrev pub #slashes : ℕ
-#slashes = 5
+#slashes = 3
 
 abbrev pub #innDigit : ℕ
-#innDigit = 8
+#innDigit = 6
 
 abbrev pub #rppMark : ℕ
-#rppMark = 13
-
-abbrev pub #ten : ℕ
-#ten = 19
-
-abbrev pub #twelve : ℕ
-#twelve = 21
-
-abbrev pub #fifteen : ℕ
-#fifteen = 23
-
-abbrev pub #seventeen : ℕ
-#seventeen = 25
+#rppMark = 11
 
 abbrev pub #reference : ℕ
-#reference = 27
+#reference = 17
 
 abbrev pub #nonref : ℕ
-#nonref = 31
+#nonref = 20
 
 abbrev pub #cred : ℕ
-#cred = 38
+#cred = 27
 
 abbrev pub #our : ℕ
-#our = 43
+#our = 32
 
 abbrev pub #purposeCode : ℕ
-#purposeCode = 47
+#purposeCode = 36
 
 abbrev pub #dateAndAmount : ℕ
-#dateAndAmount = 51
+#dateAndAmount = 40
 
 abbrev pub #ownAccount : ℕ
-#ownAccount = 57
+#ownAccount = 46
 
 abbrev pub #partyBik : ℕ
-#partyBik = 62
+#partyBik = 51
 
 abbrev pub #partyAccount : ℕ
-#partyAccount = 73
+#partyAccount = 62
 
 abbrev pub #bankCode : ℕ
-#bankCode = 76
+#bankCode = 65
 
 abbrev pub #account : ℕ
-#account = 81
+#account = 70
 
 abbrev pub #taxLine : ℕ
-#taxLine = 85
+#taxLine = 73
 
 abbrev pub #taxLine10 : ℕ
-#taxLine10 = 96
+#taxLine10 = 84
 
-abbrev pub #upTo35 : ℕ
-#upTo35 = 107
+abbrev pub #voText : ℕ
+#voText = 95
 
-abbrev pub #voLine : ℕ
-#voLine = 109
+abbrev pub #voAlone : ℕ
+#voAlone = 102
 
-abbrev pub #voSigned : ℕ
-#voSigned = 116
+abbrev pub #voSignedText : ℕ
+#voSignedText = 108
 
-abbrev pub #nzpLine : ℕ
-#nzpLine = 125
+abbrev pub #voSignedAlone : ℕ
+#voSignedAlone = 117
 
-abbrev pub #nzpSigned : ℕ
-#nzpSigned = 137
+abbrev pub #nzpText : ℕ
+#nzpText = 125
+
+abbrev pub #nzpAlone : ℕ
+#nzpAlone = 137
+
+abbrev pub #nzpSignedText : ℕ
+#nzpSignedText = 148
+
+abbrev pub #nzpSignedAlone : ℕ
+#nzpSignedAlone = 162
 
 abbrev pub #onLine : ℕ
-#onLine = 151
+#onLine = 175
 
 abbrev pub #rppLine : ℕ
-#rppLine = 155
-
-abbrev pub #budget : ℕ
-#budget = 172
+#rppLine = 179

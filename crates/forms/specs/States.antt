@@ -1,31 +1,15 @@
 -- The states of the line machine for 103 and 202, and their rows. A state is the number of its first row. Assumes nothing.
-use Prim.Native.Nat.{ℕ, _+_}
+use Prim.Native.Nat.{ℕ}
 use mathlib.Core.List.{List, [], _∷_, _++_}
-use Rattle.forms.specs.Formats.{#anything, #never, #slash, #slashes, #innDigit, #rppMark, #ten, #twelve, #fifteen, #seventeen, #reference, #nonref, #cred, #our, #purposeCode, #dateAndAmount, #ownAccount, #partyBik, #partyAccount, #bankCode, #account, #taxLine, #taxLine10, #upTo35, #voLine, #voSigned, #nzpLine, #nzpSigned, #onLine, #rppLine, #budget}
+use Rattle.forms.specs.Formats.{#anything, #slash, #slashes, #innDigit, #rppMark, #reference, #nonref, #cred, #our, #purposeCode, #dateAndAmount, #ownAccount, #partyBik, #partyAccount, #bankCode, #account, #taxLine, #taxLine10, #voText, #voAlone, #voSignedText, #voSignedAlone, #nzpText, #nzpAlone, #nzpSignedText, #nzpSignedAlone, #onLine, #rppLine}
 
--- ---- roles: copied; a name; a name in the tax place; the RPP line; details whose text begins behind n bytes of marks and code
-abbrev pub copied : ℕ
-copied = 0
+-- ---- a row of a state in which the field must go on, and of one in which it may end: a line of this format and at most this width, and that
+-- state comes behind it; another line that begins so is wrong
+abbrev pub must : ℕ → ℕ → ℕ → ℕ → List ℕ
+must begins format width next = begins ∷ format ∷ width ∷ 0 ∷ next ∷ []
 
-abbrev pub name : ℕ
-name = 1
-
-abbrev pub taxName : ℕ
-taxName = 2
-
-abbrev pub payment : ℕ
-payment = 3
-
-abbrev pub details : ℕ → ℕ
-details n = 16 + n
-
--- ---- a row of a state in which the field must go on, and of one in which it may end: a line that begins so has this format, at most this
--- width and this role, and that state comes behind it
-abbrev pub must : ℕ → ℕ → ℕ → ℕ → ℕ → List ℕ
-must begins format width role next = begins ∷ format ∷ width ∷ role ∷ 0 ∷ next ∷ []
-
-abbrev pub may : ℕ → ℕ → ℕ → ℕ → ℕ → List ℕ
-may begins format width role next = begins ∷ format ∷ width ∷ role ∷ 1 ∷ next ∷ []
+abbrev pub may : ℕ → ℕ → ℕ → ℕ → List ℕ
+may begins format width next = begins ∷ format ∷ width ∷ 1 ∷ next ∷ []
 
 -- ---- states
 abbrev pub dead : ℕ
@@ -163,106 +147,106 @@ lines1 = 58
 -- ---- the table
 unfoldable pub rows : List ℕ
 rows =
-    -- dead: a wrong line came before
-    must #anything #never 0 copied dead
+    -- dead: a wrong line came before; no line is as short as 0
+    must #anything #anything 0 dead
     -- done: no line more
-    ++ may #anything #never 0 copied done
+    ++ may #anything #anything 0 done
     -- at20: C20
-    ++ must #anything #reference 16 copied done
+    ++ must #anything #reference 16 done
     -- at21: C21
-    ++ must #anything #nonref 6 copied done
+    ++ must #anything #nonref 6 done
     -- at23B: C23B
-    ++ must #anything #cred 4 copied done
+    ++ must #anything #cred 4 done
     -- at26T: C26T
-    ++ must #anything #purposeCode 3 copied done
+    ++ must #anything #purposeCode 3 done
     -- at32A: C32A
-    ++ must #anything #dateAndAmount 24 copied done
+    ++ must #anything #dateAndAmount 24 done
     -- at53B: C53B
-    ++ must #anything #ownAccount 23 copied done
+    ++ must #anything #ownAccount 23 done
     -- at71A: C71A
-    ++ must #anything #our 3 copied done
+    ++ must #anything #our 3 done
     -- agentA: C52A, C56A, C57A: perhaps a party line, then a BIC
-    ++ must #slashes #partyBik 34 copied bic
-    ++ must #slash #partyAccount 21 copied bic
-    ++ must #anything #bankCode 11 copied done
+    ++ must #slashes #partyBik 34 bic
+    ++ must #slash #partyAccount 21 bic
+    ++ must #anything #bankCode 11 done
     -- bic: a BIC
-    ++ must #anything #bankCode 11 copied done
+    ++ must #anything #bankCode 11 done
     -- agentD: C56D, C57D: a party line, then 1 to 4 names
-    ++ must #slashes #partyBik 34 copied names4
-    ++ must #anything #partyAccount 21 copied names4
+    ++ must #slashes #partyBik 34 names4
+    ++ must #anything #partyAccount 21 names4
     -- names4: 1 to 4 names
-    ++ must #anything #upTo35 35 name more3
+    ++ must #anything #anything 35 more3
     -- names3: 1 to 3 names
-    ++ must #anything #upTo35 35 name more2
+    ++ must #anything #anything 35 more2
     -- more3: at most 3 names more
-    ++ may #anything #upTo35 35 name more2
+    ++ may #anything #anything 35 more2
     -- more2: at most 2
-    ++ may #anything #upTo35 35 name more1
+    ++ may #anything #anything 35 more1
     -- more1: at most 1
-    ++ may #anything #upTo35 35 name done
+    ++ may #anything #anything 35 done
     -- at50K: C50K: an account exactly if the first line begins with /, else the first line is the tax place
-    ++ must #slash #account 35 copied taxPlace
-    ++ must #innDigit #taxLine 28 copied names3
-    ++ must #anything #upTo35 35 taxName more3
+    ++ must #slash #account 35 taxPlace
+    ++ must #innDigit #taxLine 28 names3
+    ++ must #anything #anything 35 more3
     -- at59: C59: an account
-    ++ must #anything #account 35 copied taxPlace
+    ++ must #anything #account 35 taxPlace
     -- taxPlace: perhaps a tax line, then names; at most four lines
-    ++ must #innDigit #taxLine 28 copied names3
-    ++ must #anything #upTo35 35 taxName more3
+    ++ must #innDigit #taxLine 28 names3
+    ++ must #anything #anything 35 more3
     -- at58D: C58D: an account
-    ++ must #anything #account 35 copied taxPlace10
+    ++ must #anything #account 35 taxPlace10
     -- taxPlace10: the tax place of 58D
-    ++ must #innDigit #taxLine10 26 copied names3
-    ++ must #anything #upTo35 35 taxName more3
+    ++ must #innDigit #taxLine10 26 names3
+    ++ must #anything #anything 35 more3
     -- at58A: C58A: an account, then a BIC
-    ++ must #anything #account 35 copied bic
+    ++ must #anything #account 35 bic
     -- at70: C70: the code and at least one byte, on its line or a later one; at most four lines
-    ++ must #ten #voLine 35 (details 9) text3
-    ++ must #anything #voLine 9 (details 9) someText3
+    ++ must #voText #voText 35 text3
+    ++ must #anything #voAlone 9 someText3
     -- at70Signed: with the sign
-    ++ must #twelve #voSigned 35 (details 11) text3
-    ++ must #anything #voSigned 11 (details 11) someText3
+    ++ must #voSignedText #voSignedText 35 text3
+    ++ must #anything #voSignedAlone 11 someText3
     -- someText3: 1 to 3 lines of text
-    ++ must #anything #upTo35 35 (details 0) text2
+    ++ must #anything #anything 35 text2
     -- text3: at most 3 lines of text more
-    ++ may #anything #upTo35 35 (details 0) text2
+    ++ may #anything #anything 35 text2
     -- text2: at most 2
-    ++ may #anything #upTo35 35 (details 0) text1
+    ++ may #anything #anything 35 text1
     -- text1: at most 1
-    ++ may #anything #upTo35 35 (details 0) done
+    ++ may #anything #anything 35 done
     -- rpp103: C72 in 103: the RPP line
-    ++ must #anything #rppLine 29 payment done
+    ++ must #anything #rppLine 29 done
     -- at72: C72 in 202: perhaps the RPP line, then /NZP/ with the code, then // lines; at most six lines
-    ++ must #rppMark #rppLine 29 payment nzp
-    ++ must #fifteen #nzpLine 35 (details 14) on5
-    ++ must #anything #nzpLine 14 (details 14) someOn5
+    ++ must #rppMark #rppLine 29 nzp
+    ++ must #nzpText #nzpText 35 on5
+    ++ must #anything #nzpAlone 14 someOn5
     -- at72Signed: with the sign
-    ++ must #rppMark #rppLine 29 payment nzpS
-    ++ must #seventeen #nzpSigned 35 (details 16) on5
-    ++ must #anything #nzpSigned 16 (details 16) someOn5
+    ++ must #rppMark #rppLine 29 nzpS
+    ++ must #nzpSignedText #nzpSignedText 35 on5
+    ++ must #anything #nzpSignedAlone 16 someOn5
     -- nzp: /NZP/ behind an RPP line
-    ++ must #fifteen #nzpLine 35 (details 14) on4
-    ++ must #anything #nzpLine 14 (details 14) someOn4
+    ++ must #nzpText #nzpText 35 on4
+    ++ must #anything #nzpAlone 14 someOn4
     -- nzpS: with the sign
-    ++ must #seventeen #nzpSigned 35 (details 16) on4
-    ++ must #anything #nzpSigned 16 (details 16) someOn4
+    ++ must #nzpSignedText #nzpSignedText 35 on4
+    ++ must #anything #nzpSignedAlone 16 someOn4
     -- someOn5: 1 to 5 lines //
-    ++ must #anything #onLine 35 (details 2) on4
+    ++ must #anything #onLine 35 on4
     -- someOn4: 1 to 4
-    ++ must #anything #onLine 35 (details 2) on3
+    ++ must #anything #onLine 35 on3
     -- on5: at most 5 lines // more
-    ++ may #anything #onLine 35 (details 2) on4
+    ++ may #anything #onLine 35 on4
     -- on4: at most 4
-    ++ may #anything #onLine 35 (details 2) on3
+    ++ may #anything #onLine 35 on3
     -- on3: at most 3
-    ++ may #anything #onLine 35 (details 2) on2
+    ++ may #anything #onLine 35 on2
     -- on2: at most 2
-    ++ may #anything #onLine 35 (details 2) on1
+    ++ may #anything #onLine 35 on1
     -- on1: at most 1
-    ++ may #anything #onLine 35 (details 2) done
+    ++ may #anything #onLine 35 done
     -- at77B: C77B: 1 to 3 lines, the first begins with /
-    ++ must #anything #budget 35 copied lines2
+    ++ must #anything #slash 35 lines2
     -- lines2: at most 2 lines more
-    ++ may #anything #upTo35 35 copied lines1
+    ++ may #anything #anything 35 lines1
     -- lines1: at most 1
-    ++ may #anything #upTo35 35 copied done
+    ++ may #anything #anything 35 done

@@ -3,7 +3,23 @@ pub mod tables;
 
 ghost use mathlib.Core.Path.{_≡_};
 ghost use Rattle.fields.specs.Shapes.{unpack};
+ghost use Rattle.forms.specs.Formats.{formats};
+ghost use Rattle.forms.specs.States.{rows};
 ghost use Rattle.forms.specs.Contents.{starts103, starts202, stateIn, stateOf};
+use tables::FORMATS;
+use tables::ROWS;
+
+pub fn format_table() -> [u8; 588]
+    ensures { λ r. ⌜ r ≡ formats ⌝ }
+{
+    FORMATS
+}
+
+pub fn row_table() -> [u8; 295]
+    ensures { λ r. ⌜ r ≡ rows ⌝ }
+{
+    ROWS
+}
 
 fn state_103(sign: bool, tag: u32) -> usize
     ensures { λ r. ⌜ r ≡ stateIn (starts103 sign) (unpack tag) ⌝ }

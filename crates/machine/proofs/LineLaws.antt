@@ -13,7 +13,7 @@ use lib.Seq.{drop-cons, drop-drop, take-all}
 use Rattle.base.specs.Choice.{pick, all}
 use Rattle.base.specs.Bytes.{other, without}
 use Rattle.base.proofs.Bools.{left, right, isnt}
-use Rattle.fields.specs.Field.{onto, laid, lines}
+use Rattle.fields.specs.Field.{onto, lines}
 use Rattle.fields.specs.ByLines.{joined}
 use Rattle.fields.proofs.LineLaws.{lines-laid}
 use Rattle.fields.proofs.PlaceLaws.{laid-joined}

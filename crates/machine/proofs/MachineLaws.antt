@@ -1,65 +1,73 @@
 -- The laws by which the loops over rows and over lines meet the definitions, and what the machine promises of any tables. Assumes nothing.
-use Prim.Native.Nat.{ℕ, zero, suc, _+_, _-_, _*_, _/_, _≤_, _<_, min}
+use Prim.Native.Nat.{ℕ, zero, suc, _+_, _-_, _*_, _≤_, _<_, min}
 use mathlib.Core.Path.{_≡_, refl, sym, ap, ap₂, _∙_}
-use mathlib.Core.Bool.{Bool, true, false, _&&_, and-false, true≢false, false≢true}
+use mathlib.Core.Bool.{Bool, true, false, _&&_, true≢false, false≢true}
 use mathlib.Core.List.{List, [], _∷_, _++_}
 use native.Mathlib.Omega.{arith}
 use native.Mathlib.Decide.{decLt}
 use native.Mathlib.Nat.{add-zero}
 use native.Mathlib.Numerals.{add-one}
-use lib.Dec.{eqb, leb, ltb}
+use lib.Dec.{eqb, leb}
 use lib.ListN.{length, getD, take, drop}
-use borrow.Author.Tests.{eq-eqb, ne-eqb, eqb-true, eqb-false, lt-ltb, le-ltb, le-leb, lt-leb, ltb-true, ltb-false, leb-true, leb-false}
+use borrow.Author.Tests.{eq-eqb, ne-eqb, leb-true, leb-false}
 use Rattle.base.specs.Choice.{pick}
+use Rattle.base.specs.Bytes.{empty}
 use Rattle.formats.specs.Format.{fits, formatAt}
 use Rattle.machine.specs.Lines.{linesIn, lineLen}
-use Rattle.machine.specs.Machine.{cell, widthOf, endsAt, nextAt, rowsOf, beginsAs, tookOf, took, right, lives, behind, larger, widest, widthAt}
+use Rattle.machine.specs.Machine.{cell, widthOf, endsAt, nextAt, rowsOf, isAs, holds, tookOf, tookFrom, took, right, lives, behind, larger, widest, widthAt}
 use Rattle.machine.proofs.LineLaws.{lines-last, lines-more}
 
 -- ---- rows
-pub first-cell : (m : List ℕ) (q : ℕ) → getD m (6 * q) 0 ≡ cell m q 0
+pub first-cell : (m : List ℕ) (q : ℕ) → getD m (5 * q) 0 ≡ cell m q 0
 unfolding cell
-first-cell m q = ap (λ (i : ℕ). getD m i 0) (sym (add-zero (6 * q)))
+first-cell m q = ap (λ (i : ℕ). getD m i 0) (sym (add-zero (5 * q)))
 
-pub cell-is : (m : List ℕ) (q i : ℕ) → getD m (6 * q + i) 0 ≡ cell m q i
+pub cell-is : (m : List ℕ) (q i : ℕ) → getD m (5 * q + i) 0 ≡ cell m q i
 unfolding cell
 cell-is m q i = refl
 
--- what row n says of a line
-module _ (f m : List ℕ) (n : ℕ) (l : List ℕ) (h : n < rowsOf m) where
-  row : took f m n l
-      ≡ pick (beginsAs f (cell m n 0) l) (pick (ltb (widthOf m n) (length l)) 0 (pick (fits (formatAt f (cell m n 1)) l) n 0)) (took f m (n + 1) l)
-  unfolding tookOf
-  row =
+-- 0 says nothing, another number its format
+pub as-any : (f : List ℕ) (g : ℕ) (l : List ℕ) → g ≡ 0 → true ≡ isAs f g l
+unfolding isAs
+as-any f g l e = ap (λ (b : Bool). pick b true (fits (formatAt f g) l)) (sym (eq-eqb g 0 e))
+
+pub as-format : (f : List ℕ) (g : ℕ) (l : List ℕ) → (g ≡ 0 → ⊥) → fits (formatAt f g) l ≡ isAs f g l
+unfolding isAs
+as-format f g l e = ap (λ (b : Bool). pick b true (fits (formatAt f g) l)) (sym (ne-eqb g 0 e))
+
+-- what row n says of a line; k, w and g are its numbers as code reads them, u and v say whether it holds and whether the line begins so
+module _ (f m : List ℕ) (n : ℕ) (l : List ℕ) (h : n < rowsOf m) (k w : ℕ) (u : Bool) (ek : k ≡ getD m (5 * n + 1) 0) (ew : w ≡ getD m (5 * n + 2) 0) (eu : u ≡ (leb (length l) w && isAs f k l)) where
+  row : (b : Bool) → u ≡ b → tookFrom f m n l ≡ pick b n (pick (isAs f (cell m n 0) l) 0 (tookFrom f m (n + 1) l))
+  unfolding tookOf holds
+  row b e =
       let z : rowsOf m - n ≡ suc (rowsOf m - (n + 1)) = omega arith in
-      ap (λ (k : ℕ). tookOf f m k n l) z
-      ∙ ap (λ (j : ℕ). pick (beginsAs f (cell m n 0) l) (pick (ltb (widthOf m n) (length l)) 0 (pick (fits (formatAt f (cell m n 1)) l) n 0)) (tookOf f m (rowsOf m - (n + 1)) j l)) (sym (add-one n))
+      ap (λ (j : ℕ). tookOf f m j n l) z
+      ∙ ap₂ (λ (t : Bool) (j : ℕ). pick t n (pick (isAs f (cell m n 0) l) 0 (tookOf f m (rowsOf m - (n + 1)) j l)))
+      (sym (ap₂ (λ (x y : ℕ). leb (length l) x && isAs f y l) (ew ∙ cell-is m n 2) (ek ∙ cell-is m n 1)) ∙ sym eu ∙ e) (sym (add-one n))
 
-  -- g, w and k are the row's numbers as code reads them; v and u say whether the line begins so and has the format
-  module _ (g : ℕ) (v : Bool) (eg : g ≡ getD m (6 * n) 0) (ev : v ≡ beginsAs f g l) where
-    begun : (b : Bool) → v ≡ b
-        → took f m n l ≡ pick b (pick (ltb (widthOf m n) (length l)) 0 (pick (fits (formatAt f (cell m n 1)) l) n 0)) (took f m (n + 1) l)
-    begun b e =
-        row
-        ∙ ap (λ (t : Bool). pick t (pick (ltb (widthOf m n) (length l)) 0 (pick (fits (formatAt f (cell m n 1)) l) n 0)) (took f m (n + 1) l))
-        (sym (ap (λ (x : ℕ). beginsAs f x l) (eg ∙ first-cell m n)) ∙ sym ev ∙ e)
+  pub took-held : u ≡ true → tookFrom f m n l ≡ n
+  took-held e = row true e
 
-    pub took-miss : v ≡ false → took f m n l ≡ took f m (n + 1) l
-    took-miss e = begun false e
+  module _ (e : u ≡ false) (g : ℕ) (v : Bool) (eg : g ≡ getD m (5 * n) 0) (ev : v ≡ isAs f g l) where
+    begun : (b : Bool) → v ≡ b → tookFrom f m n l ≡ pick b 0 (tookFrom f m (n + 1) l)
+    begun b q = row false e ∙ ap (λ (t : Bool). pick t 0 (tookFrom f m (n + 1) l)) (sym (ap (λ (x : ℕ). isAs f x l) (eg ∙ first-cell m n)) ∙ sym ev ∙ q)
 
-    pub took-wide : v ≡ true → (w : ℕ) → w ≡ getD m (6 * n + 2) 0 → w < length l → took f m n l ≡ 0
-    took-wide e w ew hw =
-        begun true e
-        ∙ ap (λ (t : Bool). pick t 0 (pick (fits (formatAt f (cell m n 1)) l) n 0)) (ap (λ (x : ℕ). ltb x (length l)) (sym (ew ∙ cell-is m n 2)) ∙ lt-ltb w (length l) hw)
+    pub took-wrong : v ≡ true → tookFrom f m n l ≡ 0
+    took-wrong q = begun true q
 
-    pub took-fits : v ≡ true → (w : ℕ) → w ≡ getD m (6 * n + 2) 0 → length l ≤ w → (k : ℕ) → k ≡ getD m (6 * n + 1) 0
-        → (u b : Bool) → u ≡ fits (formatAt f k) l → u ≡ b → took f m n l ≡ pick b n 0
-    took-fits e w ew hw k ek u b eu eb =
-        begun true e
-        ∙ ap₂ (λ (x y : Bool). pick x 0 (pick y n 0)) (ap (λ (x : ℕ). ltb x (length l)) (sym (ew ∙ cell-is m n 2)) ∙ le-ltb w (length l) hw)
-        (sym (ap (λ (x : ℕ). fits (formatAt f x) l) (ek ∙ cell-is m n 1)) ∙ sym eu ∙ eb)
+    pub took-miss : v ≡ false → tookFrom f m n l ≡ tookFrom f m (n + 1) l
+    took-miss q = begun false q
 
-pub took-none : (f m : List ℕ) (n : ℕ) (l : List ℕ) → rowsOf m ≤ n → took f m n l ≡ 0
+-- an empty line takes none
+pub took-empty : (f m : List ℕ) (q : ℕ) (l : List ℕ) → length l ≡ 0 → took f m q l ≡ 0
+took-empty f m q [] h = refl
+took-empty f m q (x ∷ l) h = absurd (omega arith)
+
+pub took-some : (f m : List ℕ) (q : ℕ) (l : List ℕ) → (length l ≡ 0 → ⊥) → took f m q l ≡ tookFrom f m q l
+took-some f m q [] h = absurd (h refl)
+took-some f m q (x ∷ l) h = refl
+
+pub took-none : (f m : List ℕ) (n : ℕ) (l : List ℕ) → rowsOf m ≤ n → tookFrom f m n l ≡ 0
 unfolding tookOf
 took-none f m n l h = let z : rowsOf m - n ≡ 0 = omega arith in ap (λ (k : ℕ). tookOf f m k n l) z
 
@@ -92,41 +100,6 @@ module _ (f m : List ℕ) (q : ℕ) (s : List ℕ) (at e w : ℕ) (h : at ≤ le
       go : Dec (e < length s) → right f m q (linesIn (drop at s)) ≡ false
       go (yes y) = ap (right f m q) (lines-more s at e h qe y) ∙ right-not f m q (take (e - at) (drop at s)) (linesIn (drop (min (e + 2) (length s)) s)) w ew z
       go (no y) = ap (right f m q) (lines-last s at e h qe (omega arith)) ∙ right-not f m q (take (e - at) (drop at s)) [] w ew z
-
--- ---- what a state says of lines, row by row
-module _ (f m : List ℕ) (q : ℕ) (l : List ℕ) (ls : List (List ℕ)) (h : q < rowsOf m) (z : q ≡ 0 → ⊥) where
-  -- what row q says once the line begins as it asks
-  abbrev here : Bool
-  here = leb (length l) (widthOf m q) && fits (formatAt f (cell m q 1)) l
-
-  taken : (b c : Bool) → ltb (widthOf m q) (length l) ≡ b → fits (formatAt f (cell m q 1)) l ≡ c
-      → pick (eqb (pick b 0 (pick c q 0)) 0) false (right f m (nextAt m (pick b 0 (pick c q 0))) ls) ≡ ((leb (length l) (widthOf m q) && c) && right f m (nextAt m q) ls)
-  taken true c eb ec = sym (ap (λ (t : Bool). (t && c) && right f m (nextAt m q) ls) (lt-leb (length l) (widthOf m q) (ltb-true (widthOf m q) (length l) eb)))
-  taken false true eb ec =
-      ap (λ (t : Bool). pick t false (right f m (nextAt m q) ls)) (ne-eqb q 0 z)
-      ∙ sym (ap (λ (t : Bool). (t && true) && right f m (nextAt m q) ls) (le-leb (length l) (widthOf m q) (ltb-false (widthOf m q) (length l) eb)))
-  taken false false eb ec = sym (ap (λ (t : Bool). t && right f m (nextAt m q) ls) (and-false (leb (length l) (widthOf m q))))
-
-  judged : (b : Bool) → beginsAs f (cell m q 0) l ≡ b
-      → right f m q (l ∷ ls) ≡ pick b (here && right f m (nextAt m q) ls) (right f m (q + 1) (l ∷ ls))
-  unfolding right
-  judged true e =
-      ap (λ (w : ℕ). pick (eqb w 0) false (right f m (nextAt m w) ls))
-      (row f m q l h ∙ ap (λ (t : Bool). pick t (pick (ltb (widthOf m q) (length l)) 0 (pick (fits (formatAt f (cell m q 1)) l) q 0)) (took f m (q + 1) l)) e)
-      ∙ taken (ltb (widthOf m q) (length l)) (fits (formatAt f (cell m q 1)) l) refl refl
-  judged false e =
-      ap (λ (w : ℕ). pick (eqb w 0) false (right f m (nextAt m w) ls))
-      (row f m q l h ∙ ap (λ (t : Bool). pick t (pick (ltb (widthOf m q) (length l)) 0 (pick (fits (formatAt f (cell m q 1)) l) q 0)) (took f m (q + 1) l)) e)
-
-  -- a row for any line, and one for lines that begin so
-  pub any-row : cell m q 0 ≡ 0 → right f m q (l ∷ ls) ≡ ((leb (length l) (widthOf m q) && fits (formatAt f (cell m q 1)) l) && right f m (nextAt m q) ls)
-  unfolding beginsAs
-  any-row e = judged true (ap (λ (g : ℕ). beginsAs f g l) e)
-
-  pub row-or : (cell m q 0 ≡ 0 → ⊥)
-      → right f m q (l ∷ ls) ≡ pick (fits (formatAt f (cell m q 0)) l) ((leb (length l) (widthOf m q) && fits (formatAt f (cell m q 1)) l) && right f m (nextAt m q) ls) (right f m (q + 1) (l ∷ ls))
-  unfolding beginsAs
-  row-or n = judged (fits (formatAt f (cell m q 0)) l) (ap (λ (t : Bool). pick t true (fits (formatAt f (cell m q 0)) l)) (ne-eqb (cell m q 0) 0 n))
 
 -- ---- promises
 module _ (f m : List ℕ) where
@@ -182,17 +155,21 @@ module _ (f m : List ℕ) where
       go false e = omega (arith, leb-false a b e)
 
   within : (n q : ℕ) (l : List ℕ) → (tookOf f m n q l ≡ 0 → ⊥) → length l ≤ widest m n q
-  unfolding tookOf widest beginsAs
+  unfolding tookOf holds widest isAs
   within zero q l z = absurd (z refl)
-  within (suc n) q l z = go (eqb (cell m q 0) 0) (ltb (widthOf m q) (length l)) refl (fits (formatAt f (cell m q 1)) l) (fits (formatAt f (cell m q 0)) l) z (within n (suc q) l)
+  within (suc n) q l z = go (leb (length l) (widthOf m q)) refl (eqb (cell m q 0) 0) (isAs f (cell m q 1) l) (fits (formatAt f (cell m q 0)) l) z (within n (suc q) l)
     where
-      go : (a t : Bool) → ltb (widthOf m q) (length l) ≡ t → (u v : Bool) → (pick (pick a true v) (pick t 0 (pick u q 0)) (tookOf f m n (suc q) l) ≡ 0 → ⊥)
+      go : (t : Bool) → leb (length l) (widthOf m q) ≡ t → (a u v : Bool) → (pick (t && u) q (pick (pick a true v) 0 (tookOf f m n (suc q) l)) ≡ 0 → ⊥)
           → ((tookOf f m n (suc q) l ≡ 0 → ⊥) → length l ≤ widest m n (suc q)) → length l ≤ pick a (widthOf m q) (larger (widthOf m q) (widest m n (suc q)))
-      go true true e u v z ih = absurd (z refl)
-      go true false e u v z ih = ltb-false (widthOf m q) (length l) e
-      go false true e u true z ih = absurd (z refl)
-      go false false e u true z ih = larger-left (widthOf m q) (widest m n (suc q)) (length l) (ltb-false (widthOf m q) (length l) e)
-      go false t e u false z ih = larger-right (widthOf m q) (widest m n (suc q)) (length l) (ih z)
+      go true e true u v z ih = leb-true (length l) (widthOf m q) e
+      go true e false u v z ih = larger-left (widthOf m q) (widest m n (suc q)) (length l) (leb-true (length l) (widthOf m q) e)
+      go false e true u v z ih = absurd (z refl)
+      go false e false u true z ih = absurd (z refl)
+      go false e false u false z ih = larger-right (widthOf m q) (widest m n (suc q)) (length l) (ih z)
 
   pub within-width : (q : ℕ) (l : List ℕ) → (took f m q l ≡ 0 → ⊥) → length l ≤ widthAt m q
-  within-width q l z = within (rowsOf m - q) q l z
+  within-width q l z = within (rowsOf m - q) q l (λ e. z (go (empty l) e))
+    where
+      go : (b : Bool) → tookFrom f m q l ≡ 0 → pick b 0 (tookFrom f m q l) ≡ 0
+      go true e = refl
+      go false e = e

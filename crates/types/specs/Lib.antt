@@ -1,3 +1,4 @@
 pub mod Form
 pub mod Walk
 pub mod Tables
+pub mod Sign

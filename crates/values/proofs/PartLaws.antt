@@ -7,7 +7,6 @@ use native.Mathlib.Omega.{arith}
 use lib.Dec.{eqb, leb}
 use lib.ListN.{length, take, drop, drop-of-length-le, length-drop, List·getD-eq-default}
 use lib.Seq.{take-all}
-use native.Mathlib.Decide.{decLt}
 use borrow.Author.Tests.{eq-eqb, ne-eqb, le-leb, lt-leb}
 use Rattle.base.specs.Choice.{pick}
 use Rattle.base.specs.Bytes.{byte, digit, same}
@@ -15,10 +14,10 @@ use Rattle.base.specs.Quoted.{bytes}
 use Rattle.base.proofs.ByteLaws.{begins-byte}
 use Rattle.fields.specs.Field.{upto}
 use Rattle.values.specs.Day.{realDay}
-use Rattle.values.specs.Values.{party, at, starts, part, lineAt, behindDigits, pointIn, dateAt, datesBehind, rpp, bothParts, parties, taxPlace, isTax, withKpp}
+use Rattle.values.specs.Values.{party, at, starts, numbered, part, lineAt, behindDigits, pointIn, dateAt, datesBehind, isRpp, rpp, bothParts, parties, taxPlace, isTax, withKpp}
 use Rattle.values.specs.Judged.{has, noDay, apart}
 use Rattle.values.specs.Answers.{dayAt, kppOf, faultOf}
-use Rattle.values.proofs.TextLaws.{starts-short, part-three, take-upto}
+use Rattle.values.proofs.TextLaws.{part-three, take-upto}
 use Rattle.values.proofs.DayLaws.{day-within}
 
 -- ---- the dates of an RPP line
@@ -73,19 +72,19 @@ module _ (p : ℕ) (c : List ℕ) where
       go false = refl
 
 module _ (c : List ℕ) where
-  pub rpp-is : starts (bytes "/RPP/") c ≡ true → faultOf noDay (rpp c) ≡ faultIn (pointIn c) c
+  pub rpp-is : isRpp c ≡ true → faultOf noDay (rpp c) ≡ faultIn (pointIn c) c
   unfolding rpp
   rpp-is e = ap (λ (b : Bool). faultOf noDay (pick b (datesBehind (pointIn c) c) [])) e
 
-  pub rpp-not : starts (bytes "/RPP/") c ≡ false → faultOf noDay (rpp c) ≡ 0
+  pub rpp-not : isRpp c ≡ false → faultOf noDay (rpp c) ≡ 0
   unfolding rpp faultOf
   rpp-not e = ap (λ (b : Bool). faultOf noDay (pick b (datesBehind (pointIn c) c) [])) e
 
   pub rpp-short : length c < 12 → faultOf noDay (rpp c) ≡ 0
   unfolding pointIn
-  rpp-short h = go (starts (bytes "/RPP/") c) refl
+  rpp-short h = go (isRpp c) refl
     where
-      go : (b : Bool) → starts (bytes "/RPP/") c ≡ b → faultOf noDay (rpp c) ≡ 0
+      go : (b : Bool) → isRpp c ≡ b → faultOf noDay (rpp c) ≡ 0
       go true e = rpp-is e ∙ dates-none (pointIn c) c (omega arith)
       go false e = rpp-not e
 
@@ -115,13 +114,9 @@ module _ (c : List ℕ) where
       go false y z = refl
 
 -- ---- tax lines
-pub tax-short : (l : List ℕ) → length l < 4 → isTax l ≡ false
-unfolding isTax digit
-tax-short l h = go (decLt (length l) 3)
-  where
-    go : Dec (length l < 3) → (starts (bytes "INN") l && digit (byte l 3)) ≡ false
-    go (yes k) = ap (λ (b : Bool). b && digit (byte l 3)) (starts-short (bytes "INN") l refl k)
-    go (no k) = let g : length l ≤ 3 = omega arith in ap (λ (x : ℕ). starts (bytes "INN") l && digit x) (List·getD-eq-default l 0 g) ∙ and-false (starts (bytes "INN") l)
+pub numbered-short : (w l : List ℕ) → length l < 4 → numbered w l ≡ false
+unfolding digit
+numbered-short w l h = let g : length l ≤ 3 = omega arith in ap (λ (x : ℕ). starts w l && digit x) (List·getD-eq-default l 0 g) ∙ and-false (starts w l)
 
 pub kpp-behind : (l : List ℕ) (i : ℕ) → behindDigits (drop 3 l) ≡ drop i l → withKpp l ≡ starts (bytes ".KPP") (drop i l)
 unfolding withKpp

@@ -14,7 +14,7 @@ use Rattle.base.specs.declared.Verdict.the-variants.{Fine, Broken}
 use Rattle.fields.specs.Field.{Field, tagOf}
 use Rattle.fields.specs.Places.{startOf, nextOf}
 use Rattle.types.specs.Walk.{among}
-use Rattle.values.specs.Values.{Kind, tag, date, money, party, tax, Value, at, placeOf, kindOf, moved, starts, part, lineAt, payment, pointIn, dateAt, datesBehind, rpp, bothParts, parties, taxPlace, isTax, withKpp, taxes, valuesOf, contentOf, valuesIn}
+use Rattle.values.specs.Values.{Kind, tag, date, money, party, tax, Value, at, placeOf, kindOf, moved, part, lineAt, payment, pointIn, dateAt, datesBehind, isRpp, rpp, bothParts, parties, taxPlace, isTax, withKpp, taxes, valuesOf, contentOf, valuesIn}
 use Rattle.values.specs.Judged.{firstBad, has, tagged, kppIn, is56, is57, is26T, is77B, taxWhole, rule11, rule13}
 use Rattle.values.specs.Answers.{kppOf, faultOf, answered}
 use Rattle.values.proofs.JudgedLaws.{first-append, has-append}
@@ -73,7 +73,7 @@ module _ (u : Kind → Bool) where
   unfolding rpp datesBehind
   no-rpp c h =
       let p : ℕ = pointIn c in
-      picked (λ vs. has u vs ≡ false) (starts (bytes "/RPP/") c) (λ _. no-dates (leb (p + 7) (length c)) (leb (p + 21) (length c) && eqb (byte c (p + 14)) 46) (p + 1) (p + 15) c h) (λ _. refl)
+      picked (λ vs. has u vs ≡ false) (isRpp c) (λ _. no-dates (leb (p + 7) (length c)) (leb (p + 21) (length c) && eqb (byte c (p + 14)) 46) (p + 1) (p + 15) c h) (λ _. refl)
 
   pub no-parties : (c : List ℕ) → ((b a : List ℕ) → u (party b a) ≡ false) → has u (parties c) ≡ false
   unfolding parties

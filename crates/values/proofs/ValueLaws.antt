@@ -21,7 +21,7 @@ use Rattle.fields.proofs.FieldLaws.{laid-size}
 use Rattle.fields.proofs.PlaceLaws.{laid-joined}
 use Rattle.types.specs.Walk.{among}
 use Rattle.types.proofs.WalkLaws.{after}
-use Rattle.values.specs.Values.{tag, date, money, party, tax, Value, at, placeOf, moved, starts, part, lineAt, payment, pointIn, datesBehind, rpp, bothParts, parties, taxPlace, isTax, taxes, partyTags, taxTags, valuesOf, contentOf, valuesIn}
+use Rattle.values.specs.Values.{tag, date, money, party, tax, Value, at, placeOf, moved, part, lineAt, payment, pointIn, datesBehind, isRpp, rpp, bothParts, parties, taxPlace, isTax, taxes, partyTags, taxTags, valuesOf, contentOf, valuesIn}
 use Rattle.values.proofs.JudgedLaws.{Ordered, none, next, ordered-low, ordered-high, ordered-append}
 
 -- ---- what holds either way, and what holds of each content's values
@@ -93,7 +93,7 @@ dates-order p c =
 
 rpp-order : (c : List ℕ) → Ordered 0 (rpp c) (length c)
 unfolding rpp
-rpp-order c = picked (λ vs. Ordered 0 vs (length c)) (starts (bytes "/RPP/") c) (λ e. dates-order (pointIn c) c) (λ e. nothing (length c))
+rpp-order c = picked (λ vs. Ordered 0 vs (length c)) (isRpp c) (λ e. dates-order (pointIn c) c) (λ e. nothing (length c))
 
 parties-order : (c : List ℕ) → Ordered 0 (parties c) (length c)
 unfolding parties
@@ -116,7 +116,7 @@ taxes-order t c =
     let n : ℕ = taxPlace (same t (bytes "50K")) c in
     picked (λ vs. Ordered 0 vs (length c)) (isTax (lineAt n c)) (λ e. alone (at n (tax t (lineAt n c))) (length c) (omega (arith, tax-within n c e))) (λ e. nothing (length c))
 
-values-order : (t c : List ℕ) → Ordered 0 (valuesOf t c) (length c)
+pub values-order : (t c : List ℕ) → Ordered 0 (valuesOf t c) (length c)
 values-order t c = by-tag (λ vs. Ordered 0 vs (length c)) t c (λ _. payment-order c) (λ _. rpp-order c) (λ _. parties-order c) (taxes-order t c) (nothing (length c))
 
 -- a content without bytes holds nothing
@@ -126,7 +126,7 @@ no-values t =
     let n : ℕ = taxPlace (same t (bytes "50K")) [] in
     by-tag (λ vs. vs ≡ []) t [] (λ _. refl) (λ _. refl) (λ _. refl) (ap (λ (s : List ℕ). pick (isTax (upto 13 s)) (at n (tax t (upto 13 s)) ∷ []) []) (drop-nil n)) refl
 
-joined-length : (l : List ℕ) (ls : List (List ℕ)) → length (joined (l ∷ ls)) + 2 ≡ sizeOf (l ∷ ls)
+pub joined-length : (l : List ℕ) (ls : List (List ℕ)) → length (joined (l ∷ ls)) + 2 ≡ sizeOf (l ∷ ls)
 joined-length l ls = let a = length-append (joined (l ∷ ls)) (13 ∷ 10 ∷ []) in let b = ap length (laid-joined l ls) in omega (arith, laid-size (l ∷ ls))
 
 field-order : (o : ℕ) (f : Field) → Ordered o (at o (tag (tagOf f)) ∷ map (moved (startOf o f)) (valuesOf (tagOf f) (contentOf f))) (nextOf o f)

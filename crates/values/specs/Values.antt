@@ -48,6 +48,10 @@ stands (x ∷ w) i s = eqb (byte s i) x && stands w (suc i) s
 abbrev pub starts : List ℕ → List ℕ → Bool
 starts w s = stands w 0 s
 
+-- three letters and a digit stand at the front
+abbrev pub numbered : List ℕ → List ℕ → Bool
+numbered w s = starts w s && digit (byte s 3)
+
 -- n bytes of the text from i on
 abbrev pub part : ℕ → ℕ → List ℕ → List ℕ
 part i n s = take n (drop i s)
@@ -77,9 +81,13 @@ dateAt b i c = pick b (at i (date (part i 6 c)) ∷ []) []
 unfoldable pub datesBehind : ℕ → List ℕ → List Value
 datesBehind p c = dateAt (leb (p + 7) (length c)) (p + 1) c ++ dateAt (leb (p + 21) (length c) && eqb (byte c (p + 14)) 46) (p + 15) c
 
+-- an RPP line, or a content that begins with one
+abbrev pub isRpp : List ℕ → Bool
+isRpp l = starts (bytes "/RPP/") l
+
 -- 72: where there is an RPP line, it comes first
 unfoldable pub rpp : List ℕ → List Value
-rpp c = pick (starts (bytes "/RPP/") c) (datesBehind (pointIn c) c) []
+rpp c = pick (isRpp c) (datesBehind (pointIn c) c) []
 
 -- a party line with both parts: //RU, nine digits, a point and 20 digits
 unfoldable pub bothParts : List ℕ → Bool
@@ -94,7 +102,7 @@ taxPlace payer c = pick (payer && not (begins 47 c)) 0 (length (upto 13 c) + 2)
 
 -- the line there is a tax line if it begins INN and a digit
 unfoldable pub isTax : List ℕ → Bool
-isTax l = starts (bytes "INN") l && digit (byte l 3)
+isTax l = numbered (bytes "INN") l
 
 -- it has a KPP if .KPP stands behind its digits
 unfoldable pub withKpp : List ℕ → Bool

@@ -1,21 +1,25 @@
 // RPP lines, party lines and tax lines.
 ghost use mathlib.Core.Path.{_≡_};
 ghost use mathlib.Core.Bool.{not, _&&_};
+ghost use mathlib.Core.List.{[], _∷_};
 ghost use Prim.Native.Nat.{_+_, _≤_};
 ghost use lib.Dec.{eqb};
 ghost use lib.ListN.{length, drop};
 ghost use Rattle.base.specs.Quoted.{bytes};
 ghost use Rattle.fields.specs.Field.{upto};
-ghost use Rattle.values.specs.Values.{starts, datesBehind, rpp, bothParts, parties, behindDigits, isTax, withKpp};
+ghost use Rattle.values.specs.Values.{starts, numbered, datesBehind, isRpp, rpp, bothParts, parties, behindDigits, isTax, withKpp};
 ghost use Rattle.values.specs.Judged.{has, noDay, apart};
 ghost use Rattle.values.specs.Answers.{kppOf, faultOf};
 use super::days::is_day;
 use base::bytes::is_digit;
 
-fn is_rpp(content: &[u8]) -> bool
-    requires { ⌜ 5 ≤ length (now content) ⌝ }
-    ensures { λ r. ⌜ r ≡ starts (bytes "/RPP/") (now (content .entry)) ⌝ }
+// An RPP line, or a content that begins with one.
+pub fn is_rpp(content: &[u8]) -> bool
+    ensures { λ r. ⌜ r ≡ isRpp (now (content .entry)) ⌝ }
 {
+    if content.len() < 5 {
+        return false;
+    }
     if content[0] != 47 {
         return false;
     }
@@ -155,22 +159,30 @@ fn is_kpp(s: &[u8]) -> bool
     s[3] == 80
 }
 
-fn is_tax(line: &[u8]) -> bool
+// Whether a text begins with these three letters and a digit.
+pub fn is_numbered(s: &[u8], a: u8, b: u8, c: u8) -> bool
+    ensures { λ r. ⌜ r ≡ numbered (a ∷ b ∷ c ∷ []) (now (s .entry)) ⌝ }
+{
+    if s.len() < 4 {
+        return false;
+    }
+    if s[0] != a {
+        return false;
+    }
+    if s[1] != b {
+        return false;
+    }
+    if s[2] != c {
+        return false;
+    }
+    is_digit(s[3])
+}
+
+// A line in the tax place that begins INN and a digit.
+pub fn is_tax(line: &[u8]) -> bool
     ensures { λ r. ⌜ r ≡ isTax (now (line .entry)) ⌝ }
 {
-    if line.len() < 4 {
-        return false;
-    }
-    if line[0] != 73 {
-        return false;
-    }
-    if line[1] != 78 {
-        return false;
-    }
-    if line[2] != 78 {
-        return false;
-    }
-    is_digit(line[3])
+    is_numbered(line, 73, 78, 78)
 }
 
 fn is_kpp_line(line: &[u8]) -> bool

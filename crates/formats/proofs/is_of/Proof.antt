@@ -10,75 +10,58 @@ use Rattle.base.proofs.bytes.is_capital.Reads as is-capital-reads
 use Rattle.base.proofs.bytes.is_digit.Reads as is-digit-reads
 use Rattle.formats.proofs.is_sign.Reads as is-sign-reads
 
--- src/lib.rt:32:9
+is-digit-requires : tie.Need-is-digit-requires
+is-digit-requires c κs = search needs
+
 returns : tie.Need-returns
 unfolding member
 returns c = search flags depth 12
 
--- src/lib.rt:35:9
-is-digit-requires : tie.Need-is-digit-requires
-is-digit-requires c κs = search needs
+is-capital-requires : tie.Need-is-capital-requires
+is-capital-requires c κs = search needs
 
--- src/lib.rt:35:9
 returns-2 : tie.Need-returns-2
 unfolding member
 returns-2 c = search flags depth 12
 
--- src/lib.rt:38:9
-is-capital-requires : tie.Need-is-capital-requires
-is-capital-requires c κs = search needs
+is-sign-requires : tie.Need-is-sign-requires
+is-sign-requires c κs = search needs
 
--- src/lib.rt:38:9
 returns-3 : tie.Need-returns-3
 unfolding member
 returns-3 c = search flags depth 12
 
--- src/lib.rt:41:9
-is-sign-requires : tie.Need-is-sign-requires
-is-sign-requires c κs = search needs
-
--- src/lib.rt:41:9
 returns-4 : tie.Need-returns-4
 unfolding member
 returns-4 c = search flags depth 12
 
--- src/lib.rt:44:9
 returns-5 : tie.Need-returns-5
 unfolding member
 returns-5 c = search flags depth 12
 
--- src/lib.rt:47:9
+is-digit-requires-2 : tie.Need-is-digit-requires-2
+is-digit-requires-2 c κs = search needs
+
 returns-6 : tie.Need-returns-6
 unfolding member
 returns-6 c = search flags depth 12
 
--- src/lib.rt:50:9
-is-digit-requires-2 : tie.Need-is-digit-requires-2
-is-digit-requires-2 c κs = search needs
-
--- src/lib.rt:50:9
 returns-7 : tie.Need-returns-7
 unfolding member
 returns-7 c = search flags depth 12
-
--- src/lib.rt:28:1
-returns-8 : tie.Need-returns-8
-unfolding member
-returns-8 c = search flags depth 12
 
 pub is-of-spec : {M : Type 1} → statement M
 is-of-spec =
     tie.close
     (tie.spec
-    returns
     is-digit-requires
-    returns-2
+    returns
     is-capital-requires
-    returns-3
+    returns-2
     is-sign-requires
+    returns-3
     returns-4
     returns-5
-    returns-6
     is-digit-requires-2
-    returns-7
-    returns-8)
+    returns-6
+    returns-7)

@@ -1,6 +1,5 @@
 use native.Mathlib.Omega.{arith}
 -- `formats::conditions::is_purpose_first` meets its contract. Assumes nothing.
-use Prim.Native.Nat.{ℕ, _-_}
 use mathlib.Core.Path.{ap, _∙_}
 use Rattle.formats.specs.Format.{purpose}
 use borrow.Author.Needs.{needs}

@@ -1,5 +1,5 @@
 -- `formats::conditions::is_word` meets its contract: too few bytes, or byte by byte. Assumes nothing.
-use mathlib.Core.Path.{_≡_, sym, _∙_}
+use mathlib.Core.Path.{sym, _∙_}
 use native.Mathlib.Omega.{arith}
 use Rattle.base.proofs.Flags.{flags}
 use Rattle.formats.proofs.FormatLaws.{four-short, four-long}

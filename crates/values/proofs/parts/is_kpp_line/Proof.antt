@@ -3,14 +3,15 @@ use mathlib.Core.Path.{sym, ap, _∙_}
 use mathlib.Core.Bool.{Bool, _&&_}
 use borrow.Author.Tests.{not-true, not-false}
 use Rattle.base.specs.Quoted.{bytes}
-use Rattle.values.specs.Values.{starts, withKpp}
-use Rattle.values.proofs.PartLaws.{tax-short, kpp-behind, rest-of}
+use Rattle.values.specs.Values.{starts, isTax, withKpp}
+use Rattle.values.proofs.PartLaws.{numbered-short, kpp-behind, rest-of}
 use borrow.Author.Needs.{needs}
 use Rattle.values.proofs.parts.is_kpp_line.Statement.{statement}
 use Rattle.values.proofs.parts.is_kpp_line.Tie as tie
 
 returns : tie.Need-returns
-returns c = let l = c .before .before .args .line .now in sym (ap (λ (b : Bool). b && withKpp l) (tax-short l (c .if1 .taken)))
+unfolding isTax
+returns c = let l = c .before .before .args .line .now in sym (ap (λ (b : Bool). b && withKpp l) (numbered-short (bytes "INN") l (c .if1 .taken)))
 
 is-tax-requires : tie.Need-is-tax-requires
 is-tax-requires c κs = search needs

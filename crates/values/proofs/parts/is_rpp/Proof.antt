@@ -1,15 +1,14 @@
 -- `values::parts::is_rpp` meets its contract: the five bytes one by one. Assumes nothing.
-use Rattle.values.proofs.TextLaws.{and-end}
+use mathlib.Core.Path.{refl, sym}
+use Rattle.base.specs.Quoted.{bytes}
+use Rattle.values.proofs.TextLaws.{and-end, starts-short}
 use Rattle.base.proofs.Flags.{flags}
 use borrow.Author.Needs.{needs}
 use Rattle.values.proofs.parts.is_rpp.Statement.{statement}
 use Rattle.values.proofs.parts.is_rpp.Tie as tie
 
-shared-slice-read-if1 : tie.Need-shared-slice-read-if1
-shared-slice-read-if1 c = search needs
-
 returns : tie.Need-returns
-returns c = search flags depth 12
+returns c = sym (starts-short (bytes "/RPP/") (c .before .args .content .now) refl (c .if1 .taken))
 
 shared-slice-read-if2 : tie.Need-shared-slice-read-if2
 shared-slice-read-if2 c = search needs
@@ -29,17 +28,22 @@ shared-slice-read-if4 c = search needs
 returns-4 : tie.Need-returns-4
 returns-4 c = search flags depth 12
 
+shared-slice-read-if5 : tie.Need-shared-slice-read-if5
+shared-slice-read-if5 c = search needs
+
+returns-5 : tie.Need-returns-5
+returns-5 c = search flags depth 12
+
 shared-slice-read-result : tie.Need-shared-slice-read-result
 shared-slice-read-result c = search needs
 
-returns-5 : tie.Need-returns-5
-returns-5 c = search (flags, and-end) depth 12
+returns-6 : tie.Need-returns-6
+returns-6 c = search (flags, and-end) depth 12
 
 pub is-rpp-spec : {M : Type 1} → statement M
 is-rpp-spec =
     tie.close
     (tie.spec
-    shared-slice-read-if1
     returns
     shared-slice-read-if2
     returns-2
@@ -47,5 +51,7 @@ is-rpp-spec =
     returns-3
     shared-slice-read-if4
     returns-4
+    shared-slice-read-if5
+    returns-5
     shared-slice-read-result
-    returns-5)
+    returns-6)

@@ -1,57 +1,15 @@
--- `values::parts::is_tax` meets its contract: the four bytes one by one. Assumes nothing.
-use mathlib.Core.Path.{sym}
-use Rattle.values.proofs.PartLaws.{tax-short}
-use Rattle.base.proofs.Flags.{flags}
+-- `values::parts::is_tax` meets its contract. Assumes nothing.
 use Rattle.values.specs.Values.{isTax}
 use borrow.Author.Needs.{needs}
 use Rattle.values.proofs.parts.is_tax.Statement.{statement}
 use Rattle.values.proofs.parts.is_tax.Tie as tie
 
+is-numbered-requires : tie.Need-is-numbered-requires
+is-numbered-requires c κs = search needs
+
 returns : tie.Need-returns
-returns c = sym (tax-short (c .before .before .args .line .now) (c .if1 .taken))
-
-shared-slice-read-if2 : tie.Need-shared-slice-read-if2
-shared-slice-read-if2 c = search needs
-
-returns-2 : tie.Need-returns-2
 unfolding isTax
-returns-2 c = search flags depth 12
-
-shared-slice-read-if3 : tie.Need-shared-slice-read-if3
-shared-slice-read-if3 c = search needs
-
-returns-3 : tie.Need-returns-3
-unfolding isTax
-returns-3 c = search flags depth 12
-
-shared-slice-read-if4 : tie.Need-shared-slice-read-if4
-shared-slice-read-if4 c = search needs
-
-returns-4 : tie.Need-returns-4
-unfolding isTax
-returns-4 c = search flags depth 12
-
-shared-slice-read-is-digit : tie.Need-shared-slice-read-is-digit
-shared-slice-read-is-digit c = search needs
-
-is-digit-requires : tie.Need-is-digit-requires
-is-digit-requires c κs = search needs
-
-returns-5 : tie.Need-returns-5
-unfolding isTax
-returns-5 c = search flags depth 12
+returns c = c .is-numbered .ensures
 
 pub is-tax-spec : {M : Type 1} → statement M
-is-tax-spec =
-    tie.close
-    (tie.spec
-    returns
-    shared-slice-read-if2
-    returns-2
-    shared-slice-read-if3
-    returns-3
-    shared-slice-read-if4
-    returns-4
-    shared-slice-read-is-digit
-    is-digit-requires
-    returns-5)
+is-tax-spec = tie.close (tie.spec is-numbered-requires returns)

@@ -1,0 +1,14 @@
+-- `forms::row_table` meets its contract: the numbers are those of the specs. Assumes nothing.
+use mathlib.Core.Path.{refl}
+use Rattle.forms.specs.States.{rows}
+use Rattle.forms.proofs.row_table.Statement.{statement}
+use Rattle.forms.proofs.row_table.Tie as tie
+use Rattle.forms.proofs.row_table.Reads as reads
+use Rattle.forms.proofs.row_table.Lts as lts
+
+returns : tie.Need-returns
+unfolding rows
+returns c = refl
+
+pub row-table-spec : {M : Type 1} → statement M
+row-table-spec = tie.close (tie.spec returns)

@@ -1,0 +1,156 @@
+-- With the table of codes, what is found in a content is 14 over the field. Assumes nothing.
+use Prim.Native.Nat.{ℕ, _+_, _<_, _≤_}
+use mathlib.Core.Path.{_≡_, refl, sym, ap, ap₂, _∙_}
+use mathlib.Core.Bool.{Bool, true, false, _&&_, _||_}
+use mathlib.Core.List.{List, [], _∷_, _++_, map}
+use native.Mathlib.Omega.{arith}
+use lib.Dec.{ltb}
+use lib.ListN.{length, getD, drop}
+use borrow.Author.Tests.{ne-eqb}
+use Rattle.base.specs.Choice.{pick, all}
+use Rattle.base.specs.Bytes.{isIn, begins, without}
+use Rattle.base.specs.Rules.{then}
+use Rattle.base.specs.Calls.{Answer, said, stuck, textOf}
+use Rattle.base.specs.declared.Verdict.the-variants.{Broken}
+use Rattle.alphabets.specs.Bank.{reads, reading}
+use Rattle.alphabets.specs.Steps.{codes}
+use Rattle.alphabets.specs.Pieces.{Partly, got, halted, partly, whole, pieceOf, pieceIn, signsFrom}
+use Rattle.alphabets.proofs.PieceLaws.{reads-partly, piece-codes, signs-said}
+use Rattle.fields.specs.Field.{Field, field}
+use Rattle.fields.specs.Places.{sizeOf, startOf, nextOf}
+use Rattle.fields.specs.ByLines.{joined}
+use Rattle.machine.proofs.LineLaws.{lines-joined}
+use Rattle.values.proofs.ValueLaws.{joined-length}
+use Rattle.values.specs.Values.{numbered, isTax, isRpp}
+use Rattle.roles.specs.Role.{Part, copy, name, taxName, lineOf, shapeOf, cast}
+use Rattle.roles.specs.Speech.{Manner, named, taxPlaced, told, Speech, speech, saidAt, names, behind, details, codeSize, noted, speeches}
+use Rattle.roles.specs.Rule14.{mute, hidden, isInn, taxLike, clauses, breaks, unheard, texts, spoken}
+use Rattle.roles.specs.Found.{muteIn, breaksIn, found, brokenIn, verdictAt}
+use Rattle.roles.specs.declared.Shape.{Shape}
+use Rattle.roles.specs.declared.Shape.the-variants.{Plain, Payer, Payee, Agent, Details, Note103, Note202}
+use Rattle.roles.specs.declared.Spot.the-variants.{At}
+use Rattle.roles.proofs.BreachLaws.{first-clause, unheard-append, unheard-within, speeches-within}
+
+-- ---- the clauses look at four signs of a reading
+module _ (d u : List ℕ) (h : (j : ℕ) → j < 4 → getD d j 0 ≡ getD u j 0) where
+  same-numbered : (x y z : ℕ) → numbered (x ∷ y ∷ z ∷ []) d ≡ numbered (x ∷ y ∷ z ∷ []) u
+  same-numbered x y z = rw (h 0 (omega arith), h 1 (omega arith), h 2 (omega arith), h 3 (omega arith))
+
+  same-hidden : (b : List ℕ) → hidden b d ≡ hidden b u
+  unfolding hidden
+  same-hidden b = ap (λ (n : ℕ). begins 39 b && isIn n (47 ∷ 58 ∷ 45 ∷ [])) (h 0 (omega arith))
+
+  same-like : taxLike d ≡ taxLike u
+  unfolding taxLike isTax isInn
+  same-like = ap₂ (λ (p q : Bool). p || q) (same-numbered 73 78 78) (same-numbered 200 205 205)
+
+  same-clauses : (m : Manner) (q : Bool) (b : List ℕ) → clauses m q b d ≡ clauses m q b u
+  same-clauses told q b = refl
+  same-clauses named q b = ap (λ (x : Bool). q || x) (same-hidden b)
+  same-clauses taxPlaced q b = ap₂ (λ (x y : Bool). q || (x || y)) (same-hidden b) same-like
+
+mute-whole : (n : ℕ) (p : Partly) → muteIn (pieceOf p) ≡ mute (whole n p)
+mute-whole n (got [] false) = refl
+mute-whole n (got (x ∷ d) false) = ne-eqb (length (x ∷ d)) 0 (λ z. absurd (omega arith))
+mute-whole n (got d true) = refl
+mute-whole n (halted k) = refl
+
+pub mute-codes : (b : List ℕ) → muteIn (pieceIn codes false b) ≡ mute (reading true b)
+mute-codes b = ap muteIn (piece-codes false b) ∙ mute-whole (length b) (partly false b) ∙ ap mute (sym (reads-partly false b))
+
+pub breaks-codes : (m : Manner) (b : List ℕ) → breaksIn codes m b ≡ breaks m b
+unfolding breaksIn breaks
+breaks-codes m b = ap (λ (q : Bool). clauses m q b (signsFrom codes 4 false b 0)) (mute-codes b) ∙ go (reads false b) refl
+  where
+    go : (a : Answer) → reads false b ≡ a → clauses m (mute (reads false b)) b (signsFrom codes 4 false b 0) ≡ clauses m (mute (reads false b)) b (textOf (reads false b))
+    go (stuck k) e = ap (λ (a : Answer). clauses m (mute a) b (signsFrom codes 4 false b 0)) e ∙ first-clause m b (signsFrom codes 4 false b 0) ∙ sym (ap (λ (a : Answer). clauses m (mute a) b (textOf a)) e ∙ first-clause m b [])
+    go (said d) e =
+        same-clauses (signsFrom codes 4 false b 0) d (signs-said 4 false b 0 d e) m (mute (reads false b)) b
+        ∙ ap (λ (u : List ℕ). clauses m (mute (reads false b)) b u) (sym (ap textOf e))
+
+-- ---- texts further on
+abbrev moved : ℕ → Speech → Speech
+moved o (speech m p b) = speech m (o + p) b
+
+map-append : (o : ℕ) (xs ys : List Speech) → map (moved o) (xs ++ ys) ≡ map (moved o) xs ++ map (moved o) ys
+map-append o [] ys = refl
+map-append o (x ∷ xs) ys = ap (λ (zs : List Speech). moved o x ∷ zs) (map-append o xs ys)
+
+said-moved : (o i : ℕ) (p : Part) → saidAt (o + i) p ≡ map (moved o) (saidAt i p)
+said-moved o i (copy p) = refl
+said-moved o i (name p) = refl
+said-moved o i (taxName p) = refl
+
+names-moved : (o i : ℕ) (ps : List Part) → names (o + i) ps ≡ map (moved o) (names i ps)
+unfolding names
+names-moved o i [] = refl
+names-moved o i (p ∷ ps) =
+    let z : o + i + length (lineOf p) + 2 ≡ o + (i + length (lineOf p) + 2) = omega arith in
+    ap₂ (λ (xs ys : List Speech). xs ++ ys) (said-moved o i p) (ap (λ (k : ℕ). names k ps) z ∙ names-moved o (i + length (lineOf p) + 2) ps)
+    ∙ sym (map-append o (saidAt i p) (names (i + length (lineOf p) + 2) ps))
+
+details-moved : (front mark o i : ℕ) (ls : List (List ℕ)) → details front mark (o + i) ls ≡ map (moved o) (details front mark i ls)
+unfolding details
+details-moved front mark o i [] = refl
+details-moved front mark o i (l ∷ ls) = ap (λ (k : ℕ). speech told k (drop front l ++ behind mark ls) ∷ []) (go (ltb front (length l)))
+  where
+    go : (q : Bool) → pick q (o + i + front) (o + i + (length l + 2 + mark)) ≡ o + pick q (i + front) (i + (length l + 2 + mark))
+    go true = omega arith
+    go false = omega arith
+
+noted-moved : (s : Bool) (o i : ℕ) (ls : List (List ℕ)) → noted s (o + i) ls ≡ map (moved o) (noted s i ls)
+unfolding noted
+noted-moved s o i [] = refl
+noted-moved s o i (l ∷ ls) = go (isRpp l)
+  where
+    go : (q : Bool) → pick q (details (5 + codeSize s) 2 (o + i + length l + 2) ls) (details (5 + codeSize s) 2 (o + i) (l ∷ ls)) ≡ map (moved o) (pick q (details (5 + codeSize s) 2 (i + length l + 2) ls) (details (5 + codeSize s) 2 i (l ∷ ls)))
+    go true =
+        let z : o + i + length l + 2 ≡ o + (i + length l + 2) = omega arith in
+        ap (λ (k : ℕ). details (5 + codeSize s) 2 k ls) z ∙ details-moved (5 + codeSize s) 2 o (i + length l + 2) ls
+    go false = details-moved (5 + codeSize s) 2 o i (l ∷ ls)
+
+pub speeches-moved : (s : Bool) (shape : Shape) (o i : ℕ) (ls : List (List ℕ)) → speeches s shape (o + i) ls ≡ map (moved o) (speeches s shape i ls)
+unfolding speeches
+speeches-moved s Plain o i ls = refl
+speeches-moved s Payer o i ls = names-moved o i (cast Payer ls)
+speeches-moved s Payee o i ls = names-moved o i (cast Payee ls)
+speeches-moved s Agent o i ls = names-moved o i (cast Agent ls)
+speeches-moved s Details o i ls = details-moved (codeSize s) 0 o i ls
+speeches-moved s Note103 o i ls = refl
+speeches-moved s Note202 o i ls = noted-moved s o i ls
+
+-- ---- what is found is the rule
+found-unheard : (o : ℕ) (xs : List Speech) → unheard (map (moved o) xs) ≡ verdictAt o (found codes xs)
+unfolding unheard found
+found-unheard o [] = refl
+found-unheard o (speech m p b ∷ xs) = ap (λ (q : Bool). pick q (Broken 14 (o + p)) (unheard (map (moved o) xs))) (sym (breaks-codes m b)) ∙ go (breaksIn codes m b) (found-unheard o xs)
+  where
+    go : (q : Bool) → unheard (map (moved o) xs) ≡ verdictAt o (found codes xs) → pick q (Broken 14 (o + p)) (unheard (map (moved o) xs)) ≡ verdictAt o (pick q (At p) (found codes xs))
+    go true e = refl
+    go false e = e
+
+-- one field: its content is its lines with CR LF between them
+pub field-found : (kind o : ℕ) (t l : List ℕ) (ls : List (List ℕ)) → all (without 13) (l ∷ ls) ≡ true
+    → unheard (texts kind o (field t (l ∷ ls))) ≡ verdictAt (startOf o (field t (l ∷ ls))) (brokenIn codes kind t (joined (l ∷ ls)))
+unfolding brokenIn
+field-found kind o t l ls e =
+    let n : ℕ = startOf o (field t (l ∷ ls)) in
+    let z : n ≡ n + 0 = omega arith in
+    ap (λ (k : ℕ). unheard (speeches true (shapeOf kind t) k (l ∷ ls))) z
+    ∙ ap unheard (speeches-moved true (shapeOf kind t) n 0 (l ∷ ls))
+    ∙ found-unheard n (speeches true (shapeOf kind t) 0 (l ∷ ls))
+    ∙ ap (λ (k : List (List ℕ)). verdictAt n (found codes (speeches true (shapeOf kind t) 0 k))) (sym (lines-joined l ls e))
+
+-- the place found lies in the content, or just behind it
+pub spot-within : (kind : ℕ) (t l : List ℕ) (ls : List (List ℕ)) (p : ℕ) → all (without 13) (l ∷ ls) ≡ true
+    → brokenIn codes kind t (joined (l ∷ ls)) ≡ At p → p ≤ length (joined (l ∷ ls)) + 4
+spot-within kind t l ls p e u =
+    let n : ℕ = startOf 0 (field t (l ∷ ls)) in
+    let z = joined-length l ls in
+    let w = unheard-within (texts kind 0 (field t (l ∷ ls))) n (n + sizeOf (l ∷ ls) + 2) 14 (n + p) (speeches-within true (shapeOf kind t) n (l ∷ ls)) (field-found kind 0 t l ls e ∙ ap (verdictAt n) u) in
+    omega (arith, w, z)
+
+-- field by field
+pub spoken-next : (kind o : ℕ) (f : Field) (fs : List Field) → unheard (spoken kind o (f ∷ fs)) ≡ then (unheard (texts kind o f)) (unheard (spoken kind (nextOf o f) fs))
+unfolding spoken
+spoken-next kind o f fs = unheard-append (texts kind o f) (spoken kind (nextOf o f) fs)

@@ -1,0 +1,6 @@
+pub mod Examples
+pub mod BreachLaws
+pub mod LineLaws
+pub mod ClauseLaws
+pub mod FoundLaws
+pub mod CodeLaws

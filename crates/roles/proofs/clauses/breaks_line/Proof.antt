@@ -1,0 +1,38 @@
+-- `roles::clauses::breaks_line` meets its contract. Assumes nothing.
+use Rattle.base.proofs.Flags.{flags}
+use Rattle.roles.specs.Found.{lineBreaks}
+use borrow.Author.Needs.{needs}
+use Rattle.roles.proofs.clauses.breaks_line.Statement.{statement}
+use Rattle.roles.proofs.clauses.breaks_line.Tie as tie
+
+breaks-named-requires : tie.Need-breaks-named-requires
+breaks-named-requires c κs = search needs
+
+returns : tie.Need-returns
+unfolding lineBreaks
+returns c = search flags depth 9
+
+is-tax-requires : tie.Need-is-tax-requires
+is-tax-requires c κs = search needs
+
+returns-2 : tie.Need-returns-2
+unfolding lineBreaks
+returns-2 c = search flags depth 9
+
+breaks-tax-requires : tie.Need-breaks-tax-requires
+breaks-tax-requires c κs = search needs
+
+returns-3 : tie.Need-returns-3
+unfolding lineBreaks
+returns-3 c = search flags depth 9
+
+pub breaks-line-spec : {M : Type 1} → statement M
+breaks-line-spec =
+    tie.close
+    (tie.spec
+    breaks-named-requires
+    returns
+    is-tax-requires
+    returns-2
+    breaks-tax-requires
+    returns-3)

@@ -1,0 +1,122 @@
+-- Worked examples of 14, as one list (T7, T8, T12, N14a-N14d). That they hold is proved in proofs/Examples.antt. Assumes nothing.
+use Prim.Native.Nat.{ℕ}
+use Prim.Native.String.{String}
+use mathlib.Core.Path.{_≡_}
+use mathlib.Core.Bool.{Bool, true, false}
+use mathlib.Core.List.{List, [], _∷_}
+use Rattle.base.specs.Quoted.{bytes}
+use Rattle.base.specs.Calls.{stuck}
+use Rattle.base.specs.declared.Verdict.the-variants.{Fine, Broken}
+use Rattle.alphabets.specs.Bank.{reading}
+use Rattle.fields.specs.Field.{Field}
+use Rattle.fields.specs.Cases.{of, texts}
+use Rattle.roles.specs.Role.{shapeOf, Part, copy, name, taxName, cast}
+use Rattle.roles.specs.Speech.{told, Speech, speech, speeches}
+use Rattle.roles.specs.Rule14.{rule14}
+
+pub data Case : Type 0 where
+  -- 14 takes these fields of a type, or refuses them at a place; the first field is 20 with the sign, so that the others stand from 13 on
+  takes : ℕ → List Field → Case
+  refuses : ℕ → List Field → ℕ → Case
+  -- the same fields, with that content of 20
+  silent : String → ℕ → List Field → Case
+  -- the lines of a tag are cast so
+  casts : ℕ → String → List String → List Part → Case
+  -- the texts of a tag's lines, with the sign or without it, from place 0 on
+  says : Bool → ℕ → String → List String → List Speech → Case
+  -- a text with the sign stops there
+  stops : String → ℕ → Case
+
+abbrev pub signed : List Field → List Field
+signed fs = of "20" ("+A" ∷ []) ∷ fs
+
+abbrev pub Holds : Case → Type 0
+Holds (takes kind fs) = rule14 kind (signed fs) ≡ Fine
+Holds (refuses kind fs p) = rule14 kind (signed fs) ≡ Broken 14 p
+Holds (silent s kind fs) = rule14 kind (of "20" (s ∷ []) ∷ fs) ≡ Fine
+Holds (casts kind t ls ps) = cast (shapeOf kind (bytes t)) (texts ls) ≡ ps
+Holds (says s kind t ls xs) = speeches s (shapeOf kind (bytes t)) 0 (texts ls) ≡ xs
+Holds (stops b k) = reading true (bytes b) ≡ stuck k
+
+abbrev pub AllHold : List Case → Type 0
+AllHold [] = Unit {0}
+AllHold (c ∷ cs) = Holds c × AllHold cs
+
+-- one field, its content lines
+abbrev pub one : String → List String → List Field
+one t ls = of t ls ∷ []
+
+unfoldable pub cases : List Case
+cases =
+    -- who is who: the account, the tax line, names; a tax line outside the tax place is a name
+    casts 103 "50K" ("/40702" ∷ "INN7" ∷ "NORD" ∷ []) (copy (bytes "/40702") ∷ copy (bytes "INN7") ∷ name (bytes "NORD") ∷ [])
+    ∷ casts 103 "50K" ("INN7" ∷ "INN7" ∷ []) (copy (bytes "INN7") ∷ name (bytes "INN7") ∷ [])
+    ∷ casts 103 "50K" ("NORD" ∷ "/A" ∷ []) (taxName (bytes "NORD") ∷ name (bytes "/A") ∷ [])
+    ∷ casts 103 "59" ("NORD" ∷ "INN" ∷ []) (name (bytes "NORD") ∷ taxName (bytes "INN") ∷ [])
+    ∷ casts 202 "58D" ("/1" ∷ "NORD" ∷ []) (copy (bytes "/1") ∷ taxName (bytes "NORD") ∷ [])
+    ∷ casts 103 "58D" ("/1" ∷ "NORD" ∷ []) (copy (bytes "/1") ∷ copy (bytes "NORD") ∷ [])
+    ∷ casts 103 "57D" ("NORD" ∷ "INN7" ∷ []) (copy (bytes "NORD") ∷ name (bytes "INN7") ∷ [])
+    ∷ casts 202 "70" ("A" ∷ []) (copy (bytes "A") ∷ [])
+    ∷ casts 101 "50K" ("A" ∷ []) (copy (bytes "A") ∷ [])
+    -- S6, S7, parts of a sheet: the tax place of 59 and 58D is the second part, of 50K the second behind a first that begins with /; there
+    -- Latin INN and a digit are copied, with an apostrophe too, and any other part is a name
+    ∷ casts 103 "50K" ("/1" ∷ "NORD" ∷ "INN7" ∷ []) (copy (bytes "/1") ∷ taxName (bytes "NORD") ∷ name (bytes "INN7") ∷ [])
+    ∷ casts 103 "50K" ("//1" ∷ "INN7'" ∷ []) (copy (bytes "//1") ∷ copy (bytes "INN7'") ∷ [])
+    ∷ casts 103 "50K" ("INNA" ∷ "INN7" ∷ []) (taxName (bytes "INNA") ∷ name (bytes "INN7") ∷ [])
+    ∷ casts 103 "59" ("INN7" ∷ "INN7" ∷ "INN7" ∷ []) (name (bytes "INN7") ∷ copy (bytes "INN7") ∷ name (bytes "INN7") ∷ [])
+    ∷ casts 103 "59" ("/1" ∷ "/2" ∷ []) (copy (bytes "/1") ∷ taxName (bytes "/2") ∷ [])
+    ∷ casts 202 "58D" ("NORD" ∷ "INN7" ∷ "/1" ∷ []) (name (bytes "NORD") ∷ copy (bytes "INN7") ∷ name (bytes "/1") ∷ [])
+    -- the first part of 56D and 57D is copied, whatever it is, and every later one is a name; all other tags' parts are copied
+    ∷ casts 103 "56D" ("INN7" ∷ "/1" ∷ "INN7" ∷ []) (copy (bytes "INN7") ∷ name (bytes "/1") ∷ name (bytes "INN7") ∷ [])
+    ∷ casts 202 "56D" ("//RU" ∷ "NORD" ∷ []) (copy (bytes "//RU") ∷ name (bytes "NORD") ∷ [])
+    ∷ casts 202 "57D" ("//RU" ∷ "NORD" ∷ []) (copy (bytes "//RU") ∷ name (bytes "NORD") ∷ [])
+    ∷ casts 103 "57A" ("/1" ∷ "NORD" ∷ []) (copy (bytes "/1") ∷ copy (bytes "NORD") ∷ [])
+    ∷ casts 202 "50K" ("NORD" ∷ []) (copy (bytes "NORD") ∷ [])
+    ∷ casts 202 "59" ("NORD" ∷ []) (copy (bytes "NORD") ∷ [])
+    ∷ casts 103 "77B" ("/A" ∷ "B" ∷ []) (copy (bytes "/A") ∷ copy (bytes "B") ∷ [])
+    -- T12: the text behind the code starts afresh
+    ∷ says true 103 "70" ("'(VO10100)''A'" ∷ []) (speech told 11 (bytes "'A'") ∷ [])
+    ∷ takes 103 (one "70" ("'(VO10100)''A'" ∷ []))
+    -- without the sign the code is shorter
+    ∷ says false 103 "70" ("(VO10100)A" ∷ "B" ∷ []) (speech told 9 (bytes "AB") ∷ [])
+    ∷ says false 202 "72" ("/NZP/(VO10100)" ∷ "//A" ∷ "//B" ∷ []) (speech told 18 (bytes "AB") ∷ [])
+    -- N14d: the code ends its line
+    ∷ refuses 103 (one "70" ("'(VO10100)'A" ∷ "W" ∷ [])) 28
+    ∷ refuses 103 (one "70" ("'(VO10100)'" ∷ "W" ∷ [])) 30
+    ∷ refuses 202 (one "72" ("/NZP/'(VO10100)'W" ∷ [])) 33
+    ∷ refuses 202 (one "72" ("/NZP/'(VO10100)'" ∷ "//W" ∷ [])) 37
+    ∷ refuses 202 (one "72" ("/RPP/1.240229.1.ELEK" ∷ "/NZP/'(VO10100)'" ∷ "//W" ∷ [])) 59
+    ∷ takes 103 (one "72" ("/RPP/W" ∷ []))
+    -- N14a: an empty reading, no reading; T7: a name ends on the Russian side by itself, details at their end
+    ∷ refuses 103 (one "50K" ("''" ∷ [])) 18
+    ∷ refuses 103 (one "50K" ("A" ∷ "W" ∷ [])) 21
+    ∷ refuses 103 (one "50K" ("'A" ∷ "B'" ∷ [])) 18
+    ∷ takes 103 (one "70" ("'(VO10100)'A'B" ∷ "W'C" ∷ []))
+    ∷ refuses 103 (one "70" ("'(VO10100)'A'B" ∷ "W" ∷ [])) 28
+    ∷ refuses 103 (one "70" ("'(VO10100)'''" ∷ [])) 28
+    ∷ takes 103 (one "56D" ("W" ∷ "A" ∷ []))
+    ∷ refuses 103 (one "56D" ("W" ∷ "W" ∷ [])) 21
+    -- N14b: every name, even where it would do no harm
+    ∷ refuses 103 (one "50K" ("'-'" ∷ [])) 18
+    ∷ refuses 103 (one "50K" ("A" ∷ "''/" ∷ [])) 21
+    ∷ refuses 103 (one "50K" ("A" ∷ "':A'" ∷ [])) 21
+    ∷ takes 103 (one "50K" ("A" ∷ "/A" ∷ "'A-'" ∷ []))
+    ∷ takes 103 (one "70" ("'(VO10100)''-'" ∷ []))
+    -- N14c: three letters of one alphabet and a digit, in whatever spelling
+    ∷ refuses 103 (one "59" ("/1" ∷ "I''NN7" ∷ [])) 21
+    ∷ refuses 103 (one "59" ("/1" ∷ "INN''7" ∷ [])) 21
+    ∷ refuses 103 (one "59" ("/1" ∷ "'INN'7" ∷ [])) 21
+    ∷ refuses 103 (one "50K" ("'INN7'" ∷ [])) 18
+    ∷ takes 103 (one "59" ("/1" ∷ "'I'NN7" ∷ []))
+    ∷ takes 103 (one "59" ("/1" ∷ "'INN'A" ∷ "'INN'7" ∷ []))
+    ∷ takes 103 (one "59" ("/1" ∷ "INN7" ∷ []))
+    -- T8: a byte outside the x set, before an open end
+    ∷ stops "'A;B" 2
+    ∷ stops ";" 0
+    ∷ stops "'AB" 3
+    -- the first of two, and no sign: no 20 with a +, or not the first
+    ∷ refuses 103 (of "50K" ("A" ∷ "W" ∷ []) ∷ of "59" ("W" ∷ []) ∷ []) 21
+    ∷ refuses 103 (of "50K" ("A" ∷ "B" ∷ []) ∷ of "59" ("W" ∷ []) ∷ []) 28
+    ∷ silent "A+" 103 (one "50K" ("W" ∷ []))
+    ∷ silent "A" 103 (of "20" ("+A" ∷ []) ∷ of "50K" ("W" ∷ []) ∷ [])
+    ∷ []

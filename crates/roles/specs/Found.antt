@@ -1,0 +1,63 @@
+-- 14 over one content, as code finds it: the content in bytes, the table lent, places counted from the content's start. With the table of codes
+-- it is the rule (proofs/CodeLaws). Assumes nothing.
+use Prim.Native.Nat.{ℕ, _+_}
+use mathlib.Core.Bool.{Bool, true, false, _||_, _&&_, not}
+use mathlib.Core.List.{List, [], _∷_, _++_, map}
+use lib.Dec.{eqb, ltb}
+use lib.ListN.{length, drop}
+use Rattle.base.specs.Choice.{pick}
+use Rattle.base.specs.declared.Verdict.{Verdict}
+use Rattle.base.specs.declared.Verdict.the-variants.{Fine, Broken}
+use Rattle.alphabets.specs.Pieces.{pieceIn, signsFrom}
+use Rattle.alphabets.specs.declared.pieces.Piece.{Piece}
+use Rattle.alphabets.specs.declared.pieces.Piece.the-variants.{Read, Stops}
+use Rattle.machine.specs.Lines.{linesIn}
+use Rattle.values.specs.Values.{isTax}
+use Rattle.roles.specs.Role.{Part, name, shapeOf, taxed}
+use Rattle.roles.specs.Speech.{Manner, named, taxPlaced, Speech, speech, behind, speeches}
+use Rattle.roles.specs.Rule14.{clauses}
+use Rattle.roles.specs.declared.Spot.{Spot}
+use Rattle.roles.specs.declared.Spot.the-variants.{Nowhere, At}
+
+-- the lines behind the one that ends at e: it ends at a CR, and they stand behind that and its LF; or it is the last
+unfoldable pub linesPast : List ℕ → ℕ → List (List ℕ)
+linesPast c e = pick (ltb e (length c)) (linesIn (drop (e + 2) c)) []
+
+-- ---- the clauses by a table
+abbrev pub muteIn : Piece → Bool
+muteIn (Read n s) = s || eqb n 0
+muteIn (Stops k) = true
+
+unfoldable pub breaksIn : List ℕ → Manner → List ℕ → Bool
+breaksIn t m b = clauses m (muteIn (pieceIn t false b)) b (signsFrom t 4 false b 0)
+
+unfoldable pub found : List ℕ → List Speech → Spot
+found t [] = Nowhere
+found t (speech m o b ∷ xs) = pick (breaksIn t m b) (At o) (found t xs)
+
+unfoldable pub brokenIn : List ℕ → ℕ → List ℕ → List ℕ → Spot
+brokenIn t kind tag c = found t (speeches true (shapeOf kind tag) 0 (linesIn c))
+
+-- as a verdict, the content at o
+abbrev pub verdictAt : ℕ → Spot → Verdict
+verdictAt o Nowhere = Fine
+verdictAt o (At p) = Broken 14 (o + p)
+
+-- ---- words of the contracts of private functions
+-- names, the first line of them in the tax place or not
+abbrev pub castFrom : Bool → List (List ℕ) → List Part
+castFrom true ls = taxed ls
+castFrom false ls = map name ls
+
+unfoldable pub lineBreaks : List ℕ → Bool → List ℕ → Bool
+lineBreaks t tax l = pick tax (pick (isTax l) false (breaksIn t taxPlaced l)) (breaksIn t named l)
+
+-- the text of details
+abbrev pub toldText : ℕ → ℕ → List (List ℕ) → List ℕ
+toldText front mark [] = []
+toldText front mark (l ∷ ls) = drop front l ++ behind mark ls
+
+-- mute behind a text that has some signs or none
+abbrev pub muteAfter : Bool → Piece → Bool
+muteAfter some (Read n s) = s || (not some && eqb n 0)
+muteAfter some (Stops k) = true

@@ -1,0 +1,6 @@
+pub mod Role
+pub mod Speech
+pub mod Rule14
+pub mod Cases
+pub mod Sentences
+pub mod Found

@@ -1,0 +1,45 @@
+-- What 14 comes to, clause by clause and over placed texts, as statements. Assumes nothing.
+use Prim.Native.Nat.{ℕ, _≤_}
+use mathlib.Core.Path.{_≡_}
+use mathlib.Core.Bool.{true, false}
+use mathlib.Core.List.{List, [], _∷_, _++_}
+use Rattle.base.specs.Calls.{said, stuck}
+use Rattle.alphabets.specs.Bank.{reading}
+use Rattle.roles.specs.Speech.{Manner, named, taxPlaced, Speech, speech}
+use Rattle.roles.specs.Rule14.{hidden, taxLike, breaks}
+
+-- a text breaks 14 in one of these ways
+pub data Breach : Manner → List ℕ → Type 0 where
+  -- N14a
+  unreadable : {m : Manner} {b : List ℕ} (k : ℕ) → reading true b ≡ stuck k → Breach m b
+  wordless : {m : Manner} {b : List ℕ} → reading true b ≡ said [] → Breach m b
+  -- N14b
+  nameHides : {b : List ℕ} (d : List ℕ) → reading true b ≡ said d → hidden b d ≡ true → Breach named b
+  taxHides : {b : List ℕ} (d : List ℕ) → reading true b ≡ said d → hidden b d ≡ true → Breach taxPlaced b
+  -- N14c
+  likeTax : {b : List ℕ} (d : List ℕ) → reading true b ≡ said d → taxLike d ≡ true → Breach taxPlaced b
+
+-- no text breaks it
+abbrev pub Heard : List Speech → Type 0
+Heard [] = Unit {0}
+Heard (speech m o b ∷ xs) = (breaks m b ≡ false) × Heard xs
+
+-- the text at p breaks it, and none before
+pub record FirstBreach (xs : List Speech) (p : ℕ) : Type 0 where
+  pub before : List Speech
+  pub after : List Speech
+  pub manner : Manner
+  pub text : List ℕ
+  pub list : xs ≡ before ++ speech manner p text ∷ after
+  pub heard : Heard before
+  pub breach : Breach manner text
+
+-- the places do not fall, from a to e
+abbrev pub Within : ℕ → ℕ → List Speech → Type 0
+Within a e [] = a ≤ e
+Within a e (speech m p b ∷ xs) = (a ≤ p) × Within p e xs
+
+-- every text that breaks it stands at p or later
+abbrev pub NoneBefore : ℕ → List Speech → Type 0
+NoneBefore p [] = Unit {0}
+NoneBefore p (speech m q b ∷ xs) = (breaks m b ≡ true → p ≤ q) × NoneBefore p xs

@@ -1,0 +1,61 @@
+-- The texts of a field with their places (T7, T12, Cdetails, C72, N14d). Assumes nothing.
+use Prim.Native.Nat.{ℕ, _+_}
+use mathlib.Core.Bool.{Bool, true, false}
+use mathlib.Core.List.{List, [], _∷_, _++_}
+use lib.Dec.{ltb}
+use lib.ListN.{length, drop}
+use Rattle.base.specs.Choice.{pick}
+use Rattle.values.specs.Values.{isRpp}
+use Rattle.roles.specs.Role.{Part, copy, name, taxName, lineOf, cast}
+use Rattle.roles.specs.declared.Shape.{Shape}
+use Rattle.roles.specs.declared.Shape.the-variants.{Plain, Payer, Payee, Agent, Details, Note103, Note202}
+
+-- a text: what it is, the place of its first byte, its bytes
+pub data Manner : Type 0 where
+  named taxPlaced told : Manner
+
+pub data Speech : Type 0 where
+  speech : Manner → ℕ → List ℕ → Speech
+
+-- ---- names: each line is a text, at its own place; the lines stand from o on
+abbrev pub saidAt : ℕ → Part → List Speech
+saidAt o (copy p) = []
+saidAt o (name p) = speech named o p ∷ []
+saidAt o (taxName p) = speech taxPlaced o p ∷ []
+
+unfoldable pub names : ℕ → List Part → List Speech
+names o [] = []
+names o (p ∷ ps) = saidAt o p ++ names (o + length (lineOf p) + 2) ps
+
+-- ---- details: one text, what stands behind `front` bytes of the first line and `mark` bytes of each later one
+unfoldable pub behind : ℕ → List (List ℕ) → List ℕ
+behind mark [] = []
+behind mark (l ∷ ls) = drop mark l ++ behind mark ls
+
+-- where the front ends its line, the text begins in the next
+abbrev pub toldAt : ℕ → ℕ → ℕ → List ℕ → ℕ
+toldAt front mark o l = pick (ltb front (length l)) (o + front) (o + (length l + 2 + mark))
+
+unfoldable pub details : ℕ → ℕ → ℕ → List (List ℕ) → List Speech
+details front mark o [] = []
+details front mark o (l ∷ ls) = speech told (toldAt front mark o l) (drop front l ++ behind mark ls) ∷ []
+
+-- the VO code, with the sign and without
+abbrev pub codeSize : Bool → ℕ
+codeSize true = 11
+codeSize false = 9
+
+-- 72 in 202: perhaps an RPP line, then details behind /NZP/ and //
+unfoldable pub noted : Bool → ℕ → List (List ℕ) → List Speech
+noted s o [] = []
+noted s o (l ∷ ls) = pick (isRpp l) (details (5 + codeSize s) 2 (o + length l + 2) ls) (details (5 + codeSize s) 2 o (l ∷ ls))
+
+-- ---- the texts of a field's lines, which stand from o on; s: with the sign
+unfoldable pub speeches : Bool → Shape → ℕ → List (List ℕ) → List Speech
+speeches s Plain o ls = []
+speeches s Payer o ls = names o (cast Payer ls)
+speeches s Payee o ls = names o (cast Payee ls)
+speeches s Agent o ls = names o (cast Agent ls)
+speeches s Details o ls = details (codeSize s) 0 o ls
+speeches s Note103 o ls = []
+speeches s Note202 o ls = noted s o ls

@@ -1,0 +1,89 @@
+// The clauses of 14 for one name.
+ghost use mathlib.Core.Path.{_≡_};
+ghost use mathlib.Core.Bool.{false};
+ghost use mathlib.Core.List.{[], _∷_};
+ghost use Rattle.base.specs.Bytes.{isIn, begins};
+ghost use Rattle.alphabets.specs.Pieces.{pieceIn};
+ghost use Rattle.roles.specs.Speech.{named, taxPlaced};
+ghost use Rattle.roles.specs.Found.{muteIn, breaksIn, lineBreaks};
+use alphabets::pieces::Piece;
+use alphabets::pieces::first_signs;
+use alphabets::pieces::read_piece;
+use values::parts::is_numbered;
+use values::parts::is_tax;
+
+fn is_mark(b: u8) -> bool
+    ensures { λ r. ⌜ r ≡ isIn b (47 ∷ 58 ∷ 45 ∷ []) ⌝ }
+{
+    if b == 47 {
+        return true;
+    }
+    if b == 58 {
+        return true;
+    }
+    b == 45
+}
+
+// Whether a line begins with that byte.
+pub(crate) fn starts(c: u8, line: &[u8]) -> bool
+    ensures { λ r. ⌜ r ≡ begins c (now (line .entry)) ⌝ }
+{
+    if line.len() == 0 {
+        return false;
+    }
+    line[0] == c
+}
+
+// No reading, or an empty one.
+fn is_mute(back: &[u8; 256], text: &[u8]) -> bool
+    ensures { λ r. ⌜ r ≡ muteIn (pieceIn (now (back .entry)) false (now (text .entry))) ⌝ }
+{
+    match read_piece(back, false, text) {
+        Piece::Stops(_) => true,
+        Piece::Read { units, latin } => {
+            if latin {
+                return true;
+            }
+            units == 0
+        }
+    }
+}
+
+pub(crate) fn breaks_named(back: &[u8; 256], name: &[u8]) -> bool
+    ensures { λ r. ⌜ r ≡ breaksIn (now (back .entry)) named (now (name .entry)) ⌝ }
+{
+    if is_mute(back, name) {
+        return true;
+    }
+    if !starts(39, name) {
+        return false;
+    }
+    let f = first_signs(back, name);
+    is_mark(f[0])
+}
+
+fn breaks_tax(back: &[u8; 256], name: &[u8]) -> bool
+    ensures { λ r. ⌜ r ≡ breaksIn (now (back .entry)) taxPlaced (now (name .entry)) ⌝ }
+{
+    if breaks_named(back, name) {
+        return true;
+    }
+    let f = first_signs(back, name);
+    if is_tax(&f) {
+        return true;
+    }
+    is_numbered(&f, 200, 205, 205)
+}
+
+// A line from the tax place on: a tax line there is no text.
+pub(crate) fn breaks_line(back: &[u8; 256], tax: bool, line: &[u8]) -> bool
+    ensures { λ r. ⌜ r ≡ lineBreaks (now (back .entry)) tax (now (line .entry)) ⌝ }
+{
+    if !tax {
+        return breaks_named(back, line);
+    }
+    if is_tax(line) {
+        return false;
+    }
+    breaks_tax(back, line)
+}
