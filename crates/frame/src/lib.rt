@@ -2,7 +2,7 @@
 pub mod calls;
 mod late;
 mod lines;
-mod pass;
+pub mod pass;
 
 use base::Verdict;
 

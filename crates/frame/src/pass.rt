@@ -23,8 +23,8 @@ use types::TAGS;
 use types::steps::is_missing;
 use types::steps::step_of;
 
-// Nothing but the refusal.
-pub(crate) fn refused(verdict: Verdict) -> Frame
+// What is found of a message that is refused: nothing but the refusal.
+pub fn refused(verdict: Verdict) -> Frame
     ensures { λ r. ⌜ r ≡ bare verdict ⌝ }
 {
     Frame {

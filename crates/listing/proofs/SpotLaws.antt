@@ -37,7 +37,7 @@ module _ {kind : ℕ} {m spots : List ℕ} {w : ℕ} (f : Found kind m spots w) 
   pub taken-found : Taken kind m
   taken-found = taken kind m (f .clean)
 
-  spot-at : (k : ℕ) → k ≤ length (fields m) → byte spots k ≡ byte (colons m ++ (length m - 2) ∷ []) k
+  pub spot-at : (k : ℕ) → k ≤ length (fields m) → byte spots k ≡ byte (colons m ++ (length m - 2) ∷ []) k
   unfolding spotsOf
   spot-at k h =
       let n = length-append (colons m) ((length m - 2) ∷ []) in

@@ -1,0 +1,6 @@
+pub mod PartLaws
+pub mod FactLaws
+pub mod LoopLaws
+pub mod CallLaws
+pub mod Theorems
+pub mod SmallLaws

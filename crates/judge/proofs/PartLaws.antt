@@ -1,0 +1,183 @@
+-- The fields that the quick pass found are the fields of the message, each with its tag and its content. Assumes nothing.
+use Prim.Native.Nat.{ℕ, zero, suc, _+_, _-_, _*_, _≤_, _<_}
+use mathlib.Core.Path.{_≡_, refl, sym, ap, ap₂, _∙_, subst}
+use mathlib.Core.Bool.{Bool, true, false, false≢true}
+use mathlib.Core.List.{List, [], _∷_, _++_, append-assoc}
+use native.Mathlib.Omega.{arith}
+use native.Mathlib.Numerals.{add-one}
+use lib.Dec.{eqb}
+use lib.ListN.{length, take, drop, getD, length-append, drop-of-length-le}
+use lib.Seq.{drop-cons, getD-drop}
+use borrow.Author.Tests.{eq-eqb, ne-eqb}
+use Rattle.base.specs.Choice.{pick, all}
+use Rattle.base.specs.Bytes.{byte, capital, begins, without}
+use Rattle.base.proofs.Bools.{left, right}
+use Rattle.fields.specs.Field.{Field, field, closing, laid, lined, linesOf, fields}
+use Rattle.fields.specs.Places.{sizeOf, startOf, nextOf, endOf, colonsOf}
+use Rattle.fields.specs.Shapes.{shaped, shapedTag, follows, lineable, pack, unpack}
+use Rattle.fields.specs.ByLines.{joined, startAt}
+use Rattle.fields.proofs.TagLaws.{Shape, plain, lettered, shape-of}
+use Rattle.fields.proofs.PackLaws.{unpack-pack}
+use Rattle.fields.proofs.PlaceLaws.{Standing, start-at, field-bytes, next-standing, content-bytes, content-part, laid-joined, fields-stand}
+use Rattle.forms.proofs.ContentLaws.{firstOf}
+use Rattle.frame.proofs.CallLaws.{Found, taken}
+use Rattle.listing.proofs.SpotLaws.{spot-at}
+use Rattle.judge.specs.declared.parts.Part.{Part}
+use Rattle.judge.specs.Parts.{tagAt, Settled, Here}
+
+-- ---- the fields stand at their spots
+colon-stands : (m : List ℕ) (fs : List Field) (o k : ℕ) → Standing m o fs → k ≤ length fs → Standing m (byte (colonsOf o fs ++ (length m - 2) ∷ []) k) (drop k fs)
+colon-stands m [] o zero w h = let d = w .dash in let z : o ≡ length m - 2 = omega arith in subst (λ (i : ℕ). Standing m i []) z w
+colon-stands m [] o (suc k) w h = absurd (omega arith)
+colon-stands m (f ∷ fs) o zero w h = w
+colon-stands m (field t [] ∷ fs) o (suc k) w h = absurd (false≢true (w .able))
+colon-stands m (field t (l ∷ ls) ∷ fs) o (suc k) w h = colon-stands m fs (nextOf o (field t (l ∷ ls))) k (next-standing m o t l ls fs w) (omega arith)
+
+pub settled : {kind : ℕ} {m spots : List ℕ} {w : ℕ} → Found kind m spots w → Settled m spots
+settled {kind} {m} {spots} f =
+    let t = taken kind m (f .clean) in
+    let w = fields-stand m (t .frame-fine) (t .bytes-fine) (t .lines-fine) in
+    let at : (k : ℕ) → k ≤ length (fields m) → Standing m (byte spots k) (drop k (fields m)) =
+    λ k h. subst (λ (o : ℕ). Standing m o (drop k (fields m))) (sym (spot-at f k h)) (colon-stands m (fields m) 5 k w h) in
+    record { within = t .within; few = t .few; start = omega (arith, w .dash, at 0 (omega arith) .dash); stand = at }
+
+-- ---- the tag
+tag-is : (m : List ℕ) (o : ℕ) (t r : List ℕ) → shaped t ≡ true → drop o m ≡ 58 ∷ (t ++ 58 ∷ r) → tagAt m o ≡ pack t
+unfolding tagAt capital
+tag-is m o t r e d = go (shape-of t e)
+  where
+    nth : (u : List ℕ) (i : ℕ) → t ≡ u → byte m (o + i) ≡ byte (58 ∷ (u ++ 58 ∷ r)) i
+    nth u i q = sym (getD-drop o m i 0) ∙ ap (λ (x : List ℕ). byte x i) (d ∙ ap (λ (v : List ℕ). 58 ∷ (v ++ 58 ∷ r)) q)
+
+    told : (x y z : ℕ) → byte m (o + 1) ≡ x → byte m (o + 2) ≡ y → byte m (o + 3) ≡ z → tagAt m o ≡ x * 65536 + y * 256 + pick (eqb z 58) 0 z
+    told x y z p q s = ap₂ (λ (a b : ℕ). a * 65536 + b * 256 + pick (eqb (byte m (o + 3)) 58) 0 (byte m (o + 3))) p q ∙ ap (λ (c : ℕ). x * 65536 + y * 256 + pick (eqb c 58) 0 c) s
+
+    go : Shape t → tagAt m o ≡ pack t
+    go (plain a b q x y) = let u = a ∷ b ∷ [] in told a b 58 (nth u 1 q) (nth u 2 q) (nth u 3 q) ∙ ap pack (sym q)
+    go (lettered a b c q x y k) =
+        let u = a ∷ b ∷ c ∷ [] in
+        let f : eqb c 58 ≡ false = ne-eqb c 58 (λ p. false≢true (ap capital (sym p) ∙ k)) in
+        told a b c (nth u 1 q) (nth u 2 q) (nth u 3 q) ∙ ap (λ (p : Bool). a * 65536 + b * 256 + pick p 0 c) f ∙ ap pack (sym q)
+
+-- ---- the field at k
+sign-at : (l r : List ℕ) → eqb (byte (l ++ 13 ∷ r) 0) 43 ≡ begins 43 l
+sign-at [] r = refl
+sign-at (x ∷ l) r = refl
+
+first-byte : (m : List ℕ) (i : ℕ) → byte m i ≡ byte (drop i m) 0
+first-byte m i = let z : i ≡ i + 0 = omega arith in ap (byte m) z ∙ sym (getD-drop i m 0 0)
+
+-- a tag has two signs at least
+tag-long : (t : List ℕ) → Shape t → 2 ≤ length t
+tag-long t (plain a b q x y) = let n = ap length q in omega arith
+tag-long t (lettered a b c q x y k) = let n = ap length q in omega arith
+
+-- the field at k stands at its spot, and the next one at the next
+pub record Stands (m spots : List ℕ) (k : ℕ) : Type 0 where
+  pub tag : List ℕ
+  pub line : List ℕ
+  pub more : List (List ℕ)
+  pub is : drop k (fields m) ≡ field tag (line ∷ more) ∷ drop (k + 1) (fields m)
+  pub here : Standing m (byte spots k) (field tag (line ∷ more) ∷ drop (k + 1) (fields m))
+  pub next : byte spots (k + 1) ≡ nextOf (byte spots k) (field tag (line ∷ more))
+  pub shape : shaped tag ≡ true
+  pub far : byte spots k + 6 ≤ byte spots (k + 1)
+  pub end : byte spots (k + 1) + 2 ≤ length m
+
+pub stands : {m spots : List ℕ} → Settled m spots → (k : ℕ) → k < length (fields m) → Stands m spots k
+stands {m} {spots} s k h =
+    let e : drop k (fields m) ≡ getD (fields m) k (field [] []) ∷ drop (k + 1) (fields m) =
+    drop-cons (fields m) k (field [] []) h ∙ ap (λ (j : ℕ). getD (fields m) k (field [] []) ∷ drop j (fields m)) (sym (add-one k)) in
+    go (getD (fields m) k (field [] [])) e (subst (Standing m (byte spots k)) e (s .stand k (omega arith)))
+  where
+    go : (f : Field) → drop k (fields m) ≡ f ∷ drop (k + 1) (fields m) → Standing m (byte spots k) (f ∷ drop (k + 1) (fields m)) → Stands m spots k
+    go (field t []) e w = absurd (false≢true (w .able))
+    go (field t (l ∷ ls)) e w =
+        let v = next-standing m (byte spots k) t l ls (drop (k + 1) (fields m)) w in
+        let u = s .stand (k + 1) (omega arith) in
+        let z : byte spots (k + 1) ≡ nextOf (byte spots k) (field t (l ∷ ls)) = omega (arith, v .dash, u .dash) in
+        let q = left (shaped t) (all shapedTag (drop (k + 1) (fields m))) (w .tags) in
+        let n = length-append t (58 ∷ l) in
+        record {
+          tag = t;
+          line = l;
+          more = ls;
+          is = e;
+          here = w;
+          next = z;
+          shape = q;
+          far = omega (arith, tag-long t (shape-of t q));
+          end = omega (arith, u .dash);
+        }
+
+-- what code finds there
+module _ {m spots : List ℕ} (s : Settled m spots) (k : ℕ) (h : k < length (fields m)) where
+  pub here : {c t a e : ℕ} → c ≡ byte spots k → t ≡ tagAt m c → a ≡ startAt m c → e ≡ byte spots (k + 1) - 2 → Here m spots k (record { colon = c; tag = t; start = a; end = e })
+  here {c} {t} {a} {e} p q r z = go (stands s k h)
+    where
+      go : Stands m spots k → Here m spots k (record { colon = c; tag = t; start = a; end = e })
+      go w =
+          let o : ℕ = byte spots k in
+          let rest = drop (k + 1) (fields m) in
+          let behind = laid (w .line ∷ w .more) ++ (laid (linesOf rest) ++ closing) in
+          let d = field-bytes m o (w .tag) (w .line) (w .more) rest (w .here) in
+          let st : a ≡ startOf o (field (w .tag) (w .line ∷ w .more)) = r ∙ ap (startAt m) p ∙ start-at m o (w .tag) behind (w .shape) d in
+          let en : e ≡ endOf o (field (w .tag) (w .line ∷ w .more)) = z ∙ ap (λ (x : ℕ). x - 2) (w .next) in
+          let able = left (lineable (field (w .tag) (w .line ∷ w .more))) (all lineable rest) (w .here .able) in
+          let n = length-append (w .tag) (58 ∷ w .line) in
+          let content : drop (startOf o (field (w .tag) (w .line ∷ w .more))) m ≡ w .line ++ 13 ∷ ((10 ∷ laid (w .more)) ++ (laid (linesOf rest) ++ closing)) =
+          content-bytes m o (w .tag) (w .line) (w .more) rest (w .here) ∙ append-assoc (w .line) (13 ∷ 10 ∷ laid (w .more)) (laid (linesOf rest) ++ closing) in
+          record {
+            tag = w .tag;
+            line = w .line;
+            more = w .more;
+            is = w .is;
+            colon-is = p;
+            next-is = w .next ∙ ap (λ (i : ℕ). nextOf i (field (w .tag) (w .line ∷ w .more))) (sym p);
+            tag-is = ap unpack (q ∙ ap (tagAt m) p ∙ tag-is m o (w .tag) behind (w .shape) d) ∙ unpack-pack (w .tag) (w .shape);
+            start-is = st ∙ ap (λ (i : ℕ). startOf i (field (w .tag) (w .line ∷ w .more))) (sym p);
+            content-is = ap₂ (λ (x y : ℕ). take (x - y) (drop y m)) en st ∙ content-part m o (w .tag) (w .line) (w .more) rest (w .here);
+            no-cr = left (all (without 13) (w .line ∷ w .more)) (all follows (w .more)) (right (without 13 (w .tag)) _ (right (without 58 (w .tag)) _ able));
+            sign-is = ap (λ (x : ℕ). eqb x 43) (first-byte m a) ∙ ap (λ (x : List ℕ). eqb (byte x 0) 43) (ap (λ (i : ℕ). drop i m) st ∙ content) ∙ sign-at (w .line) ((10 ∷ laid (w .more)) ++ (laid (linesOf rest) ++ closing));
+            low = omega (arith, w .next, w .end);
+            high = omega (arith, w .end);
+          }
+
+-- ---- the tag, as code reads it
+module _ (m : List ℕ) (o : ℕ) {a b : ℕ} (p : a ≡ byte m (o + 1)) (q : b ≡ byte m (o + 2)) where
+  pub tag-short : byte m (o + 3) ≡ 58 → a * 65536 + b * 256 ≡ tagAt m o
+  unfolding tagAt
+  tag-short e =
+      let z : a * 65536 + b * 256 ≡ byte m (o + 1) * 65536 + byte m (o + 2) * 256 + 0 = omega arith in
+      z ∙ ap (λ (t : Bool). byte m (o + 1) * 65536 + byte m (o + 2) * 256 + pick t 0 (byte m (o + 3))) (sym (eq-eqb (byte m (o + 3)) 58 e))
+
+  pub tag-letter : {c : ℕ} → c ≡ byte m (o + 3) → (byte m (o + 3) ≡ 58 → ⊥) → a * 65536 + b * 256 + c ≡ tagAt m o
+  unfolding tagAt
+  tag-letter {c} r h =
+      let z : a * 65536 + b * 256 + c ≡ byte m (o + 1) * 65536 + byte m (o + 2) * 256 + byte m (o + 3) = omega arith in
+      z ∙ ap (λ (t : Bool). byte m (o + 1) * 65536 + byte m (o + 2) * 256 + pick t 0 (byte m (o + 3))) (sym (ne-eqb (byte m (o + 3)) 58 h))
+
+-- ---- a walk over the fields, from spot to spot
+abbrev pub fieldOf : {m spots : List ℕ} {k : ℕ} {p : Part} → Here m spots k p → Field
+fieldOf h = field (h .tag) (h .line ∷ h .more)
+
+module _ {m spots : List ℕ} {k : ℕ} {p : Part} (h : Here m spots k p) {R : Type 0} (F : ℕ → List Field → R) where
+  pub at-field : F (byte spots k) (drop k (fields m)) ≡ F (p .colon) (fieldOf h ∷ drop (k + 1) (fields m))
+  at-field = ap₂ F (sym (h .colon-is)) (h .is)
+
+  pub next-field : F (nextOf (p .colon) (fieldOf h)) (drop (k + 1) (fields m)) ≡ F (byte spots (k + 1)) (drop (k + 1) (fields m))
+  next-field = ap (λ (o : ℕ). F o (drop (k + 1) (fields m))) (sym (h .next-is))
+
+pub walk-start : {m spots : List ℕ} → Settled m spots → {R : Type 0} (F : ℕ → List Field → R) → F 5 (fields m) ≡ F (byte spots 0) (drop 0 (fields m))
+walk-start {m} s F = ap (λ (o : ℕ). F o (fields m)) (sym (s .start))
+
+pub walk-end : (m : List ℕ) {k n : ℕ} (o : ℕ) {R : Type 0} (F : ℕ → List Field → R) → n ≡ length (fields m) → n ≤ k → F o (drop k (fields m)) ≡ F o []
+walk-end m {k} {n} o F e h = ap (F o) (drop-of-length-le (fields m) {i = k} (omega arith))
+
+-- ---- the sign
+pub no-sign : (fs : List Field) {n : ℕ} → n ≡ length fs → n ≡ 0 → false ≡ begins 43 (firstOf fs)
+no-sign [] e z = refl
+no-sign (f ∷ fs) e z = absurd (omega arith)
+
+pub sign-here : {m spots : List ℕ} {p : Part} → Here m spots 0 p → eqb (byte m (p .start)) 43 ≡ begins 43 (firstOf (fields m))
+sign-here h = h .sign-is ∙ ap (λ (fs : List Field). begins 43 (firstOf fs)) (sym (h .is))

@@ -1,0 +1,55 @@
+-- `judge::calls::inner_verdict` meets its contract. Assumes nothing.
+use Rattle.judge.proofs.CallLaws.{inner-refused, inner-plain, inner-signed}
+use Rattle.fields.specs.Field.{fields}
+use borrow.Author.Tests.{not-true, not-false}
+use mathlib.Core.Path.{_∙_}
+use borrow.Author.Needs.{needs}
+use Rattle.judge.proofs.calls.inner_verdict.Statement.{statement}
+use Rattle.judge.proofs.calls.inner_verdict.Tie as tie
+use Rattle.judge.proofs.calls.inner_verdict.Reads as reads
+use Rattle.judge.proofs.calls.inner_verdict.Lts as lts
+use Rattle.alphabets.proofs.pieces.back_table.Reads as back-table-reads
+use Rattle.judge.proofs.facts.facts_of.Reads as facts-of-reads
+use Rattle.judge.proofs.facts.values_rule.Reads as values-rule-reads
+use Rattle.judge.proofs.speeches.speeches_rule.Reads as speeches-rule-reads
+
+facts-of-requires : tie.Need-facts-of-requires
+facts-of-requires c κs = search needs
+
+values-rule-requires : tie.Need-values-rule-requires
+values-rule-requires c κs = search needs
+
+enum-known-v : tie.Need-enum-known-v
+enum-known-v c = search needs
+
+returns : tie.Need-returns
+returns c = let a = (c .before .before .before .before .before .before .args) in inner-refused (a .kind) (fields (a .m .now)) (c .before .before .before .before .facts-of .ensures) (c .before .before .before .values-rule .ensures) (c .before .v .given .1)
+
+enum-told : tie.Need-enum-told
+enum-told c = search needs
+
+returns-2 : tie.Need-returns-2
+returns-2 c = let s = (c .before .before .before .before .before .before) in inner-plain (s .args .kind) (fields (s .args .m .now)) (c .before .before .before .before .facts-of .ensures) (c .before .before .before .values-rule .ensures) (c .before .enum-told .given .1) (s .pre .2) (not-true _ (c .if1 .taken))
+
+back-table-requires : tie.Need-back-table-requires
+back-table-requires c κs = search needs
+
+speeches-rule-requires : tie.Need-speeches-rule-requires
+speeches-rule-requires c κs = search needs
+
+returns-3 : tie.Need-returns-3
+returns-3 c = let s = (c .before .before .before .before .before .before .before .before .before) in (c .speeches-rule .ensures) ∙ inner-signed (s .args .kind) (fields (s .args .m .now)) (c .before .before .before .before .before .before .before .facts-of .ensures) (c .before .before .before .before .before .before .values-rule .ensures) (c .before .before .before .before .enum-told .given .1) (s .pre .2) (not-false _ (c .before .before .before .if1 .left))
+
+pub inner-verdict-spec : {M : Type 1} → statement M
+inner-verdict-spec =
+    tie.close
+    (tie.spec
+    facts-of-requires
+    values-rule-requires
+    enum-known-v
+    returns
+    enum-told
+    returns-2
+    back-table-requires
+    speeches-rule-requires
+    returns-3)

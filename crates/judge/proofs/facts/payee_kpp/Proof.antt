@@ -1,0 +1,20 @@
+use borrow.Author.Needs.{needs}
+use Rattle.judge.proofs.FactLaws.{payee-not, payee-kpp}
+use mathlib.Core.Path.{_∙_}
+use Rattle.judge.proofs.facts.payee_kpp.Statement.{statement}
+use Rattle.judge.proofs.facts.payee_kpp.Tie as tie
+use Rattle.judge.proofs.facts.payee_kpp.Reads as reads
+use Rattle.judge.proofs.facts.payee_kpp.Lts as lts
+use Rattle.values.proofs.parts.has_kpp.Reads as has-kpp-reads
+
+returns : tie.Need-returns
+returns c = payee-not (c .before .before .args .tag) (c .before .before .args .content .now) (c .if1 .taken)
+
+has-kpp-requires : tie.Need-has-kpp-requires
+has-kpp-requires c κs = search needs
+
+returns-2 : tie.Need-returns-2
+returns-2 c = (c .has-kpp .ensures) ∙ payee-kpp (c .before .before .before .args .tag) (c .before .before .before .args .content .now) (c .before .if1 .left)
+
+pub payee-kpp-spec : {M : Type 1} → statement M
+payee-kpp-spec = tie.close (tie.spec returns has-kpp-requires returns-2)

@@ -1,0 +1,43 @@
+// 8: each content is as its tag asks.
+ghost use mathlib.Core.Path.{_≡_};
+ghost use lib.ListN.{length};
+ghost use Rattle.fields.specs.Field.{fields};
+ghost use Rattle.fields.specs.Places.{startOf};
+ghost use Rattle.forms.specs.Formats.{formats};
+ghost use Rattle.forms.specs.States.{rows};
+ghost use Rattle.forms.specs.FieldRules.{firstWrong};
+ghost use Rattle.forms.specs.Contents.{rightField};
+ghost use Rattle.judge.specs.Parts.{Settled};
+use super::parts::field_at;
+use base::Verdict;
+use forms::state_of;
+use frame::SPOTS;
+use machine::is_right;
+
+pub(crate) fn contents_rule(
+    kind: u32,
+    sign: bool,
+    f: &[u8; 588],
+    r: &[u8; 295],
+    m: &[u8],
+    spots: &[u32; SPOTS],
+    n: usize,
+) -> Verdict
+    requires { ⌜ (now f ≡ formats) × (now r ≡ rows) × Settled (now m) (now spots) × (n ≡ length (fields (now m))) ⌝ }
+    ensures { λ v. ⌜ v ≡ firstWrong 8 (rightField kind sign) startOf 5 (fields (now (m .entry))) ⌝ }
+{
+    let mut k = 0;
+    while k < n {
+        let p = field_at(m, spots, k);
+        let start = p.start;
+        let end = p.end;
+        if !is_right(f, r, state_of(kind, sign, p.tag), &m[start..end]) {
+            return Verdict::Broken {
+                number: 8,
+                place: start,
+            };
+        }
+        k += 1;
+    }
+    Verdict::Fine
+}

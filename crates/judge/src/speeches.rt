@@ -1,0 +1,38 @@
+// 14: each text can be read, and hides nothing.
+ghost use mathlib.Core.Path.{_≡_};
+ghost use lib.ListN.{length};
+ghost use Rattle.alphabets.specs.Steps.{codes};
+ghost use Rattle.fields.specs.Field.{fields};
+ghost use Rattle.roles.specs.Rule14.{unheard, spoken};
+ghost use Rattle.judge.specs.Parts.{Settled};
+use super::parts::field_at;
+use base::Verdict;
+use frame::SPOTS;
+use roles::Spot;
+use roles::texts::broken_text;
+
+pub(crate) fn speeches_rule(
+    back: &[u8; 256],
+    kind: u32,
+    m: &[u8],
+    spots: &[u32; SPOTS],
+    n: usize,
+) -> Verdict
+    requires { ⌜ (now back ≡ codes) × Settled (now m) (now spots) × (n ≡ length (fields (now m))) ⌝ }
+    ensures { λ v. ⌜ v ≡ unheard (spoken kind 5 (fields (now (m .entry)))) ⌝ }
+{
+    let mut k = 0;
+    while k < n {
+        let p = field_at(m, spots, k);
+        let start = p.start;
+        let end = p.end;
+        if let Spot::At(i) = broken_text(back, kind, p.tag, &m[start..end]) {
+            return Verdict::Broken {
+                number: 14,
+                place: start + i,
+            };
+        }
+        k += 1;
+    }
+    Verdict::Fine
+}

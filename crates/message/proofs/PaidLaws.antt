@@ -1,0 +1,321 @@
+-- The 32A of an accepted message: it is there, its amount is whole, and its date is a day of the calendar (K3, Camount, Cdate). Assumes nothing.
+use Prim.Native.Nat.{ℕ, zero, suc, _+_, _-_, _≤_, _<_}
+use mathlib.Core.Path.{_≡_, refl, sym, ap, ap₂, _∙_, subst}
+use mathlib.Core.Bool.{Bool, true, false, _&&_, _||_, false≢true, true≢false}
+use mathlib.Core.List.{List, [], _∷_}
+use native.Mathlib.Omega.{arith}
+use native.Mathlib.Decide.{decLt}
+use lib.Dec.{eqb, leb}
+use lib.ListN.{length, take, drop, length-drop}
+use borrow.Author.Tests.{eq-eqb, eqb-true, eqb-false, leb-true, le-leb}
+use Rattle.base.specs.Choice.{pick, all}
+use Rattle.base.specs.Bytes.{digit, capital, same, empty}
+use Rattle.base.specs.Quoted.{bytes}
+use Rattle.base.specs.Rules.{then}
+use Rattle.base.specs.declared.Verdict.{Verdict}
+use Rattle.base.specs.declared.Verdict.the-variants.{Fine, Broken}
+use Rattle.base.proofs.Bools.{left, right}
+use Rattle.base.proofs.ByteLaws.{same-is}
+use Rattle.base.proofs.RuleLaws.{fine-broken, then-clean}
+use Rattle.fields.specs.Field.{Field, field, tagOf, fields}
+use Rattle.fields.specs.Places.{startOf, nextOf, endOf}
+use Rattle.fields.specs.ByLines.{joined}
+use Rattle.fields.proofs.PlaceLaws.{Standing, next-standing, content-part, fields-stand}
+use Rattle.types.specs.Form.{Place, placesOf, forms, form103, form202}
+use Rattle.types.specs.Walk.{find, optional, rule18}
+use Rattle.types.specs.Sign.{signOf}
+use Rattle.types.proofs.TableLaws.{no-form}
+use Rattle.types.proofs.WalkLaws.{placeAt, Skipped, Seated, AllRight, Accepted, seated, walked-accepted}
+use Rattle.types.proofs.WordLaws.{Present}
+use Rattle.formats.specs.Format.{member, run, counted, fits, formatAt}
+use Rattle.machine.specs.Machine.{cell, nextAt, isAs, holds, tookOf, tookFrom, took, rowsOf}
+use Rattle.machine.specs.Machine as machine
+use Rattle.forms.specs.Formats.{formats}
+use Rattle.forms.specs.States.{rows, at32A, done}
+use Rattle.forms.specs.Contents.{starts103, starts202, stateIn, stateOf, rightField}
+use Rattle.forms.proofs.StartLaws.{state-103, state-202}
+use Rattle.values.specs.Values.{valuesOf, valuesIn, part}
+use Rattle.values.specs.Judged.{firstBad, noDay}
+use Rattle.values.specs.Answers.{dayAt, dateOf, kopecksOf, faultOf, answered}
+use Rattle.values.specs.Day.{realDay, dated, year, month, day}
+use Rattle.values.specs.Money.{kopecks}
+use Rattle.values.specs.Sentences.{OfCalendar}
+use Rattle.values.proofs.DayLaws.{day-iff, day-within, date-long}
+use Rattle.values.proofs.FaultLaws.{paid-day, of-32A}
+use Rattle.values.proofs.StepLaws.{first-field}
+use Rattle.listing.specs.declared.Span.the-variants.{Part, Nothing}
+use Rattle.listing.specs.Lists.{partAt}
+use Rattle.message.specs.Calls.{spanBy, spanOf, partOf, contentOf, paid, amountBy, amountOf, daySplit, dayBy, dayOf}
+use Rattle.message.specs.declared.Amount.the-variants as amounts
+use Rattle.message.proofs.PartLaws.{paid-103, paid-202}
+use Rattle.listing.proofs.SpanLaws.{part-listed}
+use Rattle.frame.proofs.CallLaws.{taken}
+use Rattle.judge.specs.Message.{verdictOf}
+use Rattle.judge.proofs.Theorems.{message-accepts, frame-clean, contents-right, days-right}
+
+-- ---- a mandatory place is present
+must-present : (ps : List Place) (next : ℕ) (fs : List Field) (i : ℕ) → Accepted ps next fs → next ≤ i → i < length ps → optional (placeAt ps i) ≡ false → Present ps fs i
+must-present ps next [] i a l h o = absurd (a .whole (record { at = i; low = l; high = h; mandatory = o }))
+must-present ps next (f ∷ fs) i a l h o =
+    go (seated ps next (tagOf f) (a .fine .0)) (decLt i (find ps (tagOf f))) (decLt (find ps (tagOf f)) i)
+    (λ k. must-present ps (suc (find ps (tagOf f))) fs i (record { fine = a .fine .1; whole = a .whole }) k h o)
+  where
+    q : ℕ
+    q = find ps (tagOf f)
+
+    further : Present ps fs i → Present ps (f ∷ fs) i
+    further p = let w = p .within in record { number = suc (p .number); within = omega arith; place = p .place }
+
+    go : Seated ps next q → Dec (i < q) → Dec (q < i) → (suc q ≤ i → Present ps fs i) → Present ps (f ∷ fs) i
+    go s (yes b) d r = absurd (s .free (record { at = i; low = l; high = b; mandatory = o }))
+    go s (no b) (yes c) r = further (r (omega arith))
+    go s (no b) (no c) r = let z : q ≡ i = omega arith in record { number = 0; within = omega arith; place = z }
+
+-- ---- a run of a class is no longer than the text
+run-short : (c n : ℕ) (s : List ℕ) → run c n s ≤ length s
+unfolding run
+run-short c zero s = omega arith
+run-short c (suc n) [] = omega arith
+run-short c (suc n) (b ∷ s) = go (member c b) (run-short c n s)
+  where
+    go : (q : Bool) → run c n s ≤ length s → pick q (suc (run c n s)) zero ≤ suc (length s)
+    go true h = omega arith
+    go false h = omega arith
+
+-- ---- what 8 says of 32A: one line of 9 to 24 bytes
+nine-bytes : (l : List ℕ) → fits (formatAt formats 40) l ≡ true → 9 ≤ length l
+unfolding formats fits counted
+nine-bytes l e =
+    let a = leb-true 6 (run 132 6 l) (left (leb 6 (run 132 6 l)) _ e) in
+    let f = right (leb 6 (run 132 6 l)) _ e in
+    let b = leb-true 3 (run 133 3 (drop (run 132 6 l) l)) (left (leb 3 (run 133 3 (drop (run 132 6 l) l))) _ f) in
+    let c = run-short 132 6 l in
+    let d = run-short 133 3 (drop (run 132 6 l) l) in
+    let n = length-drop (run 132 6 l) l in
+    omega arith
+
+-- a line that a state takes at whose row any line may begin: it is no wider than the row says, and has its format
+module _ (f m : List ℕ) (q : ℕ) (l : List ℕ) (n : ℕ) (z : rowsOf m - q ≡ suc n) (c : cell m q 0 ≡ 0) where
+  took-zero : holds f m q l ≡ false → took f m q l ≡ 0
+  unfolding tookOf isAs
+  took-zero h =
+      ap (pick (empty l) 0) (ap (λ (k : ℕ). tookOf f m k q l) z ∙ rw (h, eq-eqb (cell m q 0) 0 c)) ∙ go (empty l)
+    where
+      go : (b : Bool) → _≡_ {A = ℕ} (pick b 0 0) 0
+      go true = refl
+      go false = refl
+
+  row-holds : (ls : List (List ℕ)) → machine.right f m q (l ∷ ls) ≡ true → holds f m q l ≡ true
+  unfolding machine.right
+  row-holds ls r = go (holds f m q l) refl
+    where
+      go : (b : Bool) → holds f m q l ≡ b → b ≡ true
+      go true e = refl
+      go false e = absurd (false≢true (sym (ap (λ (w : ℕ). pick (eqb w 0) false (machine.right f m (nextAt m w) ls)) (took-zero e)) ∙ r))
+
+  -- and it takes that row
+  took-row : (ls : List (List ℕ)) → machine.right f m q (l ∷ ls) ≡ true → machine.right f m (nextAt m q) ls ≡ true
+  unfolding machine.right tookOf
+  took-row ls r =
+      go (empty l) refl r
+    where
+      is : tookFrom f m q l ≡ q
+      is = ap (λ (k : ℕ). tookOf f m k q l) z ∙ rw (row-holds ls r)
+
+      by : (b : Bool) → pick b false (machine.right f m (nextAt m q) ls) ≡ true → machine.right f m (nextAt m q) ls ≡ true
+      by true h = absurd (false≢true h)
+      by false h = h
+
+      go : (b : Bool) → empty l ≡ b → pick (eqb (pick b 0 (tookFrom f m q l)) 0) false (machine.right f m (nextAt m (pick b 0 (tookFrom f m q l))) ls) ≡ true → machine.right f m (nextAt m q) ls ≡ true
+      go true e h = absurd (false≢true h)
+      go false e h = by (eqb q 0) (ap (λ (w : ℕ). pick (eqb w 0) false (machine.right f m (nextAt m w) ls)) (sym is) ∙ h)
+
+-- ---- 32A: one line of 9 to 24 bytes
+pub record PaidLine (ls : List (List ℕ)) : Type 0 where
+  pub line : List ℕ
+  pub is : ls ≡ line ∷ []
+  pub long : 9 ≤ length line
+  pub short : length line ≤ 24
+
+paid-line : (ls : List (List ℕ)) → machine.right formats rows at32A ls ≡ true → PaidLine ls
+unfolding rows cell machine.right holds isAs
+paid-line [] e = absurd (false≢true e)
+paid-line (l ∷ []) e =
+    let h = row-holds formats rows 6 l 52 refl refl [] e in
+    record { line = l; is = refl; long = nine-bytes l (right (leb (length l) 24) _ h); short = leb-true (length l) 24 (left (leb (length l) 24) _ h) }
+paid-line (l ∷ k ∷ ks) e = absurd (go k (took-row formats rows 6 l 52 refl refl (k ∷ ks) e))
+  where
+    go : (k : List ℕ) → machine.right formats rows done (k ∷ ks) ≡ true → ⊥
+    go [] h = false≢true h
+    go (x ∷ k) h = let w = leb-true (length (x ∷ k)) 0 (left (leb (length (x ∷ k)) 0) _ (row-holds formats rows 1 (x ∷ k) 57 refl refl ks h)) in omega arith
+
+-- ---- the field of a place: its content is right, and no date of it is wrong
+record Shown (m : List ℕ) (ps : List Place) (q o : ℕ) (fs : List Field) (kind : ℕ) (sign : Bool) : Type 0 where
+  tag : List ℕ
+  line : List ℕ
+  more : List (List ℕ)
+  at-place : find ps tag ≡ q
+  content : partOf m (partAt ps q o fs) ≡ joined (line ∷ more)
+  right-is : rightField kind sign (field tag (line ∷ more)) ≡ true
+  days : faultOf noDay (valuesOf tag (joined (line ∷ more))) ≡ 0
+
+no-fault : (number s k : ℕ) → answered number s k ≡ Fine → k ≡ 0
+no-fault number s zero e = refl
+no-fault number s (suc k) e = absurd (fine-broken number (s + k) (sym e))
+
+shown : (m : List ℕ) (ps : List Place) (q o : ℕ) (fs : List Field) (kind : ℕ) (sign : Bool) → Standing m o fs → all (rightField kind sign) fs ≡ true → firstBad 9 noDay (valuesIn o fs) ≡ Fine
+    → (partAt ps q o fs ≡ Nothing → ⊥) → Shown m ps q o fs kind sign
+unfolding partAt
+shown m ps q o [] kind sign w r d h = absurd (h refl)
+shown m ps q o (field t [] ∷ fs) kind sign w r d h = absurd (false≢true (w .able))
+shown m ps q o (field t (l ∷ ls) ∷ fs) kind sign w r d h =
+    let f = field t (l ∷ ls) in
+    let c = then-clean (answered 9 (startOf o f) (faultOf noDay (valuesOf t (joined (l ∷ ls))))) (firstBad 9 noDay (valuesIn (nextOf o f) fs)) (sym (first-field 9 noDay (λ u. refl) o f fs) ∙ d) in
+    go (eqb (find ps t) q) refl h (no-fault 9 (startOf o f) (faultOf noDay (valuesOf t (joined (l ∷ ls)))) (c .0))
+    (shown m ps q (nextOf o f) fs kind sign (next-standing m o t l ls fs w) (right (rightField kind sign f) (all (rightField kind sign) fs) r) (c .1))
+  where
+    go : (b : Bool) → eqb (find ps t) q ≡ b → (pick b (Part (startOf o (field t (l ∷ ls))) (endOf o (field t (l ∷ ls)))) (partAt ps q (nextOf o (field t (l ∷ ls))) fs) ≡ Nothing → ⊥)
+        → faultOf noDay (valuesOf t (joined (l ∷ ls))) ≡ 0
+        → ((partAt ps q (nextOf o (field t (l ∷ ls))) fs ≡ Nothing → ⊥) → Shown m ps q (nextOf o (field t (l ∷ ls))) fs kind sign)
+        → Shown m ps q o (field t (l ∷ ls) ∷ fs) kind sign
+    go true e g k i =
+        record {
+          tag = t;
+          line = l;
+          more = ls;
+          at-place = eqb-true (find ps t) q e;
+          content = ap (λ (b : Bool). partOf m (pick b (Part (startOf o (field t (l ∷ ls))) (endOf o (field t (l ∷ ls)))) (partAt ps q (nextOf o (field t (l ∷ ls))) fs))) e ∙ content-part m o t l ls fs w;
+          right-is = left (rightField kind sign (field t (l ∷ ls))) (all (rightField kind sign) fs) r;
+          days = k;
+        }
+    go false e g k i =
+        let s = i g in
+        record {
+          tag = s .tag;
+          line = s .line;
+          more = s .more;
+          at-place = s .at-place;
+          content = ap (λ (b : Bool). partOf m (pick b (Part (startOf o (field t (l ∷ ls))) (endOf o (field t (l ∷ ls)))) (partAt ps q (nextOf o (field t (l ∷ ls))) fs))) e ∙ s .content;
+          right-is = s .right-is;
+          days = s .days;
+        }
+
+-- ---- the place of 32A is mandatory, and its tag alone stands there
+record Sits (ps : List Place) (q : ℕ) : Type 0 where
+  below : q < length ps
+  mandatory : optional (placeAt ps q) ≡ false
+  alone : (t : List ℕ) → find ps t ≡ q → same t (bytes "32A") ≡ true
+
+third : (a b c d : Bool) (n : ℕ) → pick (a || false) 0 (suc (pick (b || false) 0 (suc (pick (c || false) 0 (suc (pick (d || false) 0 (suc n))))))) ≡ 3 → d ≡ true
+third true b c d n e = absurd (omega arith)
+third false true c d n e = absurd (omega arith)
+third false false true d n e = absurd (omega arith)
+third false false false true n e = refl
+third false false false false n e = absurd (omega arith)
+
+second : (a b c : Bool) (n : ℕ) → pick (a || false) 0 (suc (pick (b || false) 0 (suc (pick (c || false) 0 (suc n))))) ≡ 2 → c ≡ true
+second true b c n e = absurd (omega arith)
+second false true c n e = absurd (omega arith)
+second false false true n e = refl
+second false false false n e = absurd (omega arith)
+
+sits-103 : Sits (placesOf 103) 3
+unfolding placesOf forms form103 form202 find
+sits-103 =
+    record { below = omega arith; mandatory = refl; alone = λ t e. third (same t (bytes "20")) (same t (bytes "23B")) (same t (bytes "26T")) (same t (bytes "32A")) (find (drop 4 (placesOf 103)) t) e }
+
+sits-202 : Sits (placesOf 202) 2
+unfolding placesOf forms form103 form202 find
+sits-202 = record { below = omega arith; mandatory = refl; alone = λ t e. second (same t (bytes "20")) (same t (bytes "21")) (same t (bytes "32A")) (find (drop 3 (placesOf 202)) t) e }
+
+-- ---- in an accepted message
+pub record PaidIn (kind : ℕ) (m : List ℕ) : Type 0 where
+  pub line : List ℕ
+  pub is : paid kind m ≡ line
+  pub long : 9 ≤ length line
+  pub short : length line ≤ 24
+  -- the kopecks are the value of the digits
+  pub amount : amountOf kind m ≡ amounts.Is (kopecks (drop 9 line))
+  -- the date is that of the first six digits, a day of the calendar
+  pub date : dayOf kind m ≡ daySplit (dated (part 0 6 line))
+  pub calendar : OfCalendar (year (part 0 6 line)) (month (part 0 6 line)) (day (part 0 6 line))
+
+not-nothing : (s t : ℕ) → Part s t ≡ Nothing → ⊥
+not-nothing s t e = let z : _≡_ {A = ℕ} 0 1 = cc in omega arith
+
+module _ (kind : ℕ) (m : List ℕ) (e : verdictOf kind m ≡ Fine) (q : ℕ) (s : Sits (placesOf kind) q) (z : q ≡ find (placesOf kind) (bytes "32A"))
+    (st : (sign : Bool) → stateOf kind sign (bytes "32A") ≡ at32A) where
+  is-there : partAt (placesOf kind) q 5 (fields m) ≡ Nothing → ⊥
+  is-there n =
+      let t = taken kind m (frame-clean kind m e) in
+      let p = must-present (placesOf kind) 0 (fields m) q (walked-accepted kind m .0 (t .walk-fine)) (omega arith) (s .below) (s .mandatory) in
+      not-nothing _ _ (sym (part-listed (placesOf kind) 0 5 (fields m) (p .number) q (t .right) (p .within) (p .place)) ∙ n)
+
+  the-field : Shown m (placesOf kind) q 5 (fields m) kind (signOf (fields m))
+  the-field =
+      let t = taken kind m (frame-clean kind m e) in
+      shown m (placesOf kind) q 5 (fields m) kind (signOf (fields m)) (fields-stand m (t .frame-fine) (t .bytes-fine) (t .lines-fine)) (contents-right kind m e) (days-right kind m e) is-there
+
+  its-tag : the-field .tag ≡ bytes "32A"
+  its-tag = same-is (the-field .tag) (bytes "32A") (s .alone (the-field .tag) (the-field .at-place))
+
+  its-line : PaidLine (the-field .line ∷ the-field .more)
+  unfolding rightField
+  its-line =
+      let f = the-field in
+      paid-line (f .line ∷ f .more) (sym (ap (λ (k : ℕ). machine.right formats rows k (f .line ∷ f .more)) (ap (stateOf kind (signOf (fields m))) its-tag ∙ st (signOf (fields m)))) ∙ f .right-is)
+
+  its-content : paid kind m ≡ its-line .line
+  unfolding paid contentOf spanOf
+  its-content =
+      ap (λ (k : ℕ). partOf m (spanBy (verdictOf kind m) (partAt (placesOf kind) k 5 (fields m)))) (sym z)
+      ∙ ap (λ (v : Verdict). partOf m (spanBy v (partAt (placesOf kind) q 5 (fields m)))) e ∙ the-field .content ∙ ap joined (its-line .is)
+
+  its-day : dayAt (its-line .line) 0 ≡ true
+  its-day =
+      let c = its-line .line in
+      let f = the-field in
+      go (dayAt c 0) (sym (paid-day c (its-line .long) (dayAt c 0) refl)
+      ∙ sym (ap (faultOf noDay) (of-32A 3355201 c refl)) ∙ ap₂ (λ (t u : List ℕ). faultOf noDay (valuesOf t u)) (sym its-tag) (sym (ap joined (its-line .is))) ∙ f .days)
+    where
+      go : (b : Bool) → _≡_ {A = ℕ} (pick b 0 1) 0 → b ≡ true
+      go true h = refl
+      go false h = absurd (omega arith)
+
+  paid-in : PaidIn kind m
+  unfolding amountOf dayOf kopecksOf realDay
+  paid-in =
+      let c = its-line .line in
+      let g = its-line .long in
+      let w : 0 + 6 ≤ length c = omega arith in
+      record {
+        line = c;
+        is = its-content;
+        long = its-line .long;
+        short = its-line .short;
+        amount = ap (λ (v : Verdict). amountBy v (kopecksOf (paid kind m))) e ∙ ap (λ (u : List ℕ). amounts.Is (kopecksOf u)) its-content ∙ ap (λ (b : Bool). amounts.Is (pick b (kopecks (drop 9 c)) 0)) (le-leb (length c) 24 (its-line .short));
+        date = ap (λ (v : Verdict). dayBy v (dateOf (paid kind m))) e ∙ ap (λ (u : List ℕ). daySplit (dateOf u)) its-content ∙ ap daySplit (date-long c (omega arith));
+        calendar = day-iff (year (part 0 6 c)) (month (part 0 6 c)) (day (part 0 6 c)) .0 (sym (day-within c 0 w) ∙ its-day);
+      }
+
+state-is : (sign : Bool) → stateIn (starts103 sign) (bytes "32A") ≡ at32A
+unfolding starts103 same
+state-is sign = refl
+
+state-is-202 : (sign : Bool) → stateIn (starts202 sign) (bytes "32A") ≡ at32A
+unfolding starts202 same
+state-is-202 sign = refl
+
+pub paid-whole : (kind : ℕ) (m : List ℕ) → verdictOf kind m ≡ Fine → PaidIn kind m
+unfolding rule18
+paid-whole kind m e = go (eqb kind 103) (eqb kind 202) refl refl
+  where
+    go : (a b : Bool) → eqb kind 103 ≡ a → eqb kind 202 ≡ b → PaidIn kind m
+    go true b x y =
+        let k = eqb-true kind 103 x in
+        paid-in kind m e 3 (subst (λ (n : ℕ). Sits (placesOf n) 3) (sym k) sits-103) (paid-103 ∙ ap (λ (n : ℕ). find (placesOf n) (bytes "32A")) (sym k)) (λ sign. state-103 kind sign (bytes "32A") k ∙ state-is sign)
+    go false true x y =
+        let k = eqb-true kind 202 y in
+        paid-in kind m e 2 (subst (λ (n : ℕ). Sits (placesOf n) 2) (sym k) sits-202) (paid-202 ∙ ap (λ (n : ℕ). find (placesOf n) (bytes "32A")) (sym k)) (λ sign. state-202 kind sign (bytes "32A") k ∙ state-is-202 sign)
+    go false false x y =
+        absurd (fine-broken 18 0 (sym (message-accepts kind m .0 e .0) ∙ ap (λ (ps : List Place). pick (empty ps) (Broken 18 0) Fine) (no-form kind (eqb-false kind 103 x) (eqb-false kind 202 y))))

@@ -1,0 +1,148 @@
+-- The part of a place stands in the message, and the part of a right content has bytes. Assumes nothing.
+use Prim.Native.Nat.{ℕ, _+_, _-_, _≤_}
+use mathlib.Core.Path.{_≡_, refl, sym, ap, ap₂, _∙_, subst}
+use mathlib.Core.Bool.{Bool, true, false, false≢true}
+use mathlib.Core.List.{List, [], _∷_, _++_}
+use native.Mathlib.Omega.{arith}
+use lib.Dec.{eqb}
+use lib.ListN.{length, take, drop, length-append}
+use borrow.Author.Tests.{eq-eqb, ne-eqb}
+use Rattle.base.specs.Choice.{pick, all}
+use Rattle.base.specs.Bytes.{empty, same}
+use Rattle.base.specs.Quoted.{bytes}
+use Rattle.base.specs.declared.Verdict.{Verdict}
+use Rattle.base.specs.declared.Verdict.the-variants.{Fine, Broken}
+use Rattle.base.proofs.Bools.{left, right}
+use Rattle.fields.specs.Field.{Field, field, lined, linesOf, tagOf, fields}
+use Rattle.fields.specs.Places.{sizeOf, startOf, nextOf, endOf}
+use Rattle.fields.specs.ByLines.{joined}
+use Rattle.fields.proofs.PlaceLaws.{Standing, size-append, next-standing, content-part, fields-stand}
+use Rattle.types.specs.Form.{Place, placesOf, forms, form103, form202}
+use Rattle.types.specs.Walk.{find}
+use Rattle.types.specs.Sign.{signOf, firstLine}
+use Rattle.types.proofs.TableLaws.{no-form}
+use Rattle.frame.proofs.CallLaws.{Found, taken}
+use Rattle.forms.specs.Contents.{rightField}
+use Rattle.forms.proofs.ContentLaws.{right-nonempty}
+use Rattle.listing.specs.declared.Span.{Span}
+use Rattle.listing.specs.declared.Span.the-variants.{Part, Nothing}
+use Rattle.listing.specs.Lists.{partAt}
+use Rattle.listing.specs.Numbers.{partBy}
+use Rattle.listing.proofs.SpanLaws.{part-is}
+use Rattle.frame.specs.declared.Frame.{Frame}
+use Rattle.values.specs.Answers.{kopecksOf, dateOf}
+use Rattle.judge.specs.Message.{verdictOf, judgedOf}
+use Rattle.judge.proofs.Theorems.{frame-clean, contents-right, judged-by, judged-found}
+use Rattle.message.specs.declared.Amount.the-variants as amount
+use Rattle.message.specs.declared.Day.{Day}
+use Rattle.message.specs.declared.Day.the-variants as day
+use Rattle.message.specs.Calls.{spanBy, spanOf, partOf, contentOf, paid, amountBy, amountOf, daySplit, dayBy, dayOf, Inside}
+
+-- ---- inside
+part-inside : (m : List ℕ) (ps : List Place) (q o : ℕ) (fs : List Field) → Standing m o fs → Inside m (partAt ps q o fs)
+unfolding partAt
+part-inside m ps q o [] w = tt
+part-inside m ps q o (field t [] ∷ fs) w = absurd (false≢true (w .able))
+part-inside m ps q o (field t (l ∷ ls) ∷ fs) w = go (eqb (find ps t) q) (part-inside m ps q (nextOf o (field t (l ∷ ls))) fs (next-standing m o t l ls fs w))
+  where
+    go : (b : Bool) → Inside m (partAt ps q (nextOf o (field t (l ∷ ls))) fs)
+        → Inside m (pick b (Part (startOf o (field t (l ∷ ls))) (endOf o (field t (l ∷ ls)))) (partAt ps q (nextOf o (field t (l ∷ ls))) fs))
+    go true i =
+        let n = length-append t (58 ∷ l) in
+        let s = size-append (lined (field t (l ∷ ls))) (linesOf fs) in
+        let d = w .dash in
+        (omega arith, omega arith)
+    go false i = i
+
+module _ (kind : ℕ) (m : List ℕ) (e : verdictOf kind m ≡ Fine) where
+  stand : Standing m 5 (fields m)
+  stand = let t = taken kind m (frame-clean kind m e) in fields-stand m (t .frame-fine) (t .bytes-fine) (t .lines-fine)
+
+  pub inside-clean : (q : ℕ) → Inside m (partAt (placesOf kind) q 5 (fields m))
+  inside-clean q = part-inside m (placesOf kind) q 5 (fields m) stand
+
+pub inside-span : (kind : ℕ) (m : List ℕ) (q : ℕ) → Inside m (spanOf kind m q)
+unfolding spanOf
+inside-span kind m q = go (verdictOf kind m) refl
+  where
+    go : (v : Verdict) → verdictOf kind m ≡ v → Inside m (spanBy v (partAt (placesOf kind) q 5 (fields m)))
+    go Fine e = inside-clean kind m e q
+    go (Broken n p) e = tt
+
+pub inside-is : (m : List ℕ) {s r : Span} → r ≡ s → Inside m s → Inside m r
+inside-is m e i = subst (Inside m) (sym e) i
+
+-- ---- the place of 32A
+pub paid-103 : 3 ≡ find (placesOf 103) (bytes "32A")
+unfolding placesOf forms form103 form202 find same
+paid-103 = refl
+
+pub paid-202 : 2 ≡ find (placesOf 202) (bytes "32A")
+unfolding placesOf forms form103 form202 find same
+paid-202 = refl
+
+pub paid-none : {kind : ℕ} → (kind ≡ 103 → ⊥) → (kind ≡ 202 → ⊥) → 0 ≡ find (placesOf kind) (bytes "32A")
+unfolding find
+paid-none {kind} h k = sym (ap (λ (ps : List Place). find ps (bytes "32A")) (no-form kind h k))
+
+-- ---- what is made of a judged message's spots
+module _ (kind : ℕ) (m : List ℕ) {f : Frame} (e : f ≡ judgedOf kind m) where
+  module _ {n p : ℕ} (q : f .verdict ≡ Broken n p) where
+    pub amount-refused : amount.Refused n p ≡ amountOf kind m
+    unfolding amountOf
+    amount-refused = sym (ap (λ (v : Verdict). amountBy v (kopecksOf (paid kind m))) (judged-by kind m e q))
+
+    pub day-refused : day.Refused n p ≡ dayOf kind m
+    unfolding dayOf
+    day-refused = sym (ap (λ (v : Verdict). dayBy v (dateOf (paid kind m))) (judged-by kind m e q))
+
+  module _ (q : f .verdict ≡ Fine) {k : ℕ} (z : k ≡ find (placesOf kind) (bytes "32A")) {s : Span} (r : s ≡ partBy m (f .spots) (f .present) k) where
+    paid-span : s ≡ spanOf kind m (find (placesOf kind) (bytes "32A"))
+    unfolding spanOf
+    paid-span =
+        r ∙ ap (partBy m (f .spots) (f .present)) z ∙ part-is (judged-found kind m e q) (find (placesOf kind) (bytes "32A"))
+        ∙ sym (ap (λ (v : Verdict). spanBy v (partAt (placesOf kind) (find (placesOf kind) (bytes "32A")) 5 (fields m))) (judged-by kind m e q))
+
+    pub paid-inside : Inside m s
+    paid-inside = inside-is m paid-span (inside-span kind m (find (placesOf kind) (bytes "32A")))
+
+    paid-part : {c : List ℕ} → c ≡ partOf m s → c ≡ paid kind m
+    unfolding paid contentOf
+    paid-part g = g ∙ ap (partOf m) paid-span
+
+    pub amount-is : {c : List ℕ} {n : ℕ} → c ≡ partOf m s → n ≡ kopecksOf c → amount.Is n ≡ amountOf kind m
+    unfolding amountOf
+    amount-is g h = ap amount.Is (h ∙ ap kopecksOf (paid-part g)) ∙ sym (ap (λ (v : Verdict). amountBy v (kopecksOf (paid kind m))) (judged-by kind m e q))
+
+    pub day-is : {c : List ℕ} {n : ℕ} {d : Day} → c ≡ partOf m s → n ≡ dateOf c → d ≡ daySplit n → d ≡ dayOf kind m
+    unfolding dayOf
+    day-is g h i = i ∙ ap daySplit (h ∙ ap dateOf (paid-part g)) ∙ sym (ap (λ (v : Verdict). dayBy v (dateOf (paid kind m))) (judged-by kind m e q))
+
+-- ---- the bytes of a part
+joined-some : (l : List ℕ) (ls : List (List ℕ)) → empty l ≡ false → empty (joined (l ∷ ls)) ≡ false
+joined-some [] ls e = absurd (false≢true (sym e))
+joined-some (x ∷ l) [] e = refl
+joined-some (x ∷ l) (k ∷ ls) e = refl
+
+pub part-some : (m : List ℕ) (ps : List Place) (q o : ℕ) (fs : List Field) (kind : ℕ) (sign : Bool) → Standing m o fs → all (rightField kind sign) fs ≡ true → (partAt ps q o fs ≡ Nothing → ⊥)
+    → empty (partOf m (partAt ps q o fs)) ≡ false
+unfolding partAt
+part-some m ps q o [] kind sign w r h = absurd (h refl)
+part-some m ps q o (field t [] ∷ fs) kind sign w r h = absurd (false≢true (w .able))
+part-some m ps q o (field t (l ∷ ls) ∷ fs) kind sign w r h =
+    go (eqb (find ps t) q) h (part-some m ps q (nextOf o (field t (l ∷ ls))) fs kind sign (next-standing m o t l ls fs w) (right (rightField kind sign (field t (l ∷ ls))) (all (rightField kind sign) fs) r))
+  where
+    go : (b : Bool) → (pick b (Part (startOf o (field t (l ∷ ls))) (endOf o (field t (l ∷ ls)))) (partAt ps q (nextOf o (field t (l ∷ ls))) fs) ≡ Nothing → ⊥)
+        → ((partAt ps q (nextOf o (field t (l ∷ ls))) fs ≡ Nothing → ⊥) → empty (partOf m (partAt ps q (nextOf o (field t (l ∷ ls))) fs)) ≡ false)
+        → empty (partOf m (pick b (Part (startOf o (field t (l ∷ ls))) (endOf o (field t (l ∷ ls)))) (partAt ps q (nextOf o (field t (l ∷ ls))) fs))) ≡ false
+    go true g i = ap empty (content-part m o t l ls fs w) ∙ joined-some l ls (right-nonempty kind sign t (l ∷ ls) (left (rightField kind sign (field t (l ∷ ls))) (all (rightField kind sign) fs) r))
+    go false g i = i g
+
+-- a content that is shown has bytes
+pub content-some : (kind : ℕ) (m : List ℕ) (q : ℕ) → (spanOf kind m q ≡ Nothing → ⊥) → empty (contentOf kind m q) ≡ false
+unfolding spanOf contentOf
+content-some kind m q h = go (verdictOf kind m) refl h
+  where
+    go : (v : Verdict) → verdictOf kind m ≡ v → (spanBy v (partAt (placesOf kind) q 5 (fields m)) ≡ Nothing → ⊥) → empty (partOf m (spanBy v (partAt (placesOf kind) q 5 (fields m)))) ≡ false
+    go Fine e g = part-some m (placesOf kind) q 5 (fields m) kind (signOf (fields m)) (stand kind m e) (contents-right kind m e) g
+    go (Broken n p) e g = absurd (g refl)

@@ -1,0 +1,24 @@
+-- `message::calls::content` meets its contract. Assumes nothing.
+use Rattle.message.proofs.PartLaws.{inside-span, inside-is}
+use Rattle.message.specs.Calls.{partOf, contentOf}
+use mathlib.Core.Path.{ap, _∙_}
+use borrow.Author.Needs.{needs}
+use Rattle.message.proofs.calls.content.Statement.{statement}
+use Rattle.message.proofs.calls.content.Tie as tie
+use Rattle.message.proofs.calls.content.Reads as reads
+use Rattle.message.proofs.calls.content.Lts as lts
+use Rattle.message.proofs.calls.cut.Reads as cut-reads
+use Rattle.message.proofs.calls.span.Reads as span-reads
+
+span-requires : tie.Need-span-requires
+span-requires c κs = search needs
+
+cut-requires : tie.Need-cut-requires
+cut-requires c κs = let a = (c .before .before .args) in inside-is (a .m .now) (c .span .ensures) (inside-span (a .kind) (a .m .now) (a .place))
+
+returns : tie.Need-returns
+unfolding contentOf
+returns c = (c .cut .ensures) ∙ ap (partOf (c .before .before .before .args .m .now)) (c .before .span .ensures)
+
+pub content-spec : {M : Type 1} → statement M
+content-spec = tie.close (tie.spec span-requires cut-requires returns)

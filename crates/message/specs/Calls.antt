@@ -1,0 +1,90 @@
+-- The calls on a message (N17, K1-K3). Assumes nothing.
+use Prim.Native.Nat.{ℕ, _-_, _/_, _%_, _≤_}
+use mathlib.Core.Path.{_≡_}
+use mathlib.Core.List.{List, [], _∷_, _++_}
+use lib.ListN.{length, take, drop}
+use Rattle.base.specs.Rules.{first}
+use Rattle.base.specs.Calls.{short, room}
+use Rattle.base.specs.Quoted.{bytes}
+use Rattle.base.specs.declared.Verdict.{Verdict}
+use Rattle.base.specs.declared.Verdict.the-variants.{Fine, Broken}
+use Rattle.fields.specs.Field.{fields}
+use Rattle.fields.specs.Places.{listed}
+use Rattle.types.specs.Form.{placesOf}
+use Rattle.types.specs.Walk.{find}
+use Rattle.frame.specs.Frame.{wordOf}
+use Rattle.listing.specs.declared.Span.{Span}
+use Rattle.listing.specs.declared.Span.the-variants.{Part, Nothing}
+use Rattle.listing.specs.Lists.{partAt}
+use Rattle.judge.specs.Message.{messageRules, verdictOf}
+use Rattle.values.specs.Answers.{kopecksOf, dateOf}
+use Rattle.message.specs.declared.Checked.{Checked}
+use Rattle.message.specs.declared.Checked.the-variants as checked
+use Rattle.message.specs.declared.Amount.{Amount}
+use Rattle.message.specs.declared.Amount.the-variants as amount
+use Rattle.message.specs.declared.Day.{Day}
+use Rattle.message.specs.declared.Day.the-variants as day
+
+-- ---- the check
+-- 17 comes last; its place is the numbers needed
+abbrev pub checkRules : ℕ → List ℕ → List ℕ → List Verdict
+checkRules kind m list = messageRules kind m ++ short (listed 5 (fields m)) list ∷ []
+
+-- accepted with the number of fields and the word, or refused with number and place
+abbrev pub checkedBy : Verdict → ℕ → ℕ → Checked
+checkedBy Fine fields present = checked.Accepted fields present
+checkedBy (Broken number place) fields present = checked.Refused number place
+
+abbrev pub answerOf : ℕ → List ℕ → List ℕ → Checked
+answerOf kind m list = checkedBy (first (checkRules kind m list)) (length (fields m)) (wordOf kind m)
+
+-- a refusal leaves the list, else the fields' numbers are put over its front
+abbrev pub leftOf : ℕ → List ℕ → List ℕ → List ℕ
+leftOf kind m list = room (first (checkRules kind m list)) (listed 5 (fields m)) list
+
+-- the call answers r and leaves the list as after
+pub record Checks (kind : ℕ) (m list : List ℕ) (r : Checked) (after : List ℕ) : Type 0 where
+  pub answers : r ≡ answerOf kind m list
+  pub leaves : after ≡ leftOf kind m list
+
+-- ---- the part of a place, and its bytes
+abbrev pub spanBy : Verdict → Span → Span
+spanBy Fine s = s
+spanBy (Broken number place) s = Nothing
+
+unfoldable pub spanOf : ℕ → List ℕ → ℕ → Span
+spanOf kind m place = spanBy (verdictOf kind m) (partAt (placesOf kind) place 5 (fields m))
+
+abbrev pub partOf : List ℕ → Span → List ℕ
+partOf m (Part start end) = take (end - start) (drop start m)
+partOf m Nothing = []
+
+unfoldable pub contentOf : ℕ → List ℕ → ℕ → List ℕ
+contentOf kind m place = partOf m (spanOf kind m place)
+
+-- ---- the kopecks and the date of 32A
+unfoldable pub paid : ℕ → List ℕ → List ℕ
+paid kind m = contentOf kind m (find (placesOf kind) (bytes "32A"))
+
+abbrev pub amountBy : Verdict → ℕ → Amount
+amountBy Fine n = amount.Is n
+amountBy (Broken number place) n = amount.Refused number place
+
+unfoldable pub amountOf : ℕ → List ℕ → Amount
+amountOf kind m = amountBy (verdictOf kind m) (kopecksOf (paid kind m))
+
+-- a date YYYYMMDD as year, month and day
+abbrev pub daySplit : ℕ → Day
+daySplit n = day.On (n / 10000) (n / 100 % 100) (n % 100)
+
+abbrev pub dayBy : Verdict → ℕ → Day
+dayBy Fine n = daySplit n
+dayBy (Broken number place) n = day.Refused number place
+
+unfoldable pub dayOf : ℕ → List ℕ → Day
+dayOf kind m = dayBy (verdictOf kind m) (dateOf (paid kind m))
+
+-- what the private functions ask: the part stands in the message
+abbrev pub Inside : List ℕ → Span → Type 0
+Inside m (Part start end) = (start ≤ end) × (end ≤ length m)
+Inside m Nothing = Unit {0}
