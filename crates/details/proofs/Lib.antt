@@ -1,0 +1,7 @@
+pub mod BreakLaws
+pub mod LineLaws
+pub mod StepLaws
+pub mod LayLaws
+pub mod PlaceLaws
+pub mod Theorems
+pub mod Examples

@@ -1,0 +1,69 @@
+-- Worked examples of breaking, as one list (B1-B5). That they hold is proved in proofs/Examples.antt. Assumes nothing.
+use Prim.Native.Nat.{ℕ}
+use Prim.Native.String.{String}
+use mathlib.Core.Path.{_≡_}
+use mathlib.Core.List.{List, [], _∷_, _++_, map}
+use lib.ListN.{length, replicate}
+use Rattle.base.specs.Quoted.{bytes}
+use Rattle.details.specs.Layouts.{linesFor, sizeFor}
+use Rattle.details.specs.declared.Place.{Place}
+use Rattle.details.specs.declared.Place.the-variants.{In70, In72, BehindRpp}
+use Rattle.details.specs.declared.Size.the-variants.{Bytes, Unfit}
+
+pub data Case : Type 0 where
+  -- this code and text come to these lines
+  gives : Place → String → String → List String → Case
+  -- to lines so long, marks counted, and so many bytes
+  goes : Place → String → List ℕ → List ℕ → ℕ → Case
+  -- or do not fit
+  stays : Place → String → List ℕ → Case
+  -- with no code of this length, a text does not fit
+  short : Place → ℕ → String → Case
+
+abbrev pub Holds : Case → Type 0
+Holds (gives p c t ls) = linesFor p (length (bytes c)) (bytes c ++ bytes t) ≡ map bytes ls
+Holds (goes p c t ns n) = (map length (linesFor p (length (bytes c)) (bytes c ++ t)) ≡ ns) × (sizeFor p (length (bytes c)) (bytes c ++ t) ≡ Bytes n)
+Holds (stays p c t) = sizeFor p (length (bytes c)) (bytes c ++ t) ≡ Unfit
+Holds (short p least t) = sizeFor p least (bytes t) ≡ Unfit
+
+abbrev pub AllHold : List Case → Type 0
+AllHold [] = Unit
+AllHold (c ∷ cs) = Holds c × AllHold cs
+
+abbrev code : String
+code = "(VO10100)"
+
+abbrev signed : String
+signed = "'(VO10100)'"
+
+abbrev letters : ℕ → List ℕ
+letters n = replicate n 65
+
+abbrev dashes : ℕ → List ℕ
+dashes n = replicate n 45
+
+unfoldable pub cases : List Case
+cases =
+    gives In70 code "ABCDEFGHIJKLMNOPQRSTUVWXYZ-" ("(VO10100)ABCDEFGHIJKLMNOPQRSTUVWXY" ∷ "Z-" ∷ [])
+    ∷ gives In72 code "ABCDEFGHIJKLMNOPQRSTU-VWXYZ" ("/NZP/(VO10100)ABCDEFGHIJKLMNOPQRSTU" ∷ "//-VWXYZ" ∷ [])
+    -- the limits of 70, without the sign and with it
+    ∷ goes In70 code (letters 131) (replicate 4 35) 146
+    ∷ stays In70 code (letters 132)
+    ∷ goes In70 signed (letters 129) (replicate 4 35) 146
+    ∷ stays In70 signed (letters 130)
+    -- what may open no line takes a letter along, or the whole text behind the code
+    ∷ goes In70 code (letters 26 ++ dashes 1) (34 ∷ 2 ∷ []) 38
+    ∷ goes In70 code (letters 1 ++ dashes 34) (9 ∷ 35 ∷ []) 46
+    ∷ goes In70 code (letters 26 ++ dashes 34) (34 ∷ 35 ∷ []) 71
+    ∷ stays In70 code (letters 26 ++ dashes 35)
+    ∷ stays In70 code (letters 26 ++ dashes 36)
+    -- the limits of 72: 30 and five times 33, or four times behind an RPP line
+    ∷ goes In72 code (letters 186) (replicate 6 35) 220
+    ∷ stays In72 code (letters 187)
+    ∷ goes BehindRpp code (letters 153) (replicate 5 35) 183
+    ∷ stays BehindRpp code (letters 154)
+    -- no byte, and a code longer than the text or than its line
+    ∷ short In70 0 ""
+    ∷ short In70 10 "(VO10100)"
+    ∷ short In72 31 "(VO10100)ABCDEFGHIJKLMNOPQRSTUVWXYZ"
+    ∷ []

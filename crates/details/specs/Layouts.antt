@@ -1,0 +1,71 @@
+-- The places of details as data, and their lines as they stand in a field (B1, B3, C70, C72). Assumes nothing.
+use Prim.Native.Nat.{ℕ, _+_}
+use mathlib.Core.Path.{_≡_}
+use mathlib.Core.List.{List, [], _∷_, _++_, map}
+use lib.Dec.{leb}
+use lib.ListN.{length, replicate}
+use Rattle.base.specs.Choice.{pick}
+use Rattle.base.specs.Quoted.{bytes}
+use Rattle.base.specs.Calls.{placed}
+use Rattle.details.specs.Lines.{Division}
+use Rattle.details.specs.Breaking.{Fit, fits, unfit, opens, broken}
+use Rattle.details.specs.declared.Place.{Place}
+use Rattle.details.specs.declared.Place.the-variants.{In70, In72, BehindRpp}
+use Rattle.details.specs.declared.Size.{Size}
+use Rattle.details.specs.declared.Size.the-variants.{Bytes, Unfit}
+
+-- the room of each line, the bytes that open no later line, and the marks before the first line and before each later one
+pub record Layout : Type 0 where
+  pub widths : List ℕ
+  pub barred : List ℕ
+  pub mark : List ℕ
+  pub next : List ℕ
+
+abbrev pub layout : Place → Layout
+layout In70 = record { widths = 35 ∷ replicate 3 35; barred = bytes ":-"; mark = []; next = [] }
+layout In72 = record { widths = 30 ∷ replicate 5 33; barred = []; mark = bytes "/NZP/"; next = bytes "//" }
+layout BehindRpp = record { widths = 30 ∷ replicate 4 33; barred = []; mark = bytes "/NZP/"; next = bytes "//" }
+
+-- ---- any layout: the text's lines, and what a division into such lines is
+abbrev pub divided : Layout → ℕ → List ℕ → Fit (List (List ℕ))
+divided v least text = broken (opens (v .barred)) least (v .widths) text
+
+abbrev pub DivisionIn : Layout → ℕ → List ℕ → List (List ℕ) → Type 0
+DivisionIn v least text ls = Division (opens (v .barred)) least text (v .widths) ls
+
+-- the lines with their marks
+abbrev pub marked : Layout → List (List ℕ) → List (List ℕ)
+marked v [] = []
+marked v (l ∷ ls) = (v .mark ++ l) ∷ map (λ (k : List ℕ). v .next ++ k) ls
+
+-- the bytes of the lines in a field: each later one stands behind CR LF and its mark
+abbrev pub behind : List ℕ → List (List ℕ) → List ℕ
+behind next [] = []
+behind next (l ∷ ls) = (13 ∷ 10 ∷ next) ++ (l ++ behind next ls)
+
+abbrev pub laid : Layout → List (List ℕ) → List ℕ
+laid v [] = []
+laid v (l ∷ ls) = v .mark ++ (l ++ behind (v .next) ls)
+
+abbrev pub linesOf : Fit (List (List ℕ)) → List (List ℕ)
+linesOf (fits ls) = ls
+linesOf unfit = []
+
+-- ---- a place: the lines of its field, their bytes, and how many these are; none where the text does not fit
+unfoldable pub linesFor : Place → ℕ → List ℕ → List (List ℕ)
+linesFor p least text = marked (layout p) (linesOf (divided (layout p) least text))
+
+unfoldable pub laidFor : Place → ℕ → List ℕ → List ℕ
+laidFor p least text = laid (layout p) (linesOf (divided (layout p) least text))
+
+abbrev pub sizeOf : Layout → Fit (List (List ℕ)) → Size
+sizeOf v (fits ls) = Bytes (length (laid v ls))
+sizeOf v unfit = Unfit
+
+unfoldable pub sizeFor : Place → ℕ → List ℕ → Size
+sizeFor p least text = sizeOf (layout p) (divided (layout p) least text)
+
+-- the bytes are put in from `at` on, where there is room for them, and r says how many were put
+pub record Lays (p : Place) (least : ℕ) (text out : List ℕ) (at r : ℕ) (now : List ℕ) : Type 0 where
+  pub answers : r ≡ pick (leb (at + length (laidFor p least text)) (length out)) (length (laidFor p least text)) 0
+  pub leaves : now ≡ placed out at (laidFor p least text)

@@ -1,0 +1,194 @@
+// Details broken into their field's lines: each line takes as many bytes as it lawfully can.
+ghost use mathlib.Core.Path.{_≡_};
+ghost use Prim.Native.Nat.{_+_, _-_, _≤_, _<_};
+ghost use mathlib.Core.List.{_++_};
+ghost use lib.ListN.{length};
+ghost use lib.Seq.{sets};
+ghost use Rattle.base.specs.Calls.{placed};
+ghost use Rattle.details.specs.Breaking.{opens};
+ghost use Rattle.details.specs.Layouts.{sizeFor, Lays};
+ghost use Rattle.details.specs.Steps.{shapeOf, Small, barredBy, cutAt, breaksIn, sizeBy, wholeBy, RoomFor};
+use base::bytes::put;
+
+// Where details stand: in 70; in the 72 of a 202, alone or behind its RPP line.
+pub enum Place {
+    In70,
+    In72,
+    BehindRpp,
+}
+
+// How many bytes the lines come to, or that the text does not fit them.
+pub enum Size {
+    Bytes(usize),
+    Unfit,
+}
+
+// A place in numbers: whether a later line may not open with `:` or `-`; the room of the first line and of each later one, and how many of
+// these there may be; the bytes before the first line and before each later one.
+struct Shape {
+    barred: bool,
+    first: usize,
+    later: usize,
+    more: usize,
+    mark: usize,
+    next: usize,
+}
+
+fn shape_of(place: Place) -> Shape
+    ensures { λ r. ⌜ r ≡ shapeOf place ⌝ }
+{
+    match place {
+        Place::In70 => Shape {
+            barred: true,
+            first: 35,
+            later: 35,
+            more: 3,
+            mark: 0,
+            next: 2,
+        },
+        Place::In72 => Shape {
+            barred: false,
+            first: 30,
+            later: 33,
+            more: 5,
+            mark: 5,
+            next: 4,
+        },
+        Place::BehindRpp => Shape {
+            barred: false,
+            first: 30,
+            later: 33,
+            more: 4,
+            mark: 5,
+            next: 4,
+        },
+    }
+}
+
+fn may_open(barred: bool, b: u8) -> bool
+    ensures { λ r. ⌜ r ≡ opens (barredBy barred) b ⌝ }
+{
+    if !barred {
+        return true;
+    }
+    if b == 58 {
+        return false;
+    }
+    b != 45
+}
+
+// The last place behind low, up to high, whose byte may open a line; low if there is none.
+fn cut(text: &[u8], low: usize, high: usize, barred: bool) -> usize
+    requires { ⌜ high < length (now text) ⌝ }
+    ensures { λ r. ⌜ r ≡ cutAt (opens (barredBy barred)) (now (text .entry)) low high ⌝ }
+{
+    let mut e = high;
+    while low < e {
+        if may_open(barred, text[e]) {
+            return e;
+        }
+        e -= 1;
+    }
+    low
+}
+
+// The size of a text whose first line ends behind low.
+fn measure(text: &[u8], low: usize, s: Shape) -> Size
+    requires { ⌜ Small s ⌝ }
+    ensures { λ r. ⌜ r ≡ sizeBy (s .mark + length (now (text .entry))) (s .next) (breaksIn s (now (text .entry)) low) ⌝ }
+{
+    let mut a = low;
+    let mut h = s.first;
+    let mut left = s.more;
+    let mut size = s.mark;
+    while h < text.len() {
+        if left == 0 {
+            return Size::Unfit;
+        }
+        let e = cut(text, a, h, s.barred);
+        if e == a {
+            return Size::Unfit;
+        }
+        a = e;
+        h = e + s.later;
+        left -= 1;
+        size += s.next;
+    }
+    Size::Bytes(size + text.len())
+}
+
+// One part put behind another: the place behind both.
+fn put_both(out: &mut [u8], at: usize, one: &[u8], two: &[u8]) -> usize
+    requires { ⌜ at + length (now one ++ now two) ≤ length (now out) ⌝ }
+    ensures { λ r. ⌜ (r ≡ at + length (now (one .entry) ++ now (two .entry))) × (now (out .exit) ≡ sets (now (out .entry)) at (now (one .entry) ++ now (two .entry))) ⌝ }
+{
+    put(out, at, one);
+    let n = at + one.len();
+    put(out, n, two);
+    n + two.len()
+}
+
+// The mark, then the text with sep at each break.
+fn put_lines(text: &[u8], low: usize, s: Shape, mark: &[u8], sep: &[u8], out: &mut [u8], at: usize)
+    requires { ⌜ (low < length (now text)) × Small s ⌝ }
+    requires { ⌜ RoomFor (now mark) (now sep) (now text) (breaksIn s (now text) low) at (length (now out)) ⌝ }
+    ensures { λ _. ⌜ now (out .exit) ≡ placed (now (out .entry)) at (wholeBy (now (mark .entry)) (now (sep .entry)) (now (text .entry)) (breaksIn s (now (text .entry)) low)) ⌝ }
+{
+    put(out, at, mark);
+    let mut n = at + mark.len();
+    let mut from = 0;
+    let mut a = low;
+    let mut h = s.first;
+    while h < text.len() {
+        let e = cut(text, a, h, s.barred);
+        n = put_both(out, n, &text[from..e], sep);
+        from = e;
+        a = e;
+        h = e + s.later;
+    }
+    put(out, n, &text[from..]);
+}
+
+fn one_less(n: usize) -> usize
+    ensures { λ r. ⌜ r ≡ n - 1 ⌝ }
+{
+    if n == 0 {
+        return 0;
+    }
+    n - 1
+}
+
+// How many bytes the lines of a text come to, whose first `least` bytes are the code.
+pub fn size_of(place: Place, least: usize, text: &[u8]) -> Size
+    ensures { λ r. ⌜ r ≡ sizeFor place least (now (text .entry)) ⌝ }
+{
+    let low = one_less(least);
+    if text.len() <= low {
+        return Size::Unfit;
+    }
+    measure(text, low, shape_of(place))
+}
+
+// The lines put into out from `at` on, where they fit: how many bytes these are, else 0.
+pub fn lay(place: Place, least: usize, text: &[u8], out: &mut [u8], at: usize) -> usize
+    ensures { λ r. ⌜ Lays place least (now (text .entry)) (now (out .entry)) at r (now (out .exit)) ⌝ }
+{
+    let size = size_of(place, least, text);
+    let Size::Bytes(n) = size else {
+        return 0;
+    };
+    if out.len() < at {
+        return 0;
+    }
+    if out.len() - at < n {
+        return 0;
+    }
+    let low = one_less(least);
+    let s = shape_of(place);
+    if let Place::In70 = place {
+        put_lines(text, low, s, b"", b"\r\n", out, at);
+    } else {
+        put_lines(text, low, s, b"/NZP/", b"\r\n//", out, at);
+    }
+    n
+}

@@ -1,0 +1,128 @@
+-- The type and the sign that a sheet names, 19 and 18 (S3-S11, N18, N19, O2). Assumes nothing.
+use Prim.Native.Nat.{ℕ, _+_, _*_, _-_}
+use mathlib.Core.Bool.{Bool, false, not, _&&_}
+use mathlib.Core.List.{List, [], _∷_}
+use lib.Dec.{eqb}
+use lib.ListN.{length}
+use Rattle.base.specs.Choice.{pick, all}
+use Rattle.base.specs.Bytes.{byte, digit, begins, empty, same}
+use Rattle.base.specs.Quoted.{bytes}
+use Rattle.base.specs.Rules.{first}
+use Rattle.base.specs.declared.Verdict.{Verdict}
+use Rattle.base.specs.declared.Verdict.the-variants.{Fine, Broken}
+use Rattle.fields.specs.Field.{field}
+use Rattle.fields.specs.Shapes.{shaped, goesOn}
+use Rattle.types.specs.Walk.{rule18}
+use Rattle.types.specs.Sign.{firstLine, signOf}
+use Rattle.roles.specs.Role.{shapeOf}
+use Rattle.roles.specs.Rule14.{isInn}
+use Rattle.roles.specs.declared.Shape.{Shape}
+use Rattle.roles.specs.declared.Shape.the-variants.{Plain, Payer, Payee, Agent, Details, Note103, Note202}
+use Rattle.records.specs.Record.{Record, records, rest, begun}
+use Rattle.records.specs.Places.{nextOf}
+use Rattle.records.specs.declared.Judged.{Judged}
+
+-- ---- parts
+-- n digits
+unfoldable pub digits : ℕ → List ℕ → Bool
+digits n p = eqb (length p) n && all digit p
+
+-- S3: at least one part, none empty, none from the second on beginning with : or -
+unfoldable pub general : List (List ℕ) → Bool
+general [] = false
+general (p ∷ ps) = not (empty p) && all goesOn ps
+
+-- S4: just one part, and not an empty one: what follows /RPP/, or a details text
+abbrev pub sole : List (List ℕ) → Bool
+sole [] = false
+sole (p ∷ []) = not (empty p)
+sole (p ∷ q ∷ ps) = false
+
+-- VO digits and text
+abbrev pub detailed : List (List ℕ) → Bool
+detailed [] = false
+detailed (v ∷ ps) = digits 5 v && sole ps
+
+-- what follows /RPP/ or an empty part, then VO digits and text
+abbrev pub noted : List (List ℕ) → Bool
+noted [] = false
+noted (r ∷ ps) = detailed ps
+
+-- S6: the part in the tax place, empty where there is none
+abbrev pub taxPart : Shape → List (List ℕ) → List ℕ
+taxPart Payer [] = []
+taxPart Payer (p ∷ ps) = pick (begins 47 p) (firstLine ps) p
+taxPart Payee [] = []
+taxPart Payee (p ∷ ps) = firstLine ps
+taxPart Plain ps = []
+taxPart Agent ps = []
+taxPart Details ps = []
+taxPart Note103 ps = []
+taxPart Note202 ps = []
+
+-- S5: with the sign s, it does not begin with Cyrillic INN and a digit
+unfoldable pub untaxed : Bool → List ℕ → Bool
+untaxed s p = not (s && isInn p)
+
+-- ---- records
+-- the parts of a record are right, by the shape of its tag; a tag not of the type is Plain
+unfoldable pub sound : Bool → Shape → List (List ℕ) → Bool
+sound s Plain ps = general ps
+sound s Agent ps = general ps
+sound s Payer ps = general ps && untaxed s (taxPart Payer ps)
+sound s Payee ps = general ps && untaxed s (taxPart Payee ps)
+sound s Details ps = detailed ps
+sound s Note103 ps = sole ps
+sound s Note202 ps = noted ps
+
+-- a record behind the first; that MT is no tag of the right shape refuses a second one
+abbrev pub good : ℕ → Bool → Record → Bool
+good kind s (field t ps) = shaped t && sound s (shapeOf kind t) ps
+
+-- the first: MT, and just one part of three digits
+abbrev pub numbered : List (List ℕ) → Bool
+numbered [] = false
+numbered (p ∷ []) = digits 3 p
+numbered (p ∷ q ∷ ps) = false
+
+abbrev pub typed : Record → Bool
+typed (field t ps) = same t (bytes "MT") && numbered ps
+
+-- the type, 0 where the first record does not name one
+abbrev pub number : List ℕ → ℕ
+number p = (byte p 0 - 48) * 100 + (byte p 1 - 48) * 10 + (byte p 2 - 48)
+
+abbrev pub typeIn : Record → ℕ
+typeIn (field t ps) = pick (typed (field t ps)) (number (firstLine ps)) 0
+
+abbrev pub typeOf : List Record → ℕ
+typeOf [] = 0
+typeOf (r ∷ rs) = typeIn r
+
+-- ---- 19
+-- the first bad record from o on, by its first byte, then one that no LF ends: w, what stands behind the last LF
+unfoldable pub badFrom : ℕ → Bool → ℕ → List Record → List ℕ → Verdict
+badFrom kind s o [] w = pick (empty w) Fine (Broken 19 o)
+badFrom kind s o (r ∷ rs) w = pick (good kind s r) (badFrom kind s (nextOf o r) rs w) (Broken 19 o)
+
+-- a sheet without an ended record is 19 at 0, empty or not
+unfoldable pub judge : Bool → List Record → List ℕ → Verdict
+judge s [] w = Broken 19 0
+judge s (r ∷ rs) w = pick (typed r) (badFrom (typeIn r) s (nextOf 0 r) rs w) (Broken 19 0)
+
+-- S8: every record counts for the sign, ended or not
+unfoldable pub sheetSign : List ℕ → Bool
+sheetSign s = signOf (begun s)
+
+unfoldable pub sheetType : List ℕ → ℕ
+sheetType s = typeOf (records s)
+
+unfoldable pub rule19 : List ℕ → Verdict
+rule19 s = judge (sheetSign s) (records s) (rest s)
+
+-- ---- 19, then 18 of the type named
+unfoldable pub sheetVerdict : List ℕ → Verdict
+sheetVerdict s = first (rule19 s ∷ rule18 (sheetType s) ∷ [])
+
+unfoldable pub judged : List ℕ → Judged
+judged s = record { verdict = sheetVerdict s; kind = sheetType s; sign = sheetSign s }

@@ -1,0 +1,200 @@
+// A whole sheet: its sign, its type, and the first bad record.
+ghost use mathlib.Core.Path.{_≡_};
+ghost use Prim.Native.Nat.{_≤_, _<_, _-_};
+ghost use mathlib.Core.List.{[], _∷_};
+ghost use lib.ListN.{length};
+ghost use Rattle.base.specs.Bytes.{begins, same};
+ghost use Rattle.base.specs.Quoted.{bytes};
+ghost use Rattle.base.specs.Rules.{then};
+ghost use Rattle.types.specs.Walk.{rule18};
+ghost use Rattle.types.specs.Sign.{firstLine};
+ghost use Rattle.fields.specs.Field.{tagOf};
+ghost use Rattle.records.specs.Record.{recordOf};
+ghost use Rattle.records.specs.Found.{partsIn, piecesAt, badLine, noType};
+ghost use Rattle.records.specs.Rule19.{numbered, typed, number, typeIn, sheetSign, judged};
+use super::Judged;
+use super::parts::is_digits;
+use super::parts::is_good;
+use super::pieces::piece_end;
+use base::Verdict;
+use base::bytes::wide;
+use types::forms::count_of;
+
+// Whether a text is these two bytes.
+fn is_two(p: &[u8], a: u8, b: u8) -> bool
+    ensures { λ r. ⌜ r ≡ same (now (p .entry)) (a ∷ b ∷ []) ⌝ }
+{
+    if p.len() != 2 {
+        return false;
+    }
+    if p[0] != a {
+        return false;
+    }
+    p[1] == b
+}
+
+// A record with the tag 20.
+fn is_twenty(l: &[u8]) -> bool
+    ensures { λ r. ⌜ r ≡ same (tagOf (recordOf (now (l .entry)))) (bytes "20") ⌝ }
+{
+    let t = piece_end(l, 9, 0);
+    is_two(&l[..t], 50, 48)
+}
+
+// Its first content part begins with +.
+fn has_plus(l: &[u8]) -> bool
+    ensures { λ r. ⌜ r ≡ begins 43 (firstLine (partsIn (recordOf (now (l .entry))))) ⌝ }
+{
+    let t = piece_end(l, 9, 0);
+    if l.len() <= t + 1 {
+        return false;
+    }
+    l[t + 1] == 43
+}
+
+// The sign, by the first record with the tag 20, ended or not.
+fn sign_of(s: &[u8]) -> bool
+    ensures { λ r. ⌜ r ≡ sheetSign (now (s .entry)) ⌝ }
+{
+    let mut at = 0;
+    while at <= s.len() {
+        let e = piece_end(s, 10, at);
+        if is_twenty(&s[at..e]) {
+            return has_plus(&s[at..e]);
+        }
+        at = e + 1;
+    }
+    false
+}
+
+// Just one part, of three digits.
+fn is_numbered(l: &[u8], i: usize) -> bool
+    ensures { λ r. ⌜ r ≡ numbered (piecesAt 9 (now (l .entry)) i) ⌝ }
+{
+    if l.len() < i {
+        return false;
+    }
+    let e = piece_end(l, 9, i);
+    if e != l.len() {
+        return false;
+    }
+    is_digits(3, &l[i..e])
+}
+
+// A first record that names a type.
+fn is_typed(l: &[u8]) -> bool
+    ensures { λ r. ⌜ r ≡ typed (recordOf (now (l .entry))) ⌝ }
+{
+    let t = piece_end(l, 9, 0);
+    if !is_two(&l[..t], 77, 84) {
+        return false;
+    }
+    is_numbered(l, t + 1)
+}
+
+fn worth(x: u8) -> u32
+    ensures { λ r. ⌜ (r ≡ x - 48) × (r < 256) ⌝ }
+{
+    if x < 48 {
+        return 0;
+    }
+    wide(x) - 48
+}
+
+fn number_of(p: &[u8]) -> u32
+    requires { ⌜ 3 ≤ length (now p) ⌝ }
+    ensures { λ r. ⌜ r ≡ number (now (p .entry)) ⌝ }
+{
+    worth(p[0]) * 100 + worth(p[1]) * 10 + worth(p[2])
+}
+
+// The type that a first record names, 0 where it names none.
+fn type_in(l: &[u8]) -> u32
+    ensures { λ r. ⌜ r ≡ typeIn (recordOf (now (l .entry))) ⌝ }
+{
+    if !is_typed(l) {
+        return 0;
+    }
+    let t = piece_end(l, 9, 0);
+    let e = piece_end(l, 9, t + 1);
+    number_of(&l[t + 1..e])
+}
+
+// The first bad record from a place on.
+fn bad_record(s: &[u8], kind: u32, sign: bool, from: usize) -> Verdict
+    requires { ⌜ from ≤ length (now s) ⌝ }
+    ensures { λ r. ⌜ r ≡ badLine kind sign from (piecesAt 10 (now (s .entry)) from) ⌝ }
+{
+    let mut at = from;
+    while at < s.len() {
+        let e = piece_end(s, 10, at);
+        if e == s.len() {
+            return Verdict::Broken {
+                number: 19,
+                place: at,
+            };
+        }
+        if !is_good(kind, sign, &s[at..e]) {
+            return Verdict::Broken {
+                number: 19,
+                place: at,
+            };
+        }
+        at = e + 1;
+    }
+    Verdict::Fine
+}
+
+// 18 behind 19, of the records from a place on.
+fn behind_type(s: &[u8], kind: u32, sign: bool, from: usize) -> Verdict
+    requires { ⌜ from ≤ length (now s) ⌝ }
+    ensures { λ r. ⌜ r ≡ then (badLine kind sign from (piecesAt 10 (now (s .entry)) from)) (rule18 kind) ⌝ }
+{
+    let v = bad_record(s, kind, sign, from);
+    let Verdict::Fine = v else {
+        return v;
+    };
+    if count_of(kind) == 0 {
+        return Verdict::Broken {
+            number: 18,
+            place: 0,
+        };
+    }
+    Verdict::Fine
+}
+
+// Nothing can be said of a sheet whose first record names no type.
+fn unnamed(sign: bool) -> Judged
+    ensures { λ r. ⌜ r ≡ noType sign ⌝ }
+{
+    let verdict = Verdict::Broken {
+        number: 19,
+        place: 0,
+    };
+    Judged {
+        verdict,
+        kind: 0,
+        sign,
+    }
+}
+
+// What a sheet comes to: 19 at its first bad record, then 18 of its type; and its type and sign.
+pub fn judge_sheet(s: &[u8]) -> Judged
+    ensures { λ r. ⌜ r ≡ judged (now (s .entry)) ⌝ }
+{
+    let sign = sign_of(s);
+    let e = piece_end(s, 10, 0);
+    if e == s.len() {
+        return unnamed(sign);
+    }
+    if !is_typed(&s[..e]) {
+        return unnamed(sign);
+    }
+    let kind = type_in(&s[..e]);
+    let verdict = behind_type(s, kind, sign, e + 1);
+    Judged {
+        verdict,
+        kind,
+        sign,
+    }
+}

@@ -1,0 +1,234 @@
+-- The parts of a record one after another: each as it is cast, and as code finds it. Assumes nothing.
+use Prim.Native.Nat.{ℕ, _+_, _*_, _-_, _≤_, _<_}
+use mathlib.Core.Path.{_≡_, refl, sym, ap, ap₂, subst, _∙_}
+use mathlib.Core.Bool.{Bool, true, false, not, _&&_}
+use mathlib.Core.List.{List, [], _∷_, _++_, map, append-assoc}
+use native.Mathlib.Omega.{arith}
+use lib.ListN.{length, take, drop}
+use Rattle.base.specs.Choice.{pick}
+use Rattle.base.specs.Bytes.{begins}
+use Rattle.base.specs.Rules.{then}
+use Rattle.base.specs.Calls.{Answer, said, stuck, textOf, stopped, placed}
+use Rattle.base.specs.declared.Verdict.{Verdict}
+use Rattle.base.specs.declared.Verdict.the-variants.{Fine, Broken}
+use Rattle.base.proofs.RuleLaws.{fine-broken, then-fine, then-clean}
+use Rattle.alphabets.specs.Bank.{plainly}
+use Rattle.alphabets.specs.Best.{writing}
+use Rattle.alphabets.specs.Parts.{extent, written}
+use Rattle.alphabets.specs.declared.parts.Extent.the-variants.{Takes, Halts, Long}
+use Rattle.alphabets.proofs.Theorems.{plain-only}
+use Rattle.alphabets.proofs.Outcomes.{twice-at-most}
+use Rattle.alphabets.proofs.PartTheorems.{size-takes, size-halts, size-long}
+use Rattle.fields.specs.Field.{laid}
+use Rattle.values.specs.Values.{isTax}
+use Rattle.roles.specs.Role.{Part, copy, name, taxName, lineOf, taxed, cast}
+use Rattle.records.specs.Found.{pieceSize, piecesAt}
+use Rattle.records.proofs.PieceLaws.{pieces-at, past-end, end-within, piece-length}
+use Rattle.writer.specs.Spread.{saidPart, lineFor}
+use Rattle.writer.specs.Sheet.{stoppedAt, unsaid}
+use Rattle.writer.specs.declared.Step.{Step}
+use Rattle.writer.specs.declared.Step.the-variants.{Stuck, Unfit, Put}
+use Rattle.writer.specs.declared.Role.{Role}
+use Rattle.writer.specs.declared.Role.the-variants.{Copies, OfPayer, OfPayee, OfAgent, Taxed, Names}
+use Rattle.writer.specs.Steps.{castBy, named, nextRole, stopsBy, linesBy, Adds, Within, shifted}
+use Rattle.writer.proofs.StepLaws.{fills-put, adds-stuck, adds-put, adds-then, adds-none, movedBy, stopped-at, adds-moved, adds-halt, adds-by, Onward, came-stuck}
+
+-- a text without a byte
+pub none-begins : (c : ℕ) (p : List ℕ) → length p ≡ 0 → false ≡ begins c p
+none-begins c [] e = refl
+none-begins c (x ∷ p) e = absurd (omega arith)
+
+pub payer-slash : (p : List ℕ) → begins 47 p ≡ true → false ≡ named OfPayer p
+payer-slash p e = sym (ap (λ (b : Bool). not b && not (isTax p)) e)
+
+pub payer-tax : (p : List ℕ) {r : Bool} → begins 47 p ≡ false → r ≡ isTax p → not r ≡ named OfPayer p
+payer-tax p e f = ap not f ∙ sym (ap (λ (b : Bool). not b && not (isTax p)) e)
+
+-- with the sign, and without it
+pub sign-off : (s : Bool) (role : Role) (p : List ℕ) → s ≡ false → false ≡ (s && named role p)
+sign-off s role p e = sym (ap (λ (b : Bool). b && named role p) e)
+
+pub sign-on : (s : Bool) (role to : Role) (p : List ℕ) {r : Bool} → s ≡ true → role ≡ to → r ≡ named to p → r ≡ (s && named role p)
+sign-on s role to p e f g = g ∙ sym (ap₂ (λ (b : Bool) (x : Role). b && named x p) e f)
+
+-- ---- one text
+module _ (s : Bool) (p out : List ℕ) (at : ℕ) where
+  pub text-put : (n : ℕ) (after : List ℕ) → Takes n ≡ extent s p → after ≡ placed out at (written s p)
+      → Adds (stopped 15 (writing s p)) false (textOf (writing s p)) out at (Put (at + n)) after
+  text-put n after e f =
+      let w = size-takes s p n (sym e) in
+      let z : textOf (writing s p) ≡ written s p = ap textOf (w .is) in
+      adds-put (ap (stopped 15) (w .is)) refl (ap (λ (k : ℕ). at + k) (w .count ∙ ap length (sym z))) (fills-put out after (textOf (writing s p)) at (f ∙ ap (placed out at) (sym z)))
+
+  pub text-few : (n : ℕ) → Takes n ≡ extent s p → n ≤ 4 * length p
+  text-few n e = let w = size-takes s p n (sym e) in omega (arith, w .count, twice-at-most (length p) s p (written s p) (w .is) (omega arith))
+
+  pub text-stuck : (k : ℕ) (after : List ℕ) → Halts k ≡ extent s p → Adds (stopped 15 (writing s p)) false (textOf (writing s p)) out at (Stuck k) after
+  text-stuck k after e = adds-stuck (ap (stopped 15) (size-halts s p k (sym e) .is))
+
+  pub text-inside : (k : ℕ) → Halts k ≡ extent s p → k ≤ length p
+  text-inside k e = let f = size-halts s p k (sym e) .first .inside in omega arith
+
+  pub text-long : Long ≡ extent s p → length p ≤ 10000 → ⊥
+  text-long e h = omega (arith, size-long s p (sym e) .0)
+
+-- and CR LF behind it
+pub line-put : (v : Verdict) (t : List ℕ) {out mid after : List ℕ} {at n : ℕ} {r : Step} → r ≡ Put n → Adds v false t out at r mid → after ≡ placed mid n (13 ∷ 10 ∷ [])
+    → Adds v false (t ++ 13 ∷ 10 ∷ []) out at (Put (n + 2)) after
+line-put v t {out} {mid} {after} {at} {n} g a e =
+    subst (λ (w : Verdict). Adds w false (t ++ 13 ∷ 10 ∷ []) out at (Put (n + 2)) after) (then-fine v) (adds-then v Fine t (13 ∷ 10 ∷ []) (subst (λ (x : Step). Adds v false t out at x mid) g a) (adds-put refl refl refl (fills-put mid after (13 ∷ 10 ∷ []) n e)))
+
+-- ---- the parts as they are cast
+abbrev firstPart : Role → List ℕ → Part
+firstPart Copies p = copy p
+firstPart OfPayer p = pick (begins 47 p) (copy p) (pick (isTax p) (copy p) (taxName p))
+firstPart OfPayee p = pick (begins 47 p) (copy p) (name p)
+firstPart OfAgent p = copy p
+firstPart Taxed p = pick (isTax p) (copy p) (taxName p)
+firstPart Names p = name p
+
+cast-none : (role : Role) → castBy role [] ≡ []
+unfolding cast
+cast-none Copies = refl
+cast-none OfPayer = refl
+cast-none OfPayee = refl
+cast-none OfAgent = refl
+cast-none Taxed = refl
+cast-none Names = refl
+
+cast-cons : (role : Role) (p : List ℕ) (ps : List (List ℕ)) → castBy role (p ∷ ps) ≡ firstPart role p ∷ castBy (nextRole role p) ps
+unfolding cast
+cast-cons Copies p ps = refl
+cast-cons OfPayer p ps = go (begins 47 p)
+  where
+    go : (b : Bool) → pick b (copy p ∷ taxed ps) (taxed (p ∷ ps)) ≡ pick b (copy p) (pick (isTax p) (copy p) (taxName p)) ∷ castBy (pick b Taxed Names) ps
+    go true = refl
+    go false = refl
+cast-cons OfPayee p ps = refl
+cast-cons OfAgent p ps = refl
+cast-cons Taxed p ps = refl
+cast-cons Names p ps = refl
+
+first-line : (role : Role) (p : List ℕ) → lineOf (firstPart role p) ≡ p
+first-line Copies p = refl
+first-line OfPayer p = go (begins 47 p) (isTax p)
+  where
+    go : (a b : Bool) → lineOf (pick a (copy p) (pick b (copy p) (taxName p))) ≡ p
+    go true b = refl
+    go false true = refl
+    go false false = refl
+first-line OfPayee p = go (begins 47 p)
+  where
+    go : (a : Bool) → lineOf (pick a (copy p) (name p)) ≡ p
+    go true = refl
+    go false = refl
+first-line OfAgent p = refl
+first-line Taxed p = go (isTax p)
+  where
+    go : (a : Bool) → lineOf (pick a (copy p) (taxName p)) ≡ p
+    go true = refl
+    go false = refl
+first-line Names p = refl
+
+copied : (s : Bool) (p : List ℕ) → writing (s && false) p ≡ plainly p
+copied true p = refl
+copied false p = refl
+
+spoken : (s : Bool) (p : List ℕ) → writing (s && true) p ≡ writing s p
+spoken true p = refl
+spoken false p = refl
+
+first-said : (s : Bool) (role : Role) (p : List ℕ) → writing (s && named role p) p ≡ saidPart s (firstPart role p)
+first-said s Copies p = copied s p
+first-said s OfPayer p = go (begins 47 p) (isTax p)
+  where
+    go : (a b : Bool) → writing (s && (not a && not b)) p ≡ saidPart s (pick a (copy p) (pick b (copy p) (taxName p)))
+    go true b = copied s p
+    go false true = copied s p
+    go false false = spoken s p
+first-said s OfPayee p = go (begins 47 p)
+  where
+    go : (a : Bool) → writing (s && not a) p ≡ saidPart s (pick a (copy p) (name p))
+    go true = copied s p
+    go false = spoken s p
+first-said s OfAgent p = copied s p
+first-said s Taxed p = go (isTax p)
+  where
+    go : (a : Bool) → writing (s && not a) p ≡ saidPart s (pick a (copy p) (taxName p))
+    go true = copied s p
+    go false = spoken s p
+first-said s Names p = spoken s p
+
+pub stops-cast : (s : Bool) (role : Role) (o : ℕ) (ps : List (List ℕ)) → stopsBy s role o ps ≡ unsaid s o (castBy role ps)
+unfolding stopsBy unsaid
+stops-cast s role o [] = sym (ap (unsaid s o) (cast-none role))
+stops-cast s role o (p ∷ ps) =
+    ap₂ then (ap (stoppedAt o) (first-said s role p))
+    (stops-cast s (nextRole role p) (o + length p + 1) ps ∙ ap (λ (l : List ℕ). unsaid s (o + length l + 1) (castBy (nextRole role p) ps)) (sym (first-line role p)))
+    ∙ sym (ap (unsaid s o) (cast-cons role p ps))
+
+-- a copied text that is written is itself
+pub plain-line : (p : List ℕ) (o : ℕ) → stoppedAt o (plainly p) ≡ Fine → textOf (plainly p) ≡ p
+plain-line p o e = go (plainly p) refl e
+  where
+    go : (a : Answer) → plainly p ≡ a → stoppedAt o a ≡ Fine → textOf a ≡ p
+    go (said t) f e = sym (plain-only p t f)
+    go (stuck k) f e = absurd (fine-broken 15 (o + k) (sym e))
+
+said-line : (s : Bool) (c : Part) (o : ℕ) → stoppedAt o (saidPart s c) ≡ Fine → textOf (saidPart s c) ≡ lineFor s c
+said-line s (copy p) o e = plain-line p o e
+said-line s (name p) o e = refl
+said-line s (taxName p) o e = refl
+
+pub lines-cast : (s : Bool) (role : Role) (o : ℕ) (ps : List (List ℕ)) → stopsBy s role o ps ≡ Fine → linesBy s role ps ≡ map (lineFor s) (castBy role ps)
+unfolding stopsBy linesBy
+lines-cast s role o [] e = sym (ap (map (lineFor s)) (cast-none role))
+lines-cast s role o (p ∷ ps) e =
+    let k = then-clean (stoppedAt o (writing (s && named role p) p)) (stopsBy s (nextRole role p) (o + length p + 1) ps) e in
+    let f = first-said s role p in
+    ap₂ (λ (x : List ℕ) (xs : List (List ℕ)). x ∷ xs) (ap textOf f ∙ said-line s (firstPart role p) o (sym (ap (stoppedAt o) f) ∙ k .0)) (lines-cast s (nextRole role p) (o + length p + 1) ps (k .1))
+    ∙ sym (ap (map (lineFor s)) (cast-cons role p ps))
+
+-- ---- the parts as code finds them: one, and those behind it
+module _ (s : Bool) (role : Role) (l : List ℕ) (i e : ℕ) (h : i ≤ length l) (q : e ≡ i + pieceSize 9 (drop i l)) where
+  abbrev part : List ℕ
+  part = take (e - i) (drop i l)
+
+  abbrev saying : Answer
+  saying = writing (s && named role part) part
+
+  stops-at : then (movedBy i (stopped 15 saying)) (stopsBy s (nextRole role part) (e + 1) (piecesAt 9 l (e + 1))) ≡ stopsBy s role i (piecesAt 9 l i)
+  unfolding stopsBy
+  stops-at =
+      let z : e + 1 ≡ i + length part + 1 = omega (arith, piece-length l i e (omega arith) (end-within 9 l i e h q)) in
+      ap₂ (λ (v : Verdict) (k : ℕ). then v (stopsBy s (nextRole role part) k (piecesAt 9 l (e + 1)))) (sym (stopped-at i saying)) z
+      ∙ sym (ap (stopsBy s role i) (pieces-at 9 l i e h q))
+
+  lines-at : (textOf saying ++ 13 ∷ 10 ∷ []) ++ laid (linesBy s (nextRole role part) (piecesAt 9 l (e + 1))) ≡ laid (linesBy s role (piecesAt 9 l i))
+  unfolding linesBy
+  lines-at = append-assoc (textOf saying) (13 ∷ 10 ∷ []) (laid (linesBy s (nextRole role part) (piecesAt 9 l (e + 1)))) ∙ sym (ap (λ (ps : List (List ℕ)). laid (linesBy s role ps)) (pieces-at 9 l i e h q))
+
+  -- this one is put, and what is left is the parts behind it
+  pub parts-on : {v : Verdict} {t out now mid : List ℕ} {at n m : ℕ} → Onward v false t out at (stopsBy s role i (piecesAt 9 l i)) false (laid (linesBy s role (piecesAt 9 l i))) now n
+      → {b : Bool} → b ≡ (s && named role part) → {r : Step} → r ≡ Put m → Adds (stopped 15 (writing b part)) false (textOf (writing b part) ++ 13 ∷ 10 ∷ []) now n r mid → {role′ : Role} → role′ ≡ nextRole role part
+      → Onward v false t out at (stopsBy s role′ (e + 1) (piecesAt 9 l (e + 1))) false (laid (linesBy s role′ (piecesAt 9 l (e + 1)))) mid m
+  parts-on {v} {t} {out} {now} {mid} {at} {n} {m} f {b} eb {r} er a {role′} e′ r2 after d =
+      let a1 : Adds (stopped 15 saying) false (textOf saying ++ 13 ∷ 10 ∷ []) now n (Put m) mid
+      = subst (λ (x : Step). Adds (stopped 15 saying) false (textOf saying ++ 13 ∷ 10 ∷ []) now n x mid) er (subst (λ (x : Bool). Adds (stopped 15 (writing x part)) false (textOf (writing x part) ++ 13 ∷ 10 ∷ []) now n r mid) eb a) in
+      let d1 = subst (λ (x : Role). Adds (stopsBy s x (e + 1) (piecesAt 9 l (e + 1))) false (laid (linesBy s x (piecesAt 9 l (e + 1)))) mid m r2 after) e′ d in
+      f r2 after (adds-by stops-at lines-at (adds-then (movedBy i (stopped 15 saying)) (stopsBy s (nextRole role part) (e + 1) (piecesAt 9 l (e + 1))) (textOf saying ++ 13 ∷ 10 ∷ []) (laid (linesBy s (nextRole role part) (piecesAt 9 l (e + 1)))) (adds-moved i refl a1) d1))
+
+  -- this one stops
+  pub parts-stop : {v : Verdict} {t out now mid after : List ℕ} {at n : ℕ} → Onward v false t out at (stopsBy s role i (piecesAt 9 l i)) false (laid (linesBy s role (piecesAt 9 l i))) now n
+      → {b : Bool} → b ≡ (s && named role part) → (r : Step) → ((m : ℕ) → r ≡ Put m → ⊥) → Adds (stopped 15 (writing b part)) false (textOf (writing b part) ++ 13 ∷ 10 ∷ []) now n r mid
+      → (k : Step) → k ≡ shifted i r → Adds v false t out at k after
+  parts-stop {v} {t} {out} {now} {mid} {after} {at} {n} f {b} eb r nope a k ek =
+      let a1 = subst (λ (x : Bool). Adds (stopped 15 (writing x part)) false (textOf (writing x part) ++ 13 ∷ 10 ∷ []) now n r mid) eb a in
+      f k after (adds-by {t = laid (linesBy s role (piecesAt 9 l i))} stops-at refl (adds-halt i (stopped 15 saying) (stopsBy s (nextRole role part) (e + 1) (piecesAt 9 l (e + 1))) (textOf saying ++ 13 ∷ 10 ∷ []) r nope a1 k ek))
+
+-- no part is left
+pub parts-end : (s : Bool) (role : Role) (l : List ℕ) (i : ℕ) → length l < i → {v : Verdict} {t out now : List ℕ} {at n : ℕ}
+    → Onward v false t out at (stopsBy s role i (piecesAt 9 l i)) false (laid (linesBy s role (piecesAt 9 l i))) now n → Adds v false t out at (Put n) now
+unfolding stopsBy linesBy
+parts-end s role l i h {now = now} {n = n} f =
+    f (Put n) now (subst (λ (ps : List (List ℕ)). Adds (stopsBy s role i ps) false (laid (linesBy s role ps)) now n (Put n) now) (sym (past-end 9 l i h)) adds-none)

@@ -1,0 +1,84 @@
+-- What a record becomes: its parts as they are written, and the field that they make (S2, S7, T7, T12, B1). Assumes nothing.
+use Prim.Native.Nat.{ℕ}
+use mathlib.Core.Bool.{Bool, true, false}
+use mathlib.Core.List.{List, [], _∷_, _++_, map}
+use Rattle.base.specs.Choice.{pick}
+use Rattle.base.specs.Bytes.{empty}
+use Rattle.base.specs.Quoted.{bytes}
+use Rattle.base.specs.Calls.{Answer, textOf}
+use Rattle.alphabets.specs.Bank.{plainly}
+use Rattle.alphabets.specs.Best.{writing}
+use Rattle.fields.specs.Field.{Field, field}
+use Rattle.roles.specs.Role.{shapeOf, Part, copy, name, taxName, cast}
+use Rattle.roles.specs.Speech.{codeSize}
+use Rattle.roles.specs.declared.Shape.{Shape}
+use Rattle.roles.specs.declared.Shape.the-variants.{Plain, Payer, Payee, Agent, Details, Note103, Note202}
+use Rattle.records.specs.Record.{Record}
+use Rattle.details.specs.declared.Place.{Place}
+use Rattle.details.specs.declared.Place.the-variants.{In70, In72, BehindRpp}
+use Rattle.details.specs.Layouts.{linesFor}
+
+-- ---- the parts: what is written for each, or where that stops
+abbrev pub saidPart : Bool → Part → Answer
+saidPart s (copy p) = plainly p
+saidPart s (name p) = writing s p
+saidPart s (taxName p) = writing s p
+
+-- VO digits, which are copied, and a text
+abbrev pub coded : List (List ℕ) → List Part
+coded [] = []
+coded (v ∷ ts) = copy v ∷ map name ts
+
+-- the parts of a record are cast as a field's lines are, but for details
+abbrev pub castParts : Shape → List (List ℕ) → List Part
+castParts Details ps = coded ps
+castParts Note202 [] = []
+castParts Note202 (r ∷ ps) = copy r ∷ coded ps
+castParts Note103 ps = cast Note103 ps
+castParts Plain ps = cast Plain ps
+castParts Payer ps = cast Payer ps
+castParts Payee ps = cast Payee ps
+castParts Agent ps = cast Agent ps
+
+-- ---- the lines
+abbrev pub lineFor : Bool → Part → List ℕ
+lineFor s (copy p) = p
+lineFor s (name p) = textOf (writing s p)
+lineFor s (taxName p) = textOf (writing s p)
+
+-- the code, with the sign and without, and details behind it
+abbrev pub code : Bool → List ℕ → List ℕ
+code true vo = bytes "'(VO" ++ (vo ++ bytes ")'")
+code false vo = bytes "(VO" ++ (vo ++ bytes ")")
+
+abbrev pub told : Bool → List (List ℕ) → List ℕ
+told s [] = []
+told s (vo ∷ []) = code s vo
+told s (vo ∷ t ∷ ps) = code s vo ++ textOf (writing s t)
+
+abbrev pub rppLine : List ℕ → List ℕ
+rppLine r = bytes "/RPP/" ++ r
+
+-- 72 of a 202: perhaps an RPP line, and details in what room is left
+abbrev pub notePlace : List ℕ → Place
+notePlace r = pick (empty r) In72 BehindRpp
+
+abbrev pub noteLines : Bool → List (List ℕ) → List (List ℕ)
+noteLines s [] = []
+noteLines s (r ∷ ps) = pick (empty r) [] (rppLine r ∷ []) ++ linesFor (notePlace r) (codeSize s) (told s ps)
+
+unfoldable pub contentLines : Bool → Shape → List (List ℕ) → List (List ℕ)
+contentLines s Details ps = linesFor In70 (codeSize s) (told s ps)
+contentLines s Note103 ps = map rppLine ps
+contentLines s Note202 ps = noteLines s ps
+contentLines s Plain ps = map (lineFor s) (cast Plain ps)
+contentLines s Payer ps = map (lineFor s) (cast Payer ps)
+contentLines s Payee ps = map (lineFor s) (cast Payee ps)
+contentLines s Agent ps = map (lineFor s) (cast Agent ps)
+
+-- ---- from records to fields
+abbrev pub fieldFor : ℕ → Bool → Record → Field
+fieldFor kind s (field t ps) = field t (contentLines s (shapeOf kind t) ps)
+
+unfoldable pub spread : ℕ → Bool → List Record → List Field
+spread kind s rs = map (fieldFor kind s) rs
