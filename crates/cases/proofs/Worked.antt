@@ -1,73 +1,45 @@
 -- All worked examples hold. Assumes nothing.
-use mathlib.Core.Path.{refl}
-use Rattle.base.specs.Calls.{Gives, long, short}
-use Rattle.base.specs.Bytes.{isIn, digit, capital, letter, marks, shared}
+use Prim.Native.Nat.{ℕ}
+use mathlib.Core.Path.{_≡_, refl}
+use mathlib.Core.List.{List}
+use lib.ListN.{length}
+use Rattle.base.specs.Rules.{first}
+use Rattle.base.specs.Calls.{Gives, long, short, outcome, room, placed}
+use Rattle.base.specs.Bytes.{isIn, digit, capital, letter, marks, shared, xset}
+use Rattle.base.specs.declared.Outcome.{Outcome}
+use Rattle.base.specs.declared.Verdict.{Verdict}
 use Rattle.alphabets.specs.Grid.{grid, kind, sign}
-use Rattle.alphabets.specs.Bank.{reads}
+use Rattle.alphabets.specs.Bank.{reads, plainly}
+use Rattle.alphabets.specs.Steps.{code, codes}
+use Rattle.alphabets.specs.Pieces.{floorOf, heardOf, pieceIn}
+use Rattle.alphabets.specs.Parts.{extent, written, fitted, spoken, pieceText}
 use Rattle.alphabets.specs.Best.{latinNext, best, bad, writes}
 use Rattle.alphabets.specs.Text.{ReadTo, WrittenTo}
+use Rattle.fields.specs.Field.{upto, past}
+use Rattle.values.specs.Number.{onward}
+use Rattle.values.specs.Day.{leap, daysIn, isDay, yearOf, realDay}
+use Rattle.values.specs.Money.{kopecks}
+use Rattle.values.specs.Answers.{dayAt, kopecksOf}
 use Rattle.cases.specs.Cases.{cases, AllHold}
 
+infixr 4 _also_
+abbrev _also_ : {A B : Type 0} → A → B → A × B
+a also b = (a, b)
+
+-- a call gives what is computed
+gives : {rules : List Verdict} {t out : List ℕ} {r : Outcome} {after : List ℕ} → r ≡ outcome (first rules) (length t) → after ≡ room (first rules) t out → Gives rules t out r after
+gives p q = record { answers = p; leaves = q }
+
 pub worked : AllHold cases
-unfolding cases isIn digit capital letter marks shared grid kind sign reads latinNext best bad writes long short ReadTo WrittenTo
-worked = (
-  (record { answers = refl; leaves = refl }, record { answers = refl; leaves = refl }),
-  (
-    (record { answers = refl; leaves = refl }, record { answers = refl; leaves = refl }),
-    (
-      (record { answers = refl; leaves = refl }, record { answers = refl; leaves = refl }),
-      (
-        (record { answers = refl; leaves = refl }, record { answers = refl; leaves = refl }),
-        (
-          (record { answers = refl; leaves = refl }, record { answers = refl; leaves = refl }),
-          (
-            (record { answers = refl; leaves = refl }, record { answers = refl; leaves = refl }),
-            (
-              record { answers = refl; leaves = refl },
-              (
-                record { answers = refl; leaves = refl },
-                (
-                  record { answers = refl; leaves = refl },
-                  (
-                    record { answers = refl; leaves = refl },
-                    (
-                      (record { answers = refl; leaves = refl }, record { answers = refl; leaves = refl }),
-                      (
-                        (record { answers = refl; leaves = refl }, record { answers = refl; leaves = refl }),
-                        (
-                          (record { answers = refl; leaves = refl }, record { answers = refl; leaves = refl }),
-                          (
-                            (record { answers = refl; leaves = refl }, record { answers = refl; leaves = refl }),
-                            (
-                              (record { answers = refl; leaves = refl }, record { answers = refl; leaves = refl }),
-                              (
-                                record { answers = refl; leaves = refl },
-                                (
-                                  record { answers = refl; leaves = refl },
-                                  (
-                                    record { answers = refl; leaves = refl },
-                                    (
-                                      record { answers = refl; leaves = refl },
-                                      (
-                                        record { answers = refl; leaves = refl },
-                                        tt,
-                                      ),
-                                    ),
-                                  ),
-                                ),
-                              ),
-                            ),
-                          ),
-                        ),
-                      ),
-                    ),
-                  ),
-                ),
-              ),
-            ),
-          ),
-        ),
-      ),
-    ),
-  ),
-)
+unfolding cases placed plainly code codes floorOf heardOf pieceIn extent written fitted spoken pieceText xset isIn digit capital letter marks shared grid kind sign reads latinNext best bad writes long short ReadTo WrittenTo upto past onward leap daysIn isDay yearOf realDay kopecks dayAt kopecksOf
+worked =
+    (gives refl refl, gives refl refl) also (gives refl refl, gives refl refl) also (gives refl refl, gives refl refl) also (gives refl refl, gives refl refl)
+    also (gives refl refl, gives refl refl) also (gives refl refl, gives refl refl) also gives refl refl also gives refl refl also gives refl refl also gives refl refl
+    also refl also refl also refl
+    also (gives refl refl, gives refl refl) also (gives refl refl, gives refl refl) also (gives refl refl, gives refl refl) also (gives refl refl, gives refl refl)
+    also (gives refl refl, gives refl refl) also gives refl refl also gives refl refl also gives refl refl also gives refl refl also gives refl refl
+    also refl also refl also refl also refl also refl also refl
+    also (refl, refl) also (refl, refl) also (refl, refl) also (refl, refl) also (refl, refl)
+    also refl also refl also refl also refl
+    also refl also refl also refl also refl also refl also refl
+    also tt

@@ -1,16 +1,23 @@
--- The worked examples of the rules as one list (section T), stated on the outcomes that the contracts cite. Assumes nothing.
+-- The worked examples of the rules as one list (section T, Camount, Cdate), stated on the outcomes that the contracts cite. Assumes nothing.
 use Prim.Native.Nat.{ℕ, _-_}
 use Prim.Native.Char.{code}
 use Prim.Native.String as string
 use Prim.Native.String.{String}
-use mathlib.Core.Bool.{true, _&&_}
-use mathlib.Core.List.{List, [], _∷_}
+use mathlib.Core.Path.{_≡_}
+use mathlib.Core.Bool.{Bool, true, false, _&&_}
+use mathlib.Core.List.{List, [], _∷_, _++_}
 use lib.Dec.{eqb, leb}
 use lib.ListN.{length}
 use Rattle.base.specs.Choice.{pick}
-use Rattle.base.specs.Calls.{over}
+use Rattle.base.specs.Calls.{over, placed}
 use Rattle.base.specs.declared.Outcome.the-variants.{Done, Refused}
 use Rattle.alphabets.specs.Text.{ReadTo, WrittenTo}
+use Rattle.alphabets.specs.Steps.{codes}
+use Rattle.alphabets.specs.Parts.{extent, fitted, pieceText}
+use Rattle.alphabets.specs.Parts as parts
+use Rattle.alphabets.specs.declared.parts.Extent.{Extent}
+use Rattle.alphabets.specs.declared.parts.Extent.the-variants.{Takes, Halts}
+use Rattle.values.specs.Answers.{dayAt, kopecksOf}
 
 -- a sign's byte in windows-1251
 abbrev pub byteOf : ℕ → ℕ
@@ -24,7 +31,7 @@ bytes (string._∷_ c s) = byteOf (code c) ∷ bytes s
 abbrev pub room : List ℕ
 room = 0 ∷ 0 ∷ 0 ∷ 0 ∷ 0 ∷ 0 ∷ 0 ∷ 0 ∷ 0 ∷ 0 ∷ 0 ∷ 0 ∷ []
 
--- with the sign
+-- texts with the sign, where none is named
 pub data Case : Type 0 where
   -- the desk text is written as the bank text, which reads as it
   written : String → String → Case
@@ -33,12 +40,28 @@ pub data Case : Type 0 where
   -- the bank text, or the desk text, is refused with a number and a place
   unread : String → ℕ → ℕ → Case
   unwritten : String → ℕ → ℕ → Case
+  -- with the sign or without it, what is written for a desk text is so long, or halts
+  sized : Bool → String → Extent → Case
+  -- it is put into the room from a place on: so many bytes, and the room then
+  puts : Bool → String → String → ℕ → ℕ → String → Case
+  -- from a side, a piece of a bank text stands for this
+  hears : Bool → String → String → Case
+  -- a content of 32A with this amount has so many kopecks
+  worth : String → ℕ → Case
+  -- six digits are a day, or aren't
+  isDay noDay : String → Case
 
 abbrev pub Holds : Case → Type 0
 Holds (written d b) = WrittenTo true (bytes d) room (Done (length (bytes b))) (over (bytes b) room) × ReadTo true (bytes b) room (Done (length (bytes d))) (over (bytes d) room)
 Holds (reads b d) = ReadTo true (bytes b) room (Done (length (bytes d))) (over (bytes d) room)
 Holds (unread b n p) = ReadTo true (bytes b) room (Refused n p) room
 Holds (unwritten d n p) = WrittenTo true (bytes d) room (Refused n p) room
+Holds (sized s d e) = extent s (bytes d) ≡ e
+Holds (puts s d out at n after) = (fitted (bytes out) at (parts.written s (bytes d)) ≡ n) × (placed (bytes out) at (parts.written s (bytes d)) ≡ bytes after)
+Holds (hears s b d) = pieceText codes s (bytes b) ≡ bytes d
+Holds (worth a k) = kopecksOf (bytes "240229RUB" ++ bytes a) ≡ k
+Holds (isDay d) = dayAt (bytes d) 0 ≡ true
+Holds (noDay d) = dayAt (bytes d) 0 ≡ false
 
 abbrev pub AllHold : List Case → Type 0
 AllHold [] = Unit {0}
@@ -46,7 +69,7 @@ AllHold (c ∷ cs) = Holds c × AllHold cs
 
 unfoldable pub cases : List Case
 cases =
-    -- 1 to 10
+    -- 1 to 12
     written "" ""
     ∷ written "ПЁТР" "PoTR"
     ∷ written "ЦЧ" "Cc"
@@ -57,6 +80,9 @@ cases =
     ∷ reads "''" ""
     ∷ unread "'AB" 14 3
     ∷ unread "W" 14 0
+    ∷ worth "5,1" 510
+    ∷ isDay "240229"
+    ∷ noDay "230229"
     -- neighbours: the Latin side is left before marks that no Latin letter follows, and opened right before a letter
     ∷ written "A1" "'A'1"
     ∷ written "A 1 Б" "'A' 1 B"
@@ -68,4 +94,29 @@ cases =
     ∷ unwritten "Пётр" 15 1
     ∷ unwritten "A'B" 15 1
     ∷ unwritten "ABCЯABCЯABCD" 17 18
+    -- texts inside larger room
+    ∷ sized true "" (Takes 0)
+    ∷ sized true "ЦЧ" (Takes 2)
+    ∷ sized true "ABЯC" (Takes 8)
+    ∷ sized true "A'B" (Halts 1)
+    ∷ sized false "A'B" (Takes 3)
+    ∷ sized false "AЯ" (Halts 1)
+    -- inside, at the very end, one byte too far, and no text
+    ∷ puts true "A" "......" 1 3 ".'A'.."
+    ∷ puts true "A" "......" 3 3 "...'A'"
+    ∷ puts true "A" "......" 4 0 "......"
+    ∷ puts true "A'B" "......" 1 0 "......"
+    ∷ puts false "A'B" "......" 1 3 ".A'B.."
+    -- the side is carried on, and W alone has no reading on the Russian side
+    ∷ hears false "P'A" "ПA"
+    ∷ hears true "B'c" "BЧ"
+    ∷ hears false "PW" ""
+    ∷ hears false "''" ""
+    -- amounts and days
+    ∷ worth "1500,5" 150050
+    ∷ worth "0," 0
+    ∷ worth "0,07" 7
+    ∷ isDay "000229"
+    ∷ noDay "240431"
+    ∷ noDay "241301"
     ∷ []

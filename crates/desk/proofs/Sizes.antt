@@ -1,76 +1,145 @@
 -- The answers of the calls on a message fit one word. Assumes nothing.
-use Prim.Native.Nat.{ℕ, zero, suc, _+_, _-_, _*_, _^_, _<_, _≤_}
+use Prim.Native.Nat.{ℕ, zero, suc, _+_, _-_, _^_, _<_, _≤_}
 use mathlib.Core.Path.{_≡_, refl, sym, ap, _∙_, subst}
-use mathlib.Core.Bool.{Bool, true, false, _&&_, false≢true}
-use mathlib.Core.List.{List, [], _∷_, _++_}
+use mathlib.Core.Bool.{Bool, true, false}
+use mathlib.Core.List.{List, [], _∷_}
 use native.Mathlib.Omega.{arith}
-use lib.Dec.{eqb, ltb}
-use lib.ListN.{length, length-append}
+use lib.Dec.{leb, ltb}
+use lib.ListN.{length, take, drop}
 use lib.Pow.{pow-mono}
-use Rattle.base.specs.Choice.{pick, all}
+use lib.Seq.{getD-drop}
+use Rattle.base.specs.Choice.{pick}
+use Rattle.base.specs.Bytes.{between}
+use Rattle.base.specs.Quoted.{bytes}
 use Rattle.base.specs.Rules.{then, first}
 use Rattle.base.specs.Calls.{short}
 use Rattle.base.specs.declared.Verdict.{Verdict}
 use Rattle.base.specs.declared.Verdict.the-variants.{Fine, Broken}
+use Rattle.base.proofs.ByteLaws.{Bytes}
 use Rattle.base.proofs.RuleLaws.{first-last}
-use Rattle.base.proofs.Bools.{left, right}
-use Rattle.fields.specs.Field.{Field, field, lined, linesOf, tagOf, fields}
-use Rattle.fields.specs.Places.{sizeOf, startOf, nextOf, endOf, listed}
-use Rattle.fields.specs.Shapes.{lineable}
-use Rattle.fields.proofs.FieldLaws.{fields-lineable, fields-dash}
-use Rattle.fields.proofs.PlaceLaws.{size-append, listed-length}
+use Rattle.fields.specs.Field.{fields}
+use Rattle.fields.specs.Places.{listed}
+use Rattle.fields.proofs.PlaceLaws.{listed-length}
 use Rattle.types.proofs.TableLaws.{few-places}
-use Rattle.types.specs.Form.{Place, placesOf}
-use Rattle.types.specs.Walk.{find, word}
-use Rattle.frame.specs.Frame.{frameRules, refusal, wordOf}
-use Rattle.frame.proofs.CallLaws.{Taken, taken}
-use Rattle.frame.proofs.SmallLaws.{refusal-small}
+use Rattle.types.specs.Form.{placesOf}
+use Rattle.types.specs.Walk.{find}
+use Rattle.frame.specs.Frame.{wordOf}
+use Rattle.frame.proofs.CallLaws.{taken}
 use Rattle.frame.proofs.SmallLaws as verdicts
-use Rattle.listing.specs.Lists.{listRules, checkedBy, Lists, partAt, spanBy, spanOf}
-use Rattle.listing.specs.declared.Checked.{Checked}
+use Rattle.listing.specs.Lists.{partAt}
 use Rattle.listing.specs.declared.Span.{Span}
-use Rattle.listing.specs.declared.Span.the-variants.{Part}
-use Rattle.desk.specs.Sizes.{SmallCheck, SmallSpan}
+use Rattle.listing.specs.declared.Span.the-variants.{Part, Nothing}
+use Rattle.values.specs.Number.{onward, number}
+use Rattle.values.specs.Day.{yearOf, dated}
+use Rattle.values.specs.Values.{part}
+use Rattle.values.specs.Answers.{kopecksOf, dateOf}
+use Rattle.values.proofs.MoneyLaws.{kopecks-of-small}
+use Rattle.judge.specs.Message.{messageRules, verdictOf}
+use Rattle.judge.proofs.Theorems.{frame-clean}
+use Rattle.judge.proofs.SmallLaws.{verdict-small}
+use Rattle.message.specs.declared.Checked.{Checked}
+use Rattle.message.specs.Calls.{checkedBy, Checks, spanBy, spanOf, partOf, contentOf, paid, amountBy, amountOf, dayBy, dayOf, Inside}
+use Rattle.message.proofs.PartLaws.{inside-clean}
+use Rattle.desk.specs.Sizes.{SmallCheck, SmallSpan, SmallAmount, SmallDay}
 
--- ---- the list
-fine-small : (kind : ℕ) (m list : List ℕ) → refusal kind m ≡ Fine → SmallCheck (checkedBy (short (listed 5 (fields m)) list) (length (fields m)) (wordOf kind m))
+-- ---- the check
+fine-small : (kind : ℕ) (m list : List ℕ) → verdictOf kind m ≡ Fine → SmallCheck (checkedBy (short (listed 5 (fields m)) list) (length (fields m)) (wordOf kind m))
 unfolding short
 fine-small kind m list e = go (ltb (length list) (length (listed 5 (fields m))))
   where
     go : (q : Bool) → SmallCheck (checkedBy (pick q (Broken 17 (length (listed 5 (fields m)))) Fine) (length (fields m)) (wordOf kind m))
-    go true = let t = taken kind m e in (omega arith, omega (arith, t .few, listed-length 5 (fields m)))
-    go false = let t = taken kind m e in (omega (arith, t .few), omega (arith, t .sound .below, pow-mono {j = 14} (few-places kind)))
+    go true = let t = taken kind m (frame-clean kind m e) in (omega arith, omega (arith, t .few, listed-length 5 (fields m)))
+    go false = let t = taken kind m (frame-clean kind m e) in (omega (arith, t .few), omega (arith, t .sound .below, pow-mono {j = 14} (few-places kind)))
 
-pub list-small : (kind : ℕ) (m list : List ℕ) (r : Checked) (after : List ℕ) → Lists kind m list r after → SmallCheck r
-unfolding refusal
-list-small kind m list r after g = subst SmallCheck (sym (g .answers ∙ ap (λ (v : Verdict). checkedBy v (length (fields m)) (wordOf kind m)) (first-last (frameRules kind m) (short (listed 5 (fields m)) list)))) (go (first (frameRules kind m)) refl (refusal-small kind m))
+pub check-small : (kind : ℕ) (m list : List ℕ) (r : Checked) (after : List ℕ) → Checks kind m list r after → SmallCheck r
+unfolding verdictOf
+check-small kind m list r after g =
+    subst SmallCheck (sym (g .answers ∙ ap (λ (v : Verdict). checkedBy v (length (fields m)) (wordOf kind m)) (first-last (messageRules kind m) (short (listed 5 (fields m)) list))))
+    (go (first (messageRules kind m)) refl (verdict-small kind m))
   where
-    go : (v : Verdict) → refusal kind m ≡ v → verdicts.Small 10000 v → SmallCheck (checkedBy (then v (short (listed 5 (fields m)) list)) (length (fields m)) (wordOf kind m))
+    go : (v : Verdict) → verdictOf kind m ≡ v → verdicts.Small 10000 v → SmallCheck (checkedBy (then v (short (listed 5 (fields m)) list)) (length (fields m)) (wordOf kind m))
     go Fine e s = fine-small kind m list e
     go (Broken n p) e s = s
 
 -- ---- the part of a place
-part-small : (ps : List Place) (place o b : ℕ) (fs : List Field) → all lineable fs ≡ true → o + sizeOf (linesOf fs) ≤ b → b ≤ 10000 → SmallSpan (partAt ps place o fs)
-unfolding partAt
-part-small ps place o b [] a h l = tt
-part-small ps place o b (field t [] ∷ fs) a h l = absurd (false≢true a)
-part-small ps place o b (field t (x ∷ xs) ∷ fs) a h l =
-    go (eqb (find ps t) place) (part-small ps place (nextOf o (field t (x ∷ xs))) b fs (right (lineable (field t (x ∷ xs))) (all lineable fs) a) (omega (arith, sizes, size-append xs (linesOf fs))) l)
-  where
-    sizes : nextOf o (field t (x ∷ xs)) ≡ o + (suc (length (t ++ 58 ∷ x)) + 2 + sizeOf xs)
-    sizes = refl
-
-    go : (q : Bool) → SmallSpan (partAt ps place (nextOf o (field t (x ∷ xs))) fs) → SmallSpan (pick q (Part (startOf o (field t (x ∷ xs))) (endOf o (field t (x ∷ xs)))) (partAt ps place (nextOf o (field t (x ∷ xs))) fs))
-    go true s = (omega (arith, sizes, length-append t (58 ∷ x)), omega (arith, sizes, size-append xs (linesOf fs)))
-    go false s = s
+inside-small : (m : List ℕ) (s : Span) → length m ≤ 10000 → Inside m s → SmallSpan s
+inside-small m (Part start end) h i = (i .0, omega (arith, i .1))
+inside-small m Nothing h i = tt
 
 pub span-small : (kind : ℕ) (m : List ℕ) (place : ℕ) → SmallSpan (spanOf kind m place)
 unfolding spanOf
-span-small kind m place = go (refusal kind m) refl
+span-small kind m place = go (verdictOf kind m) refl
   where
-    go : (v : Verdict) → refusal kind m ≡ v → SmallSpan (spanBy v (partAt (placesOf kind) place 5 (fields m)))
+    go : (v : Verdict) → verdictOf kind m ≡ v → SmallSpan (spanBy v (partAt (placesOf kind) place 5 (fields m)))
     go (Broken n p) e = tt
-    go Fine e =
-        let t : Taken kind m = taken kind m e in
-        let d = fields-dash m (t .frame-fine) (t .bytes-fine) (t .lines-fine) in
-        part-small (placesOf kind) place 5 (5 + sizeOf (linesOf (fields m))) (fields m) (fields-lineable m (t .lines-fine)) (omega arith) (omega (arith, t .within))
+    go Fine e = inside-small m (partAt (placesOf kind) place 5 (fields m)) (taken kind m (frame-clean kind m e) .within) (inside-clean kind m e place)
+
+-- ---- kopecks and the date
+pub amount-small : (kind : ℕ) (m : List ℕ) → SmallAmount (amountOf kind m)
+unfolding amountOf
+amount-small kind m = go (verdictOf kind m) (verdict-small kind m)
+  where
+    go : (v : Verdict) → verdicts.Small 10000 v → SmallAmount (amountBy v (kopecksOf (paid kind m)))
+    go Fine s = tt
+    go (Broken n p) s = s
+
+pub day-small : (kind : ℕ) (m : List ℕ) → SmallDay (dayOf kind m)
+unfolding dayOf
+day-small kind m = go (verdictOf kind m) (verdict-small kind m)
+  where
+    go : (v : Verdict) → verdicts.Small 10000 v → SmallDay (dayBy v (dateOf (paid kind m)))
+    go Fine s = tt
+    go (Broken n p) s = s
+
+-- parts of bytes are bytes
+take-bytes : (n : ℕ) (s : List ℕ) → Bytes s → Bytes (take n s)
+take-bytes zero s b i = omega arith
+take-bytes (suc n) [] b i = omega arith
+take-bytes (suc n) (x ∷ s) b zero = b 0
+take-bytes (suc n) (x ∷ s) b (suc i) = take-bytes n s (λ j. b (suc j)) i
+
+part-bytes : (i n : ℕ) (s : List ℕ) → Bytes s → Bytes (part i n s)
+part-bytes i n s b = take-bytes n (drop i s) (λ j. subst (λ (x : ℕ). x < 256) (sym (getD-drop i s j 0)) (b (i + j)))
+
+paid-bytes : (kind : ℕ) (m : List ℕ) → Bytes m → Bytes (paid kind m)
+unfolding paid contentOf
+paid-bytes kind m b = go (spanOf kind m (find (placesOf kind) (bytes "32A")))
+  where
+    go : (s : Span) → Bytes (partOf m s)
+    go (Part start end) = part-bytes start (end - start) m b
+    go Nothing = λ i. omega arith
+
+-- the kopecks fit
+pub kopecks-fit : (kind : ℕ) (m : List ℕ) → Bytes m → kopecksOf (paid kind m) < 2 ^ 63
+kopecks-fit kind m b = kopecks-of-small (paid kind m) (paid-bytes kind m b)
+
+-- and so does the date
+two-small : (s : List ℕ) → Bytes s → number (take 2 s) < 2300
+unfolding onward
+two-small [] b = omega arith
+two-small (x ∷ []) b = omega (arith, b 0)
+two-small (x ∷ y ∷ r) b = omega (arith, b 0, b 1)
+
+year-small : (n : ℕ) → n < 2300 → yearOf n < 4300
+unfolding yearOf
+year-small n h = go (between 80 n 99)
+  where
+    go : (q : Bool) → pick q (1900 + n) (2000 + n) < 4300
+    go true = omega arith
+    go false = omega arith
+
+dated-small : (s : List ℕ) → Bytes s → dated s < 4294967296
+unfolding dated
+dated-small s b =
+    let y = year-small (number (take 2 s)) (two-small s b) in
+    let m = two-small (drop 2 s) (λ j. subst (λ (x : ℕ). x < 256) (sym (getD-drop 2 s j 0)) (b (2 + j))) in
+    let d = two-small (drop 4 s) (λ j. subst (λ (x : ℕ). x < 256) (sym (getD-drop 4 s j 0)) (b (4 + j))) in
+    omega arith
+
+pub date-fits : (kind : ℕ) (m : List ℕ) → Bytes m → dateOf (paid kind m) < 4294967296
+unfolding dateOf
+date-fits kind m b = go (leb 6 (length (paid kind m)))
+  where
+    go : (q : Bool) → pick q (dated (part 0 6 (paid kind m))) 0 < 4294967296
+    go true = dated-small (part 0 6 (paid kind m)) (part-bytes 0 6 (paid kind m) (paid-bytes kind m b))
+    go false = omega arith

@@ -1,5 +1,5 @@
 -- Words that stand for answers: each stands for one (K4, K9). Assumes nothing.
-use Prim.Native.Nat.{ℕ, zero, suc, _+_, _*_, _<_, _≤_}
+use Prim.Native.Nat.{ℕ, zero, suc, _+_, _*_, _/_, _%_, _^_, _<_, _≤_}
 use mathlib.Core.Path.{_≡_, refl, sym, ap, _∙_}
 use mathlib.Core.Bool.{Bool, true, false, not}
 use mathlib.Core.List.{List}
@@ -10,9 +10,20 @@ use borrow.Author.Tests.{ne-eqb}
 use Rattle.base.specs.declared.Outcome.{Outcome}
 use Rattle.base.specs.declared.Outcome.the-variants.{Done, Refused}
 use Rattle.alphabets.proofs.Outcomes.{Small, read-one, write-one, read-small, write-small}
-use Rattle.listing.proofs.Theorems.{lists-one}
-use Rattle.desk.specs.Answer.{word, checkedWord, isOn}
-use Rattle.desk.specs.Exports.{ReadWord, WrittenWord, ListedWord}
+use Rattle.base.specs.declared.Verdict.{Verdict}
+use Rattle.base.specs.declared.Verdict.the-variants.{Fine, Broken}
+use Rattle.base.proofs.ByteLaws.{Bytes}
+use Rattle.base.proofs.RuleLaws.{fine-broken}
+use Rattle.values.specs.Answers.{kopecksOf, dateOf}
+use Rattle.judge.specs.Message.{verdictOf}
+use Rattle.message.specs.declared.Checked.{Checked}
+use Rattle.message.specs.declared.Checked.the-variants as checked
+use Rattle.message.specs.Calls.{paid, amountBy, amountOf, daySplit, dayBy, dayOf}
+use Rattle.message.proofs.Theorems.{checks-one}
+use Rattle.desk.specs.Answer.{word, checkedWord, amountWord, dayWord, isOn}
+use Rattle.desk.specs.Exports.{ReadWord, WrittenWord, CheckWord}
+use Rattle.desk.specs.Sizes.{SmallCheck}
+use Rattle.desk.proofs.Sizes.{check-small, kopecks-fit, date-fits}
 
 pub on-is : (sign : ℕ) → not (eqb sign 0) ≡ isOn sign
 on-is zero = refl
@@ -51,9 +62,9 @@ write-word-one sign text out r q a b m n =
     let e = write-one (isOn sign) text out (m .answer) (n .answer) a b (m .call) (n .call) in
     (m .value ∙ ap word (e .0) ∙ sym (n .value), e .1)
 
-pub list-word-one : (kind : ℕ) (m list : List ℕ) (r q : ℕ) (a b : List ℕ) → ListedWord kind m list r a → ListedWord kind m list q b → (r ≡ q) × (a ≡ b)
-list-word-one kind m list r q a b x y =
-    let e = lists-one (x .call) (y .call) in
+pub check-word-one : (kind : ℕ) (m list : List ℕ) (r q : ℕ) (a b : List ℕ) → CheckWord kind m list r a → CheckWord kind m list q b → (r ≡ q) × (a ≡ b)
+check-word-one kind m list r q a b x y =
+    let e = checks-one (x .call) (y .call) in
     (x .value ∙ ap checkedWord (e .0) ∙ sym (y .value), e .1)
 
 -- number and place fit
@@ -65,3 +76,51 @@ write-fits sign text out r a m = write-small (isOn sign) text out (m .answer) a 
 
 pub small-refused : (k p : ℕ) → Small (Refused k p) → (k ≤ 18) × (p ≤ 10000)
 small-refused k p s = let a = s .0 in (omega arith, s .1)
+
+pub check-fits : (kind : ℕ) (m list : List ℕ) (r : ℕ) (a : List ℕ) (x : CheckWord kind m list r a) → SmallCheck (x .answer)
+check-fits kind m list r a x = check-small kind m list (x .answer) a (x .call)
+
+-- a check's answer is told by its word, too
+pub checked-one : (c d : Checked) → SmallCheck c → SmallCheck d → checkedWord c ≡ checkedWord d → c ≡ d
+checked-one (checked.Accepted n w) (checked.Accepted k v) a b e =
+    let x = a .0 in
+    let y = b .0 in
+    let f : n ≡ k = omega arith in
+    let g : w ≡ v = omega arith in
+    ap (λ (i : ℕ). checked.Accepted i w) f ∙ ap (checked.Accepted k) g
+checked-one (checked.Accepted n w) (checked.Refused k p) a b e = absurd (omega (arith, a .0, a .1))
+checked-one (checked.Refused k p) (checked.Accepted n w) a b e = absurd (omega (arith, b .0, b .1))
+checked-one (checked.Refused k p) (checked.Refused j q) a b e =
+    let x = a .1 in
+    let y = b .1 in
+    let f : k ≡ j = omega arith in
+    let g : p ≡ q = omega arith in
+    ap (λ (n : ℕ). checked.Refused n p) f ∙ ap (checked.Refused j) g
+
+pub checked-below-iff : (c : Checked) → SmallCheck c → (checkedWord c < 9223372036854775808) ↔ ((n : ℕ) × (w : ℕ) × (c ≡ checked.Accepted n w))
+checked-below-iff (checked.Accepted n w) a = ((λ h. (n, w, refl)), (λ h. omega (arith, a .0, a .1)))
+checked-below-iff (checked.Refused k p) a = ((λ h. absurd (omega arith)), (λ h. absurd (apart (h .0) (h .1) (h .2))))
+  where
+    apart : (n w : ℕ) → checked.Refused k p ≡ checked.Accepted n w → ⊥
+    apart n w e = let z : _≡_ {A = ℕ} 0 1 = cc in omega arith
+
+-- kopecks and a date come out below 2^63 exactly if the message is accepted
+pub amount-below-iff : (kind : ℕ) (m : List ℕ) → Bytes m → (amountWord (amountOf kind m) < 9223372036854775808) ↔ (verdictOf kind m ≡ Fine)
+unfolding amountOf
+amount-below-iff kind m b = go (verdictOf kind m)
+  where
+    go : (v : Verdict) → (amountWord (amountBy v (kopecksOf (paid kind m))) < 9223372036854775808) ↔ (v ≡ Fine)
+    go Fine = (λ h. refl, λ e. omega (arith, kopecks-fit kind m b))
+    go (Broken n p) = (λ h. absurd (omega arith), λ e. absurd (fine-broken n p (sym e)))
+
+-- a date split is the date
+pub date-whole : (n : ℕ) → dayWord (daySplit n) ≡ n
+date-whole n = omega arith
+
+pub day-below-iff : (kind : ℕ) (m : List ℕ) → Bytes m → (dayWord (dayOf kind m) < 9223372036854775808) ↔ (verdictOf kind m ≡ Fine)
+unfolding dayOf
+day-below-iff kind m b = go (verdictOf kind m)
+  where
+    go : (v : Verdict) → (dayWord (dayBy v (dateOf (paid kind m))) < 9223372036854775808) ↔ (v ≡ Fine)
+    go Fine = (λ h. refl, λ e. omega (arith, date-fits kind m b, date-whole (dateOf (paid kind m))))
+    go (Broken n p) = (λ h. absurd (omega arith), λ e. absurd (fine-broken n p (sym e)))

@@ -1,10 +1,14 @@
--- An answer as one 64-bit number (K1, K2, K4). Assumes nothing.
+-- An answer as one 64-bit number (K1-K4). Assumes nothing.
 use Prim.Native.Nat.{ℕ, zero, suc, _+_, _-_, _*_}
 use mathlib.Core.Bool.{Bool, true, false}
 use Rattle.base.specs.declared.Outcome.{Outcome}
 use Rattle.base.specs.declared.Outcome.the-variants.{Done, Refused}
-use Rattle.listing.specs.declared.Checked as checked
-use Rattle.listing.specs.declared.Checked.the-variants as check
+use Rattle.message.specs.declared.Checked as checked
+use Rattle.message.specs.declared.Checked.the-variants as check
+use Rattle.message.specs.declared.Amount as amounts
+use Rattle.message.specs.declared.Amount.the-variants as amount
+use Rattle.message.specs.declared.Day as days
+use Rattle.message.specs.declared.Day.the-variants as day
 use Rattle.listing.specs.declared.Span as spans
 use Rattle.listing.specs.declared.Span.the-variants as span
 
@@ -26,6 +30,16 @@ checkedWord (check.Refused number place) = refusedWord number place
 abbrev pub spanWord : spans.Span → ℕ
 spanWord (span.Part start end) = start * 4294967296 + (end - start)
 spanWord span.Nothing = 0
+
+-- accepted: the kopecks
+abbrev pub amountWord : amounts.Amount → ℕ
+amountWord (amount.Is n) = n
+amountWord (amount.Refused number place) = refusedWord number place
+
+-- accepted: year · 10000 + month · 100 + day
+abbrev pub dayWord : days.Day → ℕ
+dayWord (day.On y m d) = y * 10000 + m * 100 + d
+dayWord (day.Refused number place) = refusedWord number place
 
 -- 0 is off, anything else on
 abbrev pub isOn : ℕ → Bool

@@ -4,8 +4,8 @@ use mathlib.Core.Path.{_≡_}
 use mathlib.Core.List.{List}
 use Rattle.base.specs.declared.Outcome.{Outcome}
 use Rattle.alphabets.specs.Text.{ReadTo, WrittenTo}
-use Rattle.listing.specs.declared.Checked.{Checked}
-use Rattle.listing.specs.Lists.{Lists}
+use Rattle.message.specs.declared.Checked.{Checked}
+use Rattle.message.specs.Calls.{Checks}
 use Rattle.desk.specs.Answer.{word, checkedWord, isOn}
 
 pub record ReadWord (sign : ℕ) (bank out : List ℕ) (r : ℕ) (after : List ℕ) : Type 0 where
@@ -18,7 +18,7 @@ pub record WrittenWord (sign : ℕ) (text out : List ℕ) (r : ℕ) (after : Lis
   pub call : WrittenTo (isOn sign) text out answer after
   pub value : r ≡ word answer
 
-pub record ListedWord (kind : ℕ) (message list : List ℕ) (r : ℕ) (after : List ℕ) : Type 0 where
+pub record CheckWord (kind : ℕ) (message list : List ℕ) (r : ℕ) (after : List ℕ) : Type 0 where
   pub answer : Checked
-  pub call : Lists kind message list answer after
+  pub call : Checks kind message list answer after
   pub value : r ≡ checkedWord answer

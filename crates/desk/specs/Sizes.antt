@@ -1,14 +1,27 @@
 -- Answers that fit one word. Words of private contracts. Assumes nothing.
 use Prim.Native.Nat.{ℕ, _≤_, _<_}
-use Rattle.listing.specs.declared.Checked.{Checked}
-use Rattle.listing.specs.declared.Checked.the-variants.{Accepted, Refused}
 use Rattle.listing.specs.declared.Span.{Span}
 use Rattle.listing.specs.declared.Span.the-variants.{Part, Nothing}
+use Rattle.message.specs.declared.Checked.{Checked}
+use Rattle.message.specs.declared.Checked.the-variants as checked
+use Rattle.message.specs.declared.Amount.{Amount}
+use Rattle.message.specs.declared.Amount.the-variants as amount
+use Rattle.message.specs.declared.Day.{Day}
+use Rattle.message.specs.declared.Day.the-variants as day
 
 abbrev pub SmallCheck : Checked → Type 0
-SmallCheck (Accepted fields present) = (fields ≤ 14) × (present < 16384)
-SmallCheck (Refused number place) = (number ≤ 18) × (place ≤ 10000)
+SmallCheck (checked.Accepted fields present) = (fields ≤ 14) × (present < 16384)
+SmallCheck (checked.Refused number place) = (number ≤ 18) × (place ≤ 10000)
 
 abbrev pub SmallSpan : Span → Type 0
 SmallSpan (Part start end) = (start ≤ end) × (end ≤ 10000)
 SmallSpan Nothing = Unit {0}
+
+-- kopecks and days fit by their types
+abbrev pub SmallAmount : Amount → Type 0
+SmallAmount (amount.Is n) = Unit {0}
+SmallAmount (amount.Refused number place) = (number ≤ 18) × (place ≤ 10000)
+
+abbrev pub SmallDay : Day → Type 0
+SmallDay (day.On y m d) = Unit {0}
+SmallDay (day.Refused number place) = (number ≤ 18) × (place ≤ 10000)

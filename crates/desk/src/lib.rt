@@ -2,13 +2,15 @@
 ghost use mathlib.Core.Path.{_≡_};
 ghost use Prim.Native.Nat.{_≤_, _<_};
 ghost use Rattle.alphabets.proofs.Outcomes.{Small};
-ghost use Rattle.listing.specs.Lists.{spanOf};
-ghost use Rattle.desk.specs.Answer.{refusedWord, word, checkedWord, spanWord, isOn};
-ghost use Rattle.desk.specs.Exports.{ReadWord, WrittenWord, ListedWord};
-ghost use Rattle.desk.specs.Sizes.{SmallCheck, SmallSpan};
+ghost use Rattle.message.specs.Calls.{spanOf, amountOf, dayOf};
+ghost use Rattle.desk.specs.Answer.{refusedWord, word, checkedWord, spanWord, amountWord, dayWord, isOn};
+ghost use Rattle.desk.specs.Exports.{ReadWord, WrittenWord, CheckWord};
+ghost use Rattle.desk.specs.Sizes.{SmallCheck, SmallSpan, SmallAmount, SmallDay};
 use base::Outcome;
-use listing::Checked;
 use listing::Span;
+use message::Amount;
+use message::Checked;
+use message::Day;
 
 fn is_on(sign: u32) -> bool
     ensures { λ r. ⌜ r ≡ isOn sign ⌝ }
@@ -54,6 +56,26 @@ fn span_of(s: Span) -> u64
     }
 }
 
+fn amount_of(a: Amount) -> u64
+    requires { ⌜ SmallAmount a ⌝ }
+    ensures { λ r. ⌜ r ≡ amountWord a ⌝ }
+{
+    match a {
+        Amount::Is(n) => n,
+        Amount::Refused { number, place } => refused(number, place),
+    }
+}
+
+fn day_of(d: Day) -> u64
+    requires { ⌜ SmallDay d ⌝ }
+    ensures { λ r. ⌜ r ≡ dayWord d ⌝ }
+{
+    match d {
+        Day::On { year, month, day } => year as u64 * 10000 + month as u64 * 100 + day as u64,
+        Day::Refused { number, place } => refused(number, place),
+    }
+}
+
 #[no_mangle]
 pub extern "C" fn desk_read_text(sign: u32, bank: &[u8], out: &mut [u8]) -> u64
     ensures { λ r. ⌜ ReadWord sign (now (bank .entry)) (now (out .entry)) r (now (out .exit)) ⌝ }
@@ -70,19 +92,36 @@ pub extern "C" fn desk_write_text(sign: u32, text: &[u8], out: &mut [u8]) -> u64
     word_of(o)
 }
 
-// 18, 1 to 7 and 17: the list of the fields. The check of contents takes its place when it comes.
+// The check of a message: the list of its fields.
 #[no_mangle]
-pub extern "C" fn desk_frame(kind: u32, message: &[u8], list: &mut [u32]) -> u64
-    ensures { λ r. ⌜ ListedWord kind (now (message .entry)) (now (list .entry)) r (now (list .exit)) ⌝ }
+pub extern "C" fn desk_check(kind: u32, message: &[u8], list: &mut [u32]) -> u64
+    ensures { λ r. ⌜ CheckWord kind (now (message .entry)) (now (list .entry)) r (now (list .exit)) ⌝ }
 {
-    let c = listing::calls::list_fields(kind, message, list);
+    let c = message::calls::check(kind, message, list);
     checked_of(c)
 }
 
+// Where the content of a place stands.
 #[no_mangle]
-pub extern "C" fn desk_span(kind: u32, message: &[u8], place: u32) -> u64
+pub extern "C" fn desk_content(kind: u32, message: &[u8], place: u32) -> u64
     ensures { λ r. ⌜ r ≡ spanWord (spanOf kind (now (message .entry)) place) ⌝ }
 {
-    let s = listing::calls::span(kind, message, place as usize);
+    let s = message::calls::span(kind, message, place as usize);
     span_of(s)
+}
+
+#[no_mangle]
+pub extern "C" fn desk_kopecks(kind: u32, message: &[u8]) -> u64
+    ensures { λ r. ⌜ r ≡ amountWord (amountOf kind (now (message .entry))) ⌝ }
+{
+    let a = message::calls::kopecks(kind, message);
+    amount_of(a)
+}
+
+#[no_mangle]
+pub extern "C" fn desk_date(kind: u32, message: &[u8]) -> u64
+    ensures { λ r. ⌜ r ≡ dayWord (dayOf kind (now (message .entry))) ⌝ }
+{
+    let d = message::calls::date(kind, message);
+    day_of(d)
 }
