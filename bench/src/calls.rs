@@ -2,7 +2,7 @@
 //!
 //! An answer below 2^63 is accepted; else it is 2^63 + number * 2^32 + place.
 
-pub mod frame;
+pub mod check;
 pub mod text;
 
 use crate::plain::Refusal;
@@ -18,4 +18,19 @@ fn answer(word: u64) -> Result<u64, Refusal> {
         number: ((word - REFUSED) >> 32) as u32,
         place: (word & 0xFFFF_FFFF) as usize,
     })
+}
+
+/// Takes fields + word * 2^16 apart; a word that is too wide becomes one that
+/// no message has.
+fn fields_and_word(value: u64) -> (usize, u32) {
+    let word = u32::try_from(value >> 16).unwrap_or(u32::MAX);
+    ((value & 0xFFFF) as usize, word)
+}
+
+/// Takes start * 2^32 + length apart; 0 stands for none, as no content starts
+/// at the message's first byte.
+fn part(value: u64) -> Option<(usize, usize)> {
+    let start = (value >> 32) as usize;
+    let length = (value & 0xFFFF_FFFF) as usize;
+    (value != 0).then_some((start, start + length))
 }

@@ -1,6 +1,6 @@
 //! Both builds on the same generated inputs: answers and lent units must agree.
 
-pub mod frames;
+pub mod checks;
 pub mod texts;
 
 use crate::plain::Refusal;

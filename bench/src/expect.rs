@@ -1,6 +1,6 @@
 //! What the plain build expects a program to write for its whole input.
 
-pub mod frames;
+pub mod checks;
 
 use crate::plain::Refusal;
 

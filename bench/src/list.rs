@@ -3,7 +3,7 @@
 //! A record is a line with the type, the numbers of room and the bytes of the
 //! message, then the message itself, then LF.
 
-pub mod frames;
+pub mod checks;
 
 /// A message, the type it is given as, and how long a list is lent for it.
 pub struct Record {

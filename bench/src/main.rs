@@ -1,6 +1,7 @@
 //! The proved archive against a plain build of the same calls.
 
 mod calls;
+mod cases;
 mod damage;
 mod differ;
 mod expect;
@@ -15,21 +16,21 @@ mod streams;
 use std::env;
 use std::process::exit;
 
-const USAGE: &str = "bench differ texts|frames [N] [SEED]
-bench speed texts|frames
-bench list frames > LIST
-bench expect frames < LIST > OUTPUT";
+const USAGE: &str = "bench differ texts|checks [N] [SEED]
+bench speed texts|checks
+bench list checks > LIST
+bench expect checks < LIST > OUTPUT";
 
 fn main() {
     let words: Vec<String> = env::args().skip(1).collect();
     let words: Vec<&str> = words.iter().map(String::as_str).collect();
     match words[..] {
         ["differ", "texts", ref rest @ ..] => differ::texts::run(count(rest), seed(rest)),
-        ["differ", "frames", ref rest @ ..] => differ::frames::run(count(rest), seed(rest)),
+        ["differ", "checks", ref rest @ ..] => differ::checks::run(count(rest), seed(rest)),
         ["speed", "texts"] => speed::texts::run(),
-        ["speed", "frames"] => speed::frames::run(),
-        ["list", "frames"] => list::frames::run(),
-        ["expect", "frames"] => expect::frames::run(),
+        ["speed", "checks"] => speed::checks::run(),
+        ["list", "checks"] => list::checks::run(),
+        ["expect", "checks"] => expect::checks::run(),
         _ => usage(),
     }
 }

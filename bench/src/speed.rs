@@ -1,6 +1,6 @@
 //! Both builds timed side by side.
 
-pub mod frames;
+pub mod checks;
 pub mod texts;
 
 use std::hint::black_box;

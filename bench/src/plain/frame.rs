@@ -4,7 +4,7 @@
 //! 3 is settled over the whole message before 4, and 4 before the walk; so the
 //! first wrong line and the walk's first fault are kept until the end.
 
-use super::text::X_SET;
+use super::text::{first_missing, X_SET};
 use super::types::{places, Place, Tag, MOST_FIELDS};
 use super::{refuse, Refusal};
 
@@ -14,14 +14,62 @@ pub const MESSAGE_LIMIT: usize = 10_000;
 const OPENING: &[u8] = b"{4:\r\n";
 const CLOSING: &[u8] = b"\r\n-}";
 
-/// A field by its places in the message: its colon, and its content.
+/// No field of any type has more lines.
+pub const MOST_LINES: usize = 6;
+
+/// A field by its places in the message: its colon, its content, its lines.
 #[derive(Clone, Copy, Default)]
 pub struct Field {
+    pub tag: Tag,
     /// Which of its type's places it fills.
     pub place: usize,
     pub colon: usize,
     pub start: usize,
     pub end: usize,
+    /// How many lines it has; one more than the most stands for any greater number.
+    lines: u8,
+    /// Where its first lines end. No message has more bytes than fit a u16.
+    line_ends: [u16; MOST_LINES],
+}
+
+impl Field {
+    fn end_line(&mut self, end: usize) {
+        if let Some(slot) = self.line_ends.get_mut(usize::from(self.lines)) {
+            *slot = end as u16;
+            self.lines += 1;
+        } else {
+            self.lines = MOST_LINES as u8 + 1;
+        }
+    }
+
+    pub fn first_line<'m>(&self, m: &'m [u8]) -> &'m [u8] {
+        &m[self.start..usize::from(self.line_ends[0])]
+    }
+
+    /// The lines of the content; none if there are more than any field has.
+    pub fn lines<'m>(&self, m: &'m [u8]) -> Option<Lines<'m>> {
+        let count = usize::from(self.lines);
+        let mut lines = [&m[..0]; MOST_LINES];
+        let mut start = self.start;
+        for (line, &end) in lines.iter_mut().zip(self.line_ends.get(..count)?) {
+            let end = usize::from(end);
+            *line = &m[start..end];
+            start = end + 2;
+        }
+        Some(Lines { lines, count })
+    }
+}
+
+/// The lines of a content.
+pub struct Lines<'m> {
+    lines: [&'m [u8]; MOST_LINES],
+    count: usize,
+}
+
+impl<'m> Lines<'m> {
+    pub fn all(&self) -> &[&'m [u8]] {
+        &self.lines[..self.count]
+    }
 }
 
 /// The fields of a message that 18 and 1 to 7 let pass.
@@ -61,19 +109,6 @@ impl Fields {
     }
 }
 
-/// Judges frame, lines and tags, and fills the list of the fields' places;
-/// answers the number of fields and the presence word. Contents are not read.
-pub fn frame_check(kind: u32, m: &[u8], list: &mut [u32]) -> Result<(usize, u32), Refusal> {
-    fields(kind, m)?.fill(list)
-}
-
-/// Start and end of the content at a place, if 18 and 1 to 7 let the message pass.
-pub fn frame_span(kind: u32, m: &[u8], place: u32) -> Option<(usize, usize)> {
-    let fields = fields(kind, m).ok()?;
-    let field = fields.at(place as usize)?;
-    Some((field.start, field.end))
-}
-
 /// The fields of a message, or its refusal by 18 or 1 to 7.
 pub fn fields(kind: u32, m: &[u8]) -> Result<Fields, Refusal> {
     let Some(places) = places(kind) else {
@@ -94,8 +129,8 @@ pub fn fields(kind: u32, m: &[u8]) -> Result<Fields, Refusal> {
         let end = line_end(m, line)?;
         if wrong_line.is_none() {
             match Line::of(&m[line..end]) {
-                Line::Opens(tag, content) => walk.field(tag, line, line + content),
-                Line::Continues if line > OPENING.len() => {}
+                Line::Opens(tag, content) => walk.field(tag, line, line + content, end),
+                Line::Continues if line > OPENING.len() => walk.line(end),
                 _ => wrong_line = Some(line),
             }
         }
@@ -110,9 +145,8 @@ pub fn fields(kind: u32, m: &[u8]) -> Result<Fields, Refusal> {
 /// The CR that ends the line, or 3 at the first byte that may not stand there.
 /// There is a CR before the message's end, as it ends in CR LF `-}`.
 fn line_end(m: &[u8], line: usize) -> Result<usize, Refusal> {
-    let beyond = |&b: &u8| X_SET[b as usize] == 0;
-    let length = m[line..].iter().position(beyond);
-    let end = line + length.unwrap_or(m.len() - line);
+    let rest = &m[line..];
+    let end = line + first_missing(&X_SET, rest).unwrap_or(rest.len());
     if m[end..].starts_with(b"\r\n") {
         Ok(end)
     } else {
@@ -171,19 +205,20 @@ impl Walk {
         }
     }
 
-    fn field(&mut self, tag: Tag, colon: usize, start: usize) {
+    /// A line that opens a field and ends at this CR.
+    fn field(&mut self, tag: Tag, colon: usize, start: usize, end: usize) {
         if self.fault.is_some() {
             return;
         }
-        self.end_field(colon - 2);
         match self.place_of(tag) {
             Ok(place) => {
-                self.found.fields[self.found.count] = Field {
-                    place,
-                    colon,
-                    start,
-                    end: start,
-                };
+                let field = &mut self.found.fields[self.found.count];
+                field.tag = tag;
+                field.place = place;
+                field.colon = colon;
+                field.start = start;
+                field.end = end;
+                field.end_line(end);
                 self.found.count += 1;
                 self.next = place + 1;
             }
@@ -196,10 +231,12 @@ impl Walk {
         }
     }
 
-    /// The content before this CR LF belongs to the field opened last.
-    fn end_field(&mut self, end: usize) {
+    /// A line that continues the field opened last, up to this CR.
+    fn line(&mut self, end: usize) {
         if let Some(last) = self.found.count.checked_sub(1) {
-            self.found.fields[last].end = end;
+            let field = &mut self.found.fields[last];
+            field.end = end;
+            field.end_line(end);
         }
     }
 
@@ -215,14 +252,13 @@ impl Walk {
         }
     }
 
-    fn finish(mut self, closing: usize) -> Result<Fields, Refusal> {
+    fn finish(self, closing: usize) -> Result<Fields, Refusal> {
         if let Some(fault) = self.fault {
             return Err(fault);
         }
         if self.places[self.next..].iter().any(|place| place.mandatory) {
             return refuse(7, closing);
         }
-        self.end_field(closing - 2);
         Ok(self.found)
     }
 }
@@ -296,17 +332,18 @@ mod tests {
     #[test]
     fn places_and_word() {
         let m = bytes(RIGHT);
+        let found = fields(202, &m).ok().expect("a right frame");
         let mut list = [7; 22];
-        assert_eq!(frame_check(202, &m, &mut list[..20]), refuse(17, 21));
+        assert_eq!(found.fill(&mut list[..20]), refuse(17, 21));
         assert_eq!(list, [7; 22]);
-        assert_eq!(frame_check(202, &m, &mut list), Ok((7, 0b1_1011_0111)));
+        assert_eq!(found.fill(&mut list), Ok((7, 0b1_1011_0111)));
         assert_eq!(list[6..12], [19, 24, 28, 30, 35, 35]);
         assert_eq!(list[18..], [53, 57, 57, 7]);
-        assert_eq!(frame_span(202, &m, 2), Some((24, 28)));
-        assert_eq!(frame_span(202, &m, 3), None);
-        assert_eq!(frame_span(202, &m, 8), Some((57, 57)));
-        assert_eq!(frame_span(202, &m, 9), None);
-        assert_eq!(frame_span(103, &m, 0), None);
+        let part = |place| found.at(place).map(|field| (field.start, field.end));
+        assert_eq!(part(2), Some((24, 28)));
+        assert_eq!(part(3), None);
+        assert_eq!(part(8), Some((57, 57)));
+        assert_eq!(part(9), None);
     }
 
     #[test]

@@ -1,6 +1,10 @@
 //! The plain build: the same calls as the archive, written from the rules alone.
 
+pub mod check;
+pub mod forms;
 pub mod frame;
+#[cfg(test)]
+mod tests;
 pub mod text;
 pub mod types;
 
