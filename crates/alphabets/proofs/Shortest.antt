@@ -1,4 +1,4 @@
--- No bank text that reads as a desk text is shorter than the one written, and of those as short unwritable has fewer characters between apostrophes, and unwritable but it as few.
+-- No bank text that reads as a desk text is shorter than the one written, and of those as short none has fewer characters between apostrophes, and none but it as few.
 -- Assumes nothing.
 use Prim.Native.Nat.{ℕ, zero, suc, _<_, _≤_}
 use mathlib.Core.Path.{_≡_, refl, sym, ap, _∙_, subst}

@@ -4,3 +4,5 @@ pub mod LineLaws
 pub mod ClauseLaws
 pub mod FoundLaws
 pub mod CodeLaws
+pub mod CastLaws
+pub mod PartLaws

@@ -4,3 +4,4 @@ pub mod Rule14
 pub mod Cases
 pub mod Sentences
 pub mod Found
+pub mod Parts

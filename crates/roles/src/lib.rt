@@ -1,5 +1,6 @@
 // Which lines of a field are copied, names or details, and what 14 says of its texts.
 mod clauses;
+pub mod parts;
 pub mod shapes;
 pub mod texts;
 
@@ -12,6 +13,17 @@ pub enum Shape {
     Details,
     Note103,
     Note202,
+}
+
+// What the lines of a field, or the parts of a record, are from one on: all copied; from the first on of a payer, a payee, an agent; from the
+// tax place on; names.
+pub enum Role {
+    Copies,
+    OfPayer,
+    OfPayee,
+    OfAgent,
+    Taxed,
+    Names,
 }
 
 // Where the first text of a content that breaks 14 begins.

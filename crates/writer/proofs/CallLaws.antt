@@ -54,6 +54,10 @@ unfolding message
 message-put kind g rs {out = out} {mid = mid} e a = adds-front opening (bodyOf kind g rs) (fills-put out mid opening 0 e) refl a
 
 -- ---- a built message: 17, and its own refusal
+pub long-verdict : (kind : ℕ) (t : List ℕ) → rule18 kind ≡ Fine → limit < length t → verdictOf kind t ≡ Broken 1 limit
+unfolding verdictOf rule1
+long-verdict kind t e h = rw (e, is-long limit t h)
+
 module _ (kind : ℕ) (m out : List ℕ) (n : ℕ) where
   pub deliver-short : length out < n → Delivers kind m n out (Refused 17 n) out
   deliver-short h = record {
@@ -64,12 +68,8 @@ module _ (kind : ℕ) (m out : List ℕ) (n : ℕ) where
   own : (t : List ℕ) → length t ≤ length out → (k p : ℕ) → verdictOf kind t ≡ Broken k p → Gives (builtRules kind t out) t out (Refused k 0) out
   own t h k p e = gives-past (not-short t out h) (gives-refused (atStart (verdictOf kind t) ∷ []) t out k 0 (ap (λ (v : Verdict). then (atStart v) Fine) e))
 
-  long-verdict : (t : List ℕ) → rule18 kind ≡ Fine → limit < length t → verdictOf kind t ≡ Broken 1 limit
-  unfolding verdictOf rule1
-  long-verdict t e h = rw (e, is-long limit t h)
-
   pub deliver-long : rule18 kind ≡ Fine → n ≤ length out → limit < n → Delivers kind m n out (Refused 1 0) out
-  deliver-long k h l = record { gives = λ t e f. own t (omega arith) 1 limit (long-verdict t k (omega arith)) }
+  deliver-long k h l = record { gives = λ t e f. own t (omega arith) 1 limit (long-verdict kind t k (omega arith)) }
 
   module _ (h : n ≤ length out) (l : n ≤ limit) where
     pub deliver-refused : (k p : ℕ) → verdictOf kind (take n m) ≡ Broken k p → Delivers kind m n out (Refused k 0) out

@@ -1,13 +1,3 @@
-pub mod SpeltLaws
-pub mod ReadyLaws
-pub mod BuiltLaws
-pub mod CastLaws
-pub mod TextLaws
-pub mod OwnLaws
-pub mod MadeLaws
-pub mod ExactLaws
-pub mod Theorems
-pub mod Examples
 pub mod StepLaws
 pub mod PartLaws
 pub mod NoteLaws

@@ -35,13 +35,14 @@ use Rattle.records.specs.Found.{pieceSize, piecesAt}
 use Rattle.records.specs.Rule19.{digits, sole, detailed, noted}
 use Rattle.records.proofs.PieceLaws.{pieces-at, past-end, end-within, piece-length}
 use Rattle.details.specs.Lines.{together, Later, none, line, Division, lines}
-use Rattle.details.specs.Breaking.{Fit, fits}
+use Rattle.details.specs.Breaking.{Fit, fits, unfit}
 use Rattle.details.specs.Layouts.{Layout, layout, divided, DivisionIn, behind, linesOf, linesFor, laidFor, sizeFor, Lays}
 use Rattle.details.specs.Layouts as layouts
 use Rattle.details.specs.declared.Place.{Place}
 use Rattle.details.specs.declared.Place.the-variants.{In70, In72, BehindRpp}
 use Rattle.details.specs.declared.Size.{Size}
 use Rattle.details.specs.declared.Size.the-variants as size
+use Rattle.details.proofs.PlaceLaws.{bytes-not}
 use Rattle.details.proofs.Theorems.{Fitted, fitted, none-unfit, laid-lines}
 use Rattle.writer.specs.Spread.{coded, castParts, code, told, rppLine, notePlace, noteLines}
 use Rattle.writer.specs.Sheet.{stoppedAt, unsaid, isUnfit, crowdedNote}
@@ -125,6 +126,9 @@ module _ (p : Place) (least : ℕ) (text : List ℕ) (n : ℕ) (e : size.Bytes n
       go : (ls : List (List ℕ)) → ls ≡ fit .ls → laid (layouts.marked (layout p) ls) ≡ joined (layouts.marked (layout p) ls) ++ 13 ∷ 10 ∷ []
       go ls q = subst (λ (ks : List (List ℕ)). laid (layouts.marked (layout p) ks) ≡ joined (layouts.marked (layout p) ks) ++ 13 ∷ 10 ∷ []) (sym q) (by (fit .division))
 
+  pub lines-few : length (laid (linesFor p least text)) ≤ 250
+  lines-few = omega (arith, laid-few, fit .long, ap length laid-whole, length-append (laidFor p least text) (13 ∷ 10 ∷ []))
+
   pub lines-put : {out mid after : List ℕ} {at r : ℕ} → Lays p least text out at r mid → after ≡ placed mid (at + n) (13 ∷ 10 ∷ [])
       → Adds Fine (isUnfit (sizeFor p least text)) (laid (linesFor p least text)) out at (Put (at + n + 2)) after
   lines-put {out} {mid} {after} {at} {r} l f =
@@ -133,6 +137,14 @@ module _ (p : Place) (least : ℕ) (text : List ℕ) (n : ℕ) (e : size.Bytes n
       adds-by refl laid-whole
       (adds-put {t = laidFor p least text ++ 13 ∷ 10 ∷ []} refl (ap isUnfit (sym e)) z
       (fills-on (laidFor p least text) (13 ∷ 10 ∷ []) (fills-put out mid (laidFor p least text) at (l .leaves)) (ap (λ (j : ℕ). at + j) k) (fills-put mid after (13 ∷ 10 ∷ []) (at + n) f)))
+
+pub unfit-lines : (p : Place) (least : ℕ) (text : List ℕ) → sizeFor p least text ≡ size.Unfit → linesFor p least text ≡ []
+unfolding sizeFor linesFor
+unfit-lines p least text e = go (divided (layout p) least text) e
+  where
+    go : (d : Fit (List (List ℕ))) → layouts.sizeOf (layout p) d ≡ size.Unfit → layouts.marked (layout p) (linesOf d) ≡ []
+    go (fits ls) e = absurd (bytes-not e)
+    go unfit e = refl
 
 pub lines-unfit : (p : Place) (least : ℕ) (text : List ℕ) {out after : List ℕ} {at : ℕ} → size.Unfit ≡ sizeFor p least text → Adds Fine (isUnfit (sizeFor p least text)) (laid (linesFor p least text)) out at Unfit after
 lines-unfit p least text e = adds-unfit refl (ap isUnfit (sym e))

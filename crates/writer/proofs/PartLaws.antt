@@ -10,7 +10,7 @@ use Rattle.base.specs.Bytes.{begins}
 use Rattle.base.specs.Rules.{then}
 use Rattle.base.specs.Calls.{Answer, said, stuck, textOf, stopped, placed}
 use Rattle.base.specs.declared.Verdict.{Verdict}
-use Rattle.base.specs.declared.Verdict.the-variants.{Fine, Broken}
+use Rattle.base.specs.declared.Verdict.the-variants.{Fine}
 use Rattle.base.proofs.RuleLaws.{fine-broken, then-fine, then-clean}
 use Rattle.alphabets.specs.Bank.{plainly}
 use Rattle.alphabets.specs.Best.{writing}
@@ -21,35 +21,19 @@ use Rattle.alphabets.proofs.Outcomes.{twice-at-most}
 use Rattle.alphabets.proofs.PartTheorems.{size-takes, size-halts, size-long}
 use Rattle.fields.specs.Field.{laid}
 use Rattle.values.specs.Values.{isTax}
-use Rattle.roles.specs.Role.{Part, copy, name, taxName, lineOf, taxed, cast}
+use Rattle.roles.specs.Role.{Part, copy, name, taxName}
+use Rattle.roles.specs.Parts.{castBy, named, nextRole}
+use Rattle.roles.specs.declared.Role.{Role}
+use Rattle.roles.specs.declared.Role.the-variants.{Copies, OfPayer, OfPayee, OfAgent, Taxed, Names}
+use Rattle.roles.proofs.PartLaws.{firstPart, cast-none, cast-cons, first-line}
 use Rattle.records.specs.Found.{pieceSize, piecesAt}
 use Rattle.records.proofs.PieceLaws.{pieces-at, past-end, end-within, piece-length}
 use Rattle.writer.specs.Spread.{saidPart, lineFor}
 use Rattle.writer.specs.Sheet.{stoppedAt, unsaid}
 use Rattle.writer.specs.declared.Step.{Step}
-use Rattle.writer.specs.declared.Step.the-variants.{Stuck, Unfit, Put}
-use Rattle.writer.specs.declared.Role.{Role}
-use Rattle.writer.specs.declared.Role.the-variants.{Copies, OfPayer, OfPayee, OfAgent, Taxed, Names}
-use Rattle.writer.specs.Steps.{castBy, named, nextRole, stopsBy, linesBy, Adds, Within, shifted}
-use Rattle.writer.proofs.StepLaws.{fills-put, adds-stuck, adds-put, adds-then, adds-none, movedBy, stopped-at, adds-moved, adds-halt, adds-by, Onward, came-stuck}
-
--- a text without a byte
-pub none-begins : (c : ℕ) (p : List ℕ) → length p ≡ 0 → false ≡ begins c p
-none-begins c [] e = refl
-none-begins c (x ∷ p) e = absurd (omega arith)
-
-pub payer-slash : (p : List ℕ) → begins 47 p ≡ true → false ≡ named OfPayer p
-payer-slash p e = sym (ap (λ (b : Bool). not b && not (isTax p)) e)
-
-pub payer-tax : (p : List ℕ) {r : Bool} → begins 47 p ≡ false → r ≡ isTax p → not r ≡ named OfPayer p
-payer-tax p e f = ap not f ∙ sym (ap (λ (b : Bool). not b && not (isTax p)) e)
-
--- with the sign, and without it
-pub sign-off : (s : Bool) (role : Role) (p : List ℕ) → s ≡ false → false ≡ (s && named role p)
-sign-off s role p e = sym (ap (λ (b : Bool). b && named role p) e)
-
-pub sign-on : (s : Bool) (role to : Role) (p : List ℕ) {r : Bool} → s ≡ true → role ≡ to → r ≡ named to p → r ≡ (s && named role p)
-sign-on s role to p e f g = g ∙ sym (ap₂ (λ (b : Bool) (x : Role). b && named x p) e f)
+use Rattle.writer.specs.declared.Step.the-variants.{Stuck, Put}
+use Rattle.writer.specs.Steps.{stopsBy, linesBy, Adds, shifted}
+use Rattle.writer.proofs.StepLaws.{fills-put, adds-stuck, adds-put, adds-then, adds-none, movedBy, stopped-at, adds-moved, adds-halt, adds-by, Onward}
 
 -- ---- one text
 module _ (s : Bool) (p out : List ℕ) (at : ℕ) where
@@ -79,57 +63,6 @@ line-put v t {out} {mid} {after} {at} {n} g a e =
     subst (λ (w : Verdict). Adds w false (t ++ 13 ∷ 10 ∷ []) out at (Put (n + 2)) after) (then-fine v) (adds-then v Fine t (13 ∷ 10 ∷ []) (subst (λ (x : Step). Adds v false t out at x mid) g a) (adds-put refl refl refl (fills-put mid after (13 ∷ 10 ∷ []) n e)))
 
 -- ---- the parts as they are cast
-abbrev firstPart : Role → List ℕ → Part
-firstPart Copies p = copy p
-firstPart OfPayer p = pick (begins 47 p) (copy p) (pick (isTax p) (copy p) (taxName p))
-firstPart OfPayee p = pick (begins 47 p) (copy p) (name p)
-firstPart OfAgent p = copy p
-firstPart Taxed p = pick (isTax p) (copy p) (taxName p)
-firstPart Names p = name p
-
-cast-none : (role : Role) → castBy role [] ≡ []
-unfolding cast
-cast-none Copies = refl
-cast-none OfPayer = refl
-cast-none OfPayee = refl
-cast-none OfAgent = refl
-cast-none Taxed = refl
-cast-none Names = refl
-
-cast-cons : (role : Role) (p : List ℕ) (ps : List (List ℕ)) → castBy role (p ∷ ps) ≡ firstPart role p ∷ castBy (nextRole role p) ps
-unfolding cast
-cast-cons Copies p ps = refl
-cast-cons OfPayer p ps = go (begins 47 p)
-  where
-    go : (b : Bool) → pick b (copy p ∷ taxed ps) (taxed (p ∷ ps)) ≡ pick b (copy p) (pick (isTax p) (copy p) (taxName p)) ∷ castBy (pick b Taxed Names) ps
-    go true = refl
-    go false = refl
-cast-cons OfPayee p ps = refl
-cast-cons OfAgent p ps = refl
-cast-cons Taxed p ps = refl
-cast-cons Names p ps = refl
-
-first-line : (role : Role) (p : List ℕ) → lineOf (firstPart role p) ≡ p
-first-line Copies p = refl
-first-line OfPayer p = go (begins 47 p) (isTax p)
-  where
-    go : (a b : Bool) → lineOf (pick a (copy p) (pick b (copy p) (taxName p))) ≡ p
-    go true b = refl
-    go false true = refl
-    go false false = refl
-first-line OfPayee p = go (begins 47 p)
-  where
-    go : (a : Bool) → lineOf (pick a (copy p) (name p)) ≡ p
-    go true = refl
-    go false = refl
-first-line OfAgent p = refl
-first-line Taxed p = go (isTax p)
-  where
-    go : (a : Bool) → lineOf (pick a (copy p) (taxName p)) ≡ p
-    go true = refl
-    go false = refl
-first-line Names p = refl
-
 copied : (s : Bool) (p : List ℕ) → writing (s && false) p ≡ plainly p
 copied true p = refl
 copied false p = refl

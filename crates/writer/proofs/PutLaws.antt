@@ -48,9 +48,10 @@ use Rattle.writer.specs.Spread.{saidPart, castParts, lineFor, told, rppL
 use Rattle.writer.specs.Sheet.{stoppedAt, unsaid, isUnfit, crowdedNote, crowded, someCrowded, rule15}
 use Rattle.writer.specs.declared.Step.{Step}
 use Rattle.writer.specs.declared.Step.the-variants.{Stuck, Unfit, Put}
-use Rattle.writer.specs.declared.Role.{Role}
-use Rattle.writer.specs.declared.Role.the-variants.{Copies, OfPayer, OfPayee, OfAgent, Taxed, Names}
-use Rattle.writer.specs.Steps.{castBy, stopsBy, linesBy, Fills, Adds, Within, shifted, recordStops, recordCrowded, recordsAt, stillFit, nextPlace}
+use Rattle.roles.specs.Parts.{castBy}
+use Rattle.roles.specs.declared.Role.{Role}
+use Rattle.roles.specs.declared.Role.the-variants.{Copies, OfPayer, OfPayee, OfAgent, Taxed, Names}
+use Rattle.writer.specs.Steps.{stopsBy, linesBy, Fills, Adds, Within, shifted, recordStops, recordCrowded, recordsAt, stillFit, nextPlace}
 use Rattle.writer.proofs.StepLaws.{Onward, adds-by, adds-same, adds-alike, adds-stuck, adds-front, adds-join, movedBy, came-stuck}
 use Rattle.writer.proofs.PartLaws.{stops-cast, lines-cast}
 

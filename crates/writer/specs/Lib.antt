@@ -1,5 +1,3 @@
 pub mod Spread
 pub mod Sheet
-pub mod Sentences
-pub mod Cases
 pub mod Steps

@@ -1,12 +1,10 @@
 -- What the functions say that put a sheet's message into room (S6, S7, N15-N17). Assumes nothing.
 use Prim.Native.Nat.{ℕ, _+_, _≤_}
 use mathlib.Core.Path.{_≡_}
-use mathlib.Core.Bool.{Bool, true, false, not, _&&_}
+use mathlib.Core.Bool.{Bool, true, false, _&&_}
 use mathlib.Core.List.{List, [], _∷_, map}
 use lib.ListN.{length, take}
 use lib.Seq.{sets}
-use Rattle.base.specs.Choice.{pick}
-use Rattle.base.specs.Bytes.{begins}
 use Rattle.base.specs.Rules.{then}
 use Rattle.base.specs.Calls.{textOf, short, Gives}
 use Rattle.base.specs.declared.Verdict.{Verdict}
@@ -15,9 +13,9 @@ use Rattle.base.specs.declared.Outcome.{Outcome}
 use Rattle.alphabets.specs.Best.{writing}
 use Rattle.fields.specs.Field.{field}
 use Rattle.fields.specs.Frame.{limit}
-use Rattle.values.specs.Values.{isTax}
-use Rattle.roles.specs.Role.{Part, copy, name, taxed, cast, shapeOf}
-use Rattle.roles.specs.declared.Shape.the-variants.{Payer, Payee, Agent}
+use Rattle.roles.specs.Role.{shapeOf}
+use Rattle.roles.specs.Parts.{named, nextRole}
+use Rattle.roles.specs.declared.Role.{Role}
 use Rattle.records.specs.Record.{Record, recordOf, front}
 use Rattle.records.specs.Found.{piecesAt}
 use Rattle.judge.specs.Message.{verdictOf}
@@ -25,36 +23,8 @@ use Rattle.writer.specs.Spread.{castParts}
 use Rattle.writer.specs.Sheet.{stoppedAt, unsaid, crowded, atStart}
 use Rattle.writer.specs.declared.Step.{Step}
 use Rattle.writer.specs.declared.Step.the-variants.{Stuck, Unfit, Put}
-use Rattle.writer.specs.declared.Role.{Role}
-use Rattle.writer.specs.declared.Role.the-variants.{Copies, OfPayer, OfPayee, OfAgent, Taxed, Names}
 
 -- ---- parts one after another
-abbrev pub castBy : Role → List (List ℕ) → List Part
-castBy Copies ps = map copy ps
-castBy OfPayer ps = cast Payer ps
-castBy OfPayee ps = cast Payee ps
-castBy OfAgent ps = cast Agent ps
-castBy Taxed ps = taxed ps
-castBy Names ps = map name ps
-
--- the first part is a name
-abbrev pub named : Role → List ℕ → Bool
-named Copies p = false
-named OfPayer p = not (begins 47 p) && not (isTax p)
-named OfPayee p = not (begins 47 p)
-named OfAgent p = false
-named Taxed p = not (isTax p)
-named Names p = true
-
--- what the parts behind it are
-abbrev pub nextRole : Role → List ℕ → Role
-nextRole Copies p = Copies
-nextRole OfPayer p = pick (begins 47 p) Taxed Names
-nextRole OfPayee p = Taxed
-nextRole OfAgent p = Names
-nextRole Taxed p = Names
-nextRole Names p = Names
-
 -- where writing parts stops, the first at o; and their lines
 unfoldable pub stopsBy : Bool → Role → ℕ → List (List ℕ) → Verdict
 stopsBy s role o [] = Fine

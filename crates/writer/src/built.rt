@@ -12,7 +12,6 @@ ghost use Rattle.records.specs.Rule19.{good, sound};
 ghost use Rattle.writer.specs.Spread.{castParts, contentLines, fieldFor, spread};
 ghost use Rattle.writer.specs.Sheet.{unsaid, crowded, rule15, someCrowded};
 ghost use Rattle.writer.specs.Steps.{Adds, Within, Fills, near, stillFit, nextPlace, recordStops, recordCrowded, recordsAt};
-use super::Role;
 use super::Step;
 use super::notes::put_details;
 use super::notes::put_note;
@@ -22,6 +21,7 @@ use base::bytes::put;
 use details::Place;
 use records::pieces::piece_end;
 use records::tags::tag_number;
+use roles::Role;
 use roles::Shape;
 use roles::shapes::shape_of;
 

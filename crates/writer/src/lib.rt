@@ -11,13 +11,3 @@ pub enum Step {
     Unfit,
     Put(usize),
 }
-
-// What the parts of a record are from one on: all copied; from the first on of a payer, a payee, an agent; from the tax place on; names.
-pub enum Role {
-    Copies,
-    OfPayer,
-    OfPayee,
-    OfAgent,
-    Taxed,
-    Names,
-}

@@ -1,79 +1,23 @@
 // The parts of a record as lines.
 ghost use mathlib.Core.Path.{_≡_};
-ghost use mathlib.Core.Bool.{_&&_, false};
+ghost use mathlib.Core.Bool.{false};
 ghost use mathlib.Core.List.{_++_, _∷_, []};
 ghost use Prim.Native.Nat.{_+_, _*_, _≤_};
 ghost use lib.ListN.{length};
-ghost use Rattle.base.specs.Bytes.{begins};
 ghost use Rattle.base.specs.Calls.{stopped, textOf};
 ghost use Rattle.alphabets.specs.Best.{writing};
 ghost use Rattle.fields.specs.Field.{laid};
 ghost use Rattle.records.specs.Found.{piecesAt};
-ghost use Rattle.writer.specs.declared.Role.the-variants.{OfPayer};
-ghost use Rattle.writer.specs.Steps.{named, nextRole, shifted, stopsBy, linesBy, Adds, Within, near};
-use super::Role;
+ghost use Rattle.writer.specs.Steps.{shifted, stopsBy, linesBy, Adds, Within, near};
 use super::Step;
 use alphabets::parts::Extent;
 use alphabets::parts::put_written;
 use alphabets::parts::written_size;
 use base::bytes::put;
 use records::pieces::piece_end;
-use values::parts::is_tax;
-
-fn is_slashed(p: &[u8]) -> bool
-    ensures { λ r. ⌜ r ≡ begins 47 (now (p .entry)) ⌝ }
-{
-    if p.len() == 0 {
-        return false;
-    }
-    p[0] == 47
-}
-
-// A payer's first part is an account, or stands in the tax place.
-fn is_payer_name(p: &[u8]) -> bool
-    ensures { λ r. ⌜ r ≡ named OfPayer (now (p .entry)) ⌝ }
-{
-    if is_slashed(p) {
-        return false;
-    }
-    !is_tax(p)
-}
-
-// Whether a part is a name that the sign makes a text of.
-fn is_spoken(sign: bool, role: Role, p: &[u8]) -> bool
-    ensures { λ r. ⌜ r ≡ (sign && named role (now (p .entry))) ⌝ }
-{
-    if !sign {
-        return false;
-    }
-    match role {
-        Role::Copies => false,
-        Role::OfPayer => is_payer_name(p),
-        Role::OfPayee => !is_slashed(p),
-        Role::OfAgent => false,
-        Role::Taxed => !is_tax(p),
-        Role::Names => true,
-    }
-}
-
-// What the parts behind this one are.
-fn next_role(role: Role, p: &[u8]) -> Role
-    ensures { λ r. ⌜ r ≡ nextRole role (now (p .entry)) ⌝ }
-{
-    match role {
-        Role::Copies => Role::Copies,
-        Role::OfPayer => {
-            if is_slashed(p) {
-                return Role::Taxed;
-            }
-            Role::Names
-        }
-        Role::OfPayee => Role::Taxed,
-        Role::OfAgent => Role::Names,
-        Role::Taxed => Role::Names,
-        Role::Names => Role::Names,
-    }
-}
+use roles::Role;
+use roles::parts::is_spoken;
+use roles::parts::next_role;
 
 // A text that stops does so from o on.
 pub(crate) fn moved(o: usize, r: Step) -> Step

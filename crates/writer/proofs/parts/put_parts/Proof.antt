@@ -16,9 +16,9 @@ use Rattle.writer.proofs.parts.put_parts.Tie as tie
 use Rattle.writer.proofs.parts.put_parts.Reads as reads
 use Rattle.writer.proofs.parts.put_parts.Lts as lts
 use Rattle.records.proofs.pieces.piece_end.Reads as piece-end-reads
-use Rattle.writer.proofs.parts.is_spoken.Reads as is-spoken-reads
+use Rattle.roles.proofs.parts.is_spoken.Reads as is-spoken-reads
 use Rattle.writer.proofs.parts.moved.Reads as moved-reads
-use Rattle.writer.proofs.parts.next_role.Reads as next-role-reads
+use Rattle.roles.proofs.parts.next_role.Reads as next-role-reads
 use Rattle.writer.proofs.parts.put_line.Reads as put-line-reads
 
 abbrev Inv-loop : tie.InvT-loop

@@ -1,0 +1,82 @@
+-- What a part is by its role, as code finds it; and parts from one on are cast as the first by its role and those behind by theirs. Assumes
+-- nothing.
+use Prim.Native.Nat.{ℕ}
+use mathlib.Core.Path.{_≡_, refl, sym, ap, ap₂, _∙_}
+use mathlib.Core.Bool.{Bool, true, false, not, _&&_}
+use mathlib.Core.List.{List, [], _∷_}
+use Rattle.base.specs.Choice.{pick}
+use Rattle.base.specs.Bytes.{begins}
+use Rattle.values.specs.Values.{isTax}
+use Rattle.roles.specs.Role.{Part, copy, name, taxName, lineOf, taxed, cast}
+use Rattle.roles.specs.Parts.{castBy, named, nextRole}
+use Rattle.roles.specs.declared.Role.{Role}
+use Rattle.roles.specs.declared.Role.the-variants.{Copies, OfPayer, OfPayee, OfAgent, Taxed, Names}
+
+pub payer-slash : (p : List ℕ) → begins 47 p ≡ true → false ≡ named OfPayer p
+payer-slash p e = sym (ap (λ (b : Bool). not b && not (isTax p)) e)
+
+pub payer-tax : (p : List ℕ) {r : Bool} → begins 47 p ≡ false → r ≡ isTax p → not r ≡ named OfPayer p
+payer-tax p e f = ap not f ∙ sym (ap (λ (b : Bool). not b && not (isTax p)) e)
+
+-- with the sign, and without it
+pub sign-off : (s : Bool) (role : Role) (p : List ℕ) → s ≡ false → false ≡ (s && named role p)
+sign-off s role p e = sym (ap (λ (b : Bool). b && named role p) e)
+
+pub sign-on : (s : Bool) (role to : Role) (p : List ℕ) {r : Bool} → s ≡ true → role ≡ to → r ≡ named to p → r ≡ (s && named role p)
+sign-on s role to p e f g = g ∙ sym (ap₂ (λ (b : Bool) (x : Role). b && named x p) e f)
+
+-- behind a payer's first part
+pub payer-next : (role : Role) (p : List ℕ) (b : Bool) → role ≡ OfPayer → b ≡ begins 47 p → pick b Taxed Names ≡ nextRole role p
+payer-next role p b e f = ap (λ (c : Bool). pick c Taxed Names) f ∙ sym (ap (λ (x : Role). nextRole x p) e)
+
+-- ---- the parts as they are cast
+abbrev pub firstPart : Role → List ℕ → Part
+firstPart Copies p = copy p
+firstPart OfPayer p = pick (begins 47 p) (copy p) (pick (isTax p) (copy p) (taxName p))
+firstPart OfPayee p = pick (begins 47 p) (copy p) (name p)
+firstPart OfAgent p = copy p
+firstPart Taxed p = pick (isTax p) (copy p) (taxName p)
+firstPart Names p = name p
+
+pub cast-none : (role : Role) → castBy role [] ≡ []
+unfolding cast
+cast-none Copies = refl
+cast-none OfPayer = refl
+cast-none OfPayee = refl
+cast-none OfAgent = refl
+cast-none Taxed = refl
+cast-none Names = refl
+
+pub cast-cons : (role : Role) (p : List ℕ) (ps : List (List ℕ)) → castBy role (p ∷ ps) ≡ firstPart role p ∷ castBy (nextRole role p) ps
+unfolding cast
+cast-cons Copies p ps = refl
+cast-cons OfPayer p ps = go (begins 47 p)
+  where
+    go : (b : Bool) → pick b (copy p ∷ taxed ps) (taxed (p ∷ ps)) ≡ pick b (copy p) (pick (isTax p) (copy p) (taxName p)) ∷ castBy (pick b Taxed Names) ps
+    go true = refl
+    go false = refl
+cast-cons OfPayee p ps = refl
+cast-cons OfAgent p ps = refl
+cast-cons Taxed p ps = refl
+cast-cons Names p ps = refl
+
+pub first-line : (role : Role) (p : List ℕ) → lineOf (firstPart role p) ≡ p
+first-line Copies p = refl
+first-line OfPayer p = go (begins 47 p) (isTax p)
+  where
+    go : (a b : Bool) → lineOf (pick a (copy p) (pick b (copy p) (taxName p))) ≡ p
+    go true b = refl
+    go false true = refl
+    go false false = refl
+first-line OfPayee p = go (begins 47 p)
+  where
+    go : (a : Bool) → lineOf (pick a (copy p) (name p)) ≡ p
+    go true = refl
+    go false = refl
+first-line OfAgent p = refl
+first-line Taxed p = go (isTax p)
+  where
+    go : (a : Bool) → lineOf (pick a (copy p) (taxName p)) ≡ p
+    go true = refl
+    go false = refl
+first-line Names p = refl

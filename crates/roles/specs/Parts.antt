@@ -1,0 +1,39 @@
+-- The parts of a field or a record from one on: what the first is by its role, and the role of those behind (Ctax, Cname, S6, S7). Assumes
+-- nothing.
+use Prim.Native.Nat.{ℕ}
+use mathlib.Core.Bool.{Bool, true, false, not, _&&_}
+use mathlib.Core.List.{List, map}
+use Rattle.base.specs.Choice.{pick}
+use Rattle.base.specs.Bytes.{begins}
+use Rattle.values.specs.Values.{isTax}
+use Rattle.roles.specs.Role.{Part, copy, name, taxed, cast}
+use Rattle.roles.specs.declared.Shape.the-variants.{Payer, Payee, Agent}
+use Rattle.roles.specs.declared.Role.{Role}
+use Rattle.roles.specs.declared.Role.the-variants.{Copies, OfPayer, OfPayee, OfAgent, Taxed, Names}
+
+-- parts from one on, cast
+abbrev pub castBy : Role → List (List ℕ) → List Part
+castBy Copies ps = map copy ps
+castBy OfPayer ps = cast Payer ps
+castBy OfPayee ps = cast Payee ps
+castBy OfAgent ps = cast Agent ps
+castBy Taxed ps = taxed ps
+castBy Names ps = map name ps
+
+-- the first part is a name
+abbrev pub named : Role → List ℕ → Bool
+named Copies p = false
+named OfPayer p = not (begins 47 p) && not (isTax p)
+named OfPayee p = not (begins 47 p)
+named OfAgent p = false
+named Taxed p = not (isTax p)
+named Names p = true
+
+-- what the parts behind it are
+abbrev pub nextRole : Role → List ℕ → Role
+nextRole Copies p = Copies
+nextRole OfPayer p = pick (begins 47 p) Taxed Names
+nextRole OfPayee p = Taxed
+nextRole OfAgent p = Names
+nextRole Taxed p = Names
+nextRole Names p = Names

@@ -1,0 +1,54 @@
+// What a part is by its role, and what the parts behind it are.
+ghost use mathlib.Core.Path.{_≡_};
+ghost use mathlib.Core.Bool.{_&&_};
+ghost use Rattle.roles.specs.declared.Role.the-variants.{OfPayer};
+ghost use Rattle.roles.specs.Parts.{named, nextRole};
+use super::Role;
+use super::clauses::starts;
+use values::parts::is_tax;
+
+// A payer's first part is an account, or stands in the tax place.
+fn is_payer_name(p: &[u8]) -> bool
+    ensures { λ r. ⌜ r ≡ named OfPayer (now (p .entry)) ⌝ }
+{
+    if starts(47, p) {
+        return false;
+    }
+    !is_tax(p)
+}
+
+// Whether a part is a name that the sign makes a text of.
+pub fn is_spoken(sign: bool, role: Role, p: &[u8]) -> bool
+    ensures { λ r. ⌜ r ≡ (sign && named role (now (p .entry))) ⌝ }
+{
+    if !sign {
+        return false;
+    }
+    match role {
+        Role::Copies => false,
+        Role::OfPayer => is_payer_name(p),
+        Role::OfPayee => !starts(47, p),
+        Role::OfAgent => false,
+        Role::Taxed => !is_tax(p),
+        Role::Names => true,
+    }
+}
+
+// What the parts behind this one are.
+pub fn next_role(role: Role, p: &[u8]) -> Role
+    ensures { λ r. ⌜ r ≡ nextRole role (now (p .entry)) ⌝ }
+{
+    match role {
+        Role::Copies => Role::Copies,
+        Role::OfPayer => {
+            if starts(47, p) {
+                return Role::Taxed;
+            }
+            Role::Names
+        }
+        Role::OfPayee => Role::Taxed,
+        Role::OfAgent => Role::Names,
+        Role::Taxed => Role::Names,
+        Role::Names => Role::Names,
+    }
+}

@@ -1,0 +1,176 @@
+-- The message built for a sheet that 19, 15 and 16 let pass: 2, 3 and 4 let it pass, its fields are the fields made of the records, and its sign
+-- is the sheet's (F1-F6, S8, T1, D2d). Assumes nothing.
+use Prim.Native.Nat.{ℕ}
+use mathlib.Core.Path.{_≡_, refl, sym, ap, _∙_}
+use mathlib.Core.Bool.{Bool, true, false, _||_}
+use mathlib.Core.List.{List, [], _∷_, map, tail}
+use lib.Dec.{eqb}
+use Rattle.base.specs.Choice.{pick, all}
+use Rattle.base.specs.Bytes.{begins, same, isIn, digit, capital, letter, marks, shared, xset}
+use Rattle.base.specs.Quoted.{bytes}
+use Rattle.base.specs.declared.Verdict.the-variants.{Fine}
+use Rattle.base.proofs.Bools.{left, right, both, isnt, all-append}
+use Rattle.base.proofs.ByteLaws.{same-is}
+use Rattle.base.proofs.RuleLaws.{Clean}
+use Rattle.fields.specs.Field.{Field, field, linesOf, fields}
+use Rattle.fields.specs.Frame.{rule2, rule3, rule4}
+use Rattle.fields.specs.Shapes.{shaped, proper}
+use Rattle.fields.proofs.FieldLaws.{fields-message}
+use Rattle.fields.proofs.WrittenLaws.{rule2-message, rule3-message, rule4-message, proper-lineable}
+use Rattle.fields.proofs.TagLaws.{Shape as TagShape, plain, lettered, shape-of}
+use Rattle.types.specs.Sign.{firstLine, signOf}
+use Rattle.roles.specs.Role.{shapeOf, shape103, shape202, copy, cast}
+use Rattle.roles.specs.declared.Shape.{Shape}
+use Rattle.roles.specs.declared.Shape.the-variants.{Plain}
+use Rattle.records.specs.Record.{Record, records}
+use Rattle.records.specs.Rule19.{good, sheetType, sheetSign}
+use Rattle.records.specs.Sentences.{Sound}
+use Rattle.records.proofs.RuleLaws.{fine-sound, sound-right}
+use Rattle.records.proofs.SoundLaws.{sound-each, sound-sign}
+use Rattle.writer.specs.Spread.{lineFor, contentLines, fieldFor, spread}
+use Rattle.writer.specs.Sheet.{crowded, fieldsOf, messageFor, sheetRules}
+use Rattle.written.proofs.ReadyLaws.{speaking, roomy, rule15-fine, rule16-fine, Ready, fair-proper, ready-fair}
+
+-- ---- a tag's bytes are of the set
+digit-set : (x : ℕ) → digit x ≡ true → xset x ≡ true
+unfolding xset shared
+digit-set x e = go (letter x)
+  where
+    go : (a : Bool) → (a || ((digit x || isIn x marks) || eqb x 39)) ≡ true
+    go true = refl
+    go false = ap (λ (b : Bool). (b || isIn x marks) || eqb x 39) e
+
+capital-set : (x : ℕ) → capital x ≡ true → xset x ≡ true
+unfolding xset letter
+capital-set x e = rw e
+
+tag-set : (t : List ℕ) → shaped t ≡ true → all xset t ≡ true
+tag-set t e = go (shape-of t e)
+  where
+    go : TagShape t → all xset t ≡ true
+    go (plain a b q d f) = rw q (both (digit-set a d) (both (digit-set b f) refl))
+    go (lettered a b c q d f k) = rw q (both (digit-set a d) (both (digit-set b f) (both (capital-set c k) refl)))
+
+colon-set : xset 58 ≡ true
+unfolding xset letter capital shared digit isIn marks
+colon-set = refl
+
+-- ---- records that 19, 15 and 16 let pass
+abbrev pub passes : ℕ → Bool → Record → Type 0
+passes kind s (field t ps) = (shaped t ≡ true) × Ready s (shapeOf kind t) ps
+
+abbrev pub AllPass : ℕ → Bool → List Record → Type 0
+AllPass kind s [] = Unit {0}
+AllPass kind s (r ∷ rs) = passes kind s r × AllPass kind s rs
+
+module _ (kind : ℕ) (s : Bool) where
+  one-passes : (r : Record) → good kind s r ≡ true → speaking kind s r ≡ true → roomy kind s r ≡ true → passes kind s r
+  one-passes (field t ps) g a u =
+      (left (shaped t) _ g, record { is-right = sound-right s (shapeOf kind t) ps (right (shaped t) _ g); says = a; fits = isnt (crowded s (shapeOf kind t) ps) u })
+
+  pub all-pass : (rs : List Record) → all (good kind s) rs ≡ true → all (speaking kind s) rs ≡ true → all (roomy kind s) rs ≡ true → AllPass kind s rs
+  all-pass [] g a u = tt
+  all-pass (r ∷ rs) g a u = (
+    one-passes r (left (good kind s r) _ g) (left (speaking kind s r) _ a) (left (roomy kind s r) _ u),
+    all-pass rs (right (good kind s r) _ g) (right (speaking kind s r) _ a) (right (roomy kind s r) _ u),
+  )
+
+  -- ---- the fields are proper, and their lines of the set
+  all-proper : (rs : List Record) → AllPass kind s rs → all proper (map (fieldFor kind s) rs) ≡ true
+  all-proper [] w = refl
+  all-proper (field t ps ∷ rs) w =
+      both (fair-proper t (contentLines s (shapeOf kind t) ps) (w .0 .0) (ready-fair s (shapeOf kind t) ps (w .0 .1))) (all-proper rs (w .1))
+
+  field-set : (t : List ℕ) (ls : List (List ℕ)) → shaped t ≡ true → all (all xset) ls ≡ true → (fs : List Field) → all (all xset) (linesOf fs) ≡ true
+      → all (all xset) (linesOf (field t ls ∷ fs)) ≡ true
+  field-set t [] e h fs k = k
+  field-set t (l ∷ ls) e h fs k =
+      both (both colon-set (all-append xset t (58 ∷ l) (tag-set t e) (both colon-set (left (all xset l) _ h)))) (all-append (all xset) ls (linesOf fs) (right (all xset l) _ h) k)
+
+  all-set : (rs : List Record) → AllPass kind s rs → all (all xset) (linesOf (map (fieldFor kind s) rs)) ≡ true
+  all-set [] w = refl
+  all-set (field t ps ∷ rs) w =
+      field-set t (contentLines s (shapeOf kind t) ps) (w .0 .0) (ready-fair s (shapeOf kind t) ps (w .0 .1) .inside) (map (fieldFor kind s) rs) (all-set rs (w .1))
+
+  -- ---- the sign: field 20 is copied
+  copied : (ps : List (List ℕ)) → map (lineFor s) (map copy ps) ≡ ps
+  copied [] = refl
+  copied (p ∷ ps) = ap (λ (k : List (List ℕ)). p ∷ k) (copied ps)
+
+  pub plain-lines : (ps : List (List ℕ)) → contentLines s Plain ps ≡ ps
+  unfolding contentLines cast
+  plain-lines ps = copied ps
+
+  pub shape-20 : shapeOf kind (bytes "20") ≡ Plain
+  unfolding shapeOf shape103 shape202 same
+  shape-20 = go (eqb kind 103) (eqb kind 202)
+    where
+      go : (a b : Bool) → pick a Plain (pick b Plain Plain) ≡ Plain
+      go true b = refl
+      go false true = refl
+      go false false = refl
+
+  lines-20 : (t : List ℕ) (ps : List (List ℕ)) → same t (bytes "20") ≡ true → contentLines s (shapeOf kind t) ps ≡ ps
+  lines-20 t ps e = ap (λ (u : List ℕ). contentLines s (shapeOf kind u) ps) (same-is t (bytes "20") e) ∙ ap (λ (sh : Shape). contentLines s sh ps) shape-20 ∙ plain-lines ps
+
+  pub sign-spread : (rs : List Record) → signOf (map (fieldFor kind s) rs) ≡ signOf rs
+  unfolding signOf
+  sign-spread [] = refl
+  sign-spread (field t ps ∷ rs) = go (same t (bytes "20")) refl (sign-spread rs)
+    where
+      go : (b : Bool) → same t (bytes "20") ≡ b → signOf (map (fieldFor kind s) rs) ≡ signOf rs
+          → pick b (begins 43 (firstLine (contentLines s (shapeOf kind t) ps))) (signOf (map (fieldFor kind s) rs)) ≡ pick b (begins 43 (firstLine ps)) (signOf rs)
+      go true h e = ap (λ (k : List (List ℕ)). begins 43 (firstLine k)) (lines-20 t ps h)
+      go false h e = e
+
+-- ---- a sheet that no rule before 17 refuses
+module _ (s : List ℕ) (c : Clean (sheetRules s)) where
+  is-sound : Sound s
+  is-sound = fine-sound s (c .1 .0)
+
+  behind-is : tail (records s) ≡ is-sound .behind
+  behind-is = ap tail (is-sound .list)
+
+  spoken-all : all (speaking (sheetType s) (sheetSign s)) (tail (records s)) ≡ true
+  spoken-all = go (records s) (rule15-fine (sheetSign s) (sheetType s) 0 (records s) .0 (c .1 .1 .1 .0))
+    where
+      go : (rs : List Record) → all (speaking (sheetType s) (sheetSign s)) rs ≡ true → all (speaking (sheetType s) (sheetSign s)) (tail rs) ≡ true
+      go [] e = refl
+      go (r ∷ rs) e = right (speaking (sheetType s) (sheetSign s) r) _ e
+
+  -- each record behind the first is right, can be written and fits
+  pub records-pass : AllPass (sheetType s) (sheetSign s) (tail (records s))
+  records-pass =
+      all-pass (sheetType s) (sheetSign s) (tail (records s)) (ap (all (good (sheetType s) (sheetSign s))) behind-is ∙ sound-each s is-sound) spoken-all
+      (rule16-fine (sheetType s) (sheetSign s) (tail (records s)) .0 (c .1 .1 .1 .1 .0))
+
+  pub fields-proper : all proper (fieldsOf s) ≡ true
+  unfolding fieldsOf spread
+  fields-proper = all-proper (sheetType s) (sheetSign s) (tail (records s)) records-pass
+
+  pub fields-set : all (all xset) (linesOf (fieldsOf s)) ≡ true
+  unfolding fieldsOf spread
+  fields-set = all-set (sheetType s) (sheetSign s) (tail (records s)) records-pass
+
+  -- 2, 3 and 4 let the message pass
+  pub built-rule2 : rule2 (messageFor s) ≡ Fine
+  unfolding messageFor
+  built-rule2 = rule2-message (fieldsOf s)
+
+  pub built-rule3 : rule3 (messageFor s) ≡ Fine
+  unfolding messageFor
+  built-rule3 = rule3-message (fieldsOf s) fields-set
+
+  pub built-rule4 : rule4 (messageFor s) ≡ Fine
+  unfolding messageFor
+  built-rule4 = rule4-message (fieldsOf s) fields-set fields-proper
+
+  -- its fields are just the fields of the records, in order
+  pub built-fields : fields (messageFor s) ≡ fieldsOf s
+  unfolding messageFor
+  built-fields = fields-message (fieldsOf s) (proper-lineable (fieldsOf s) fields-set fields-proper)
+
+  -- its sign is the sheet's
+  pub built-sign : signOf (fieldsOf s) ≡ sheetSign s
+  unfolding fieldsOf spread
+  built-sign = sign-spread (sheetType s) (sheetSign s) (tail (records s)) ∙ ap signOf behind-is ∙ sym (sound-sign s is-sound)

@@ -1,0 +1,137 @@
+-- The lines written for a record are cast as its parts are, so that a name stays a name; and details are told over their lines (S6, S7, T7,
+-- T12, Cdetails, C72). Assumes nothing.
+use Prim.Native.Nat.{ℕ, _+_}
+use mathlib.Core.Path.{_≡_, refl, sym, ap, ap₂, _∙_}
+use mathlib.Core.Bool.{Bool, true, false, false≢true}
+use mathlib.Core.List.{List, [], _∷_, _++_, map}
+use native.Mathlib.Omega.{arith}
+use lib.Dec.{eqb}
+use lib.ListN.{length, drop, length-append}
+use lib.Seq.{drop-append-seam, drop-append-le}
+use borrow.Author.Tests.{eqb-true}
+use Rattle.base.specs.Choice.{all}
+use Rattle.base.specs.Quoted.{bytes}
+use Rattle.base.specs.Calls.{textOf}
+use Rattle.base.proofs.Bools.{left, right, isnt}
+use Rattle.alphabets.specs.Best.{writing}
+use Rattle.values.specs.Values.{isTax}
+use Rattle.roles.specs.Role.{Part, copy, name, taxName, cast}
+use Rattle.roles.specs.Speech as speech
+use Rattle.roles.specs.Speech.{speech, told, toldAt, codeSize}
+use Rattle.roles.specs.declared.Shape.{Shape}
+use Rattle.roles.proofs.CastLaws as roles
+use Rattle.roles.proofs.CastLaws.{Lines, cast-turned}
+use Rattle.records.specs.Rule19.{digits}
+use Rattle.records.specs.Sentences.{Right}
+use Rattle.records.proofs.SoundLaws.{calm, cast-calm}
+use Rattle.details.specs.Lines.{together}
+use Rattle.details.specs.Layouts.{layout, linesFor}
+use Rattle.details.specs.declared.Place.{Place}
+use Rattle.details.specs.declared.Place.the-variants.{In70, In72, BehindRpp}
+use Rattle.writer.specs.Spread.{lineFor, code}
+use Rattle.written.proofs.SpeltLaws.{said-is, plain-same, slash, spelt-head, spelt-tax}
+use Rattle.written.proofs.ReadyLaws.{speaks, Laid}
+
+-- ---- names
+-- what is written for a name, and what a part is written as
+abbrev pub spelt : Bool → List ℕ → List ℕ
+spelt s p = textOf (writing s p)
+
+abbrev pub turned : Bool → Part → Part
+turned s = roles.turned (spelt s)
+
+-- a name keeps what decides on its part: a / in front, and that it is no tax line
+abbrev pub Steady : Bool → Part → Type 0
+Steady s = roles.Steady (spelt s)
+
+abbrev pub AllSteady : Bool → List Part → Type 0
+AllSteady s = roles.AllSteady (spelt s)
+
+-- a name in the tax place is no tax line
+abbrev pub untaxed : Part → Bool
+untaxed = roles.untaxed
+
+pub cast-untaxed : (sh : Shape) (ps : List (List ℕ)) → all untaxed (cast sh ps) ≡ true
+cast-untaxed = roles.cast-untaxed
+
+no-tax : (s : Bool) (p : List ℕ) → speaks s (taxName p) ≡ true → isTax p ≡ false → (s ≡ true → calm (taxName p) ≡ true) → isTax (textOf (writing s p)) ≡ false
+no-tax true p e t n = spelt-tax p (textOf (writing true p)) (said-is (writing true p) e) (isnt _ (n refl))
+no-tax false p e t n = ap isTax (plain-same p (textOf (writing false p)) (said-is (writing false p) e)) ∙ t
+
+module _ (s : Bool) where
+  steady-one : (x : Part) → speaks s x ≡ true → untaxed x ≡ true → (s ≡ true → calm x ≡ true) → Steady s x
+  steady-one (copy p) e t n = tt
+  steady-one (name p) e t n = spelt-head s 47 p (textOf (writing s p)) slash (said-is (writing s p) e)
+  steady-one (taxName p) e t n = (spelt-head s 47 p (textOf (writing s p)) slash (said-is (writing s p) e), no-tax s p e (isnt (isTax p) t) n)
+
+  all-steady : (xs : List Part) → all (speaks s) xs ≡ true → all untaxed xs ≡ true → (s ≡ true → all calm xs ≡ true) → AllSteady s xs
+  all-steady [] e t n = tt
+  all-steady (x ∷ xs) e t n = (
+    steady-one x (left (speaks s x) _ e) (left (untaxed x) _ t) (λ q. left (calm x) _ (n q)),
+    all-steady xs (right (speaks s x) _ e) (right (untaxed x) _ t) (λ q. right (calm x) _ (n q)),
+  )
+
+  -- ---- cast again
+  spelt-lines : Lines (spelt s) (lineFor s)
+  spelt-lines = record { copied = λ p. refl; named = λ p. refl; tax-placed = λ p. refl }
+
+calm-if : (s : Bool) (sh : Shape) (ps : List (List ℕ)) → Right s sh ps → s ≡ true → all calm (cast sh ps) ≡ true
+calm-if true sh ps r q = cast-calm sh ps r
+calm-if false sh ps r q = absurd (false≢true q)
+
+-- the lines of a right record are cast as its parts
+pub cast-again : (s : Bool) (sh : Shape) (ps : List (List ℕ)) → Right s sh ps → all (speaks s) (cast sh ps) ≡ true
+    → cast sh (map (lineFor s) (cast sh ps)) ≡ map (turned s) (cast sh ps)
+cast-again s sh ps r e = cast-turned (spelt s) (lineFor s) (spelt-lines s) sh ps (all-steady s (cast sh ps) e (cast-untaxed sh ps) (calm-if s sh ps r))
+
+-- ---- details
+pub code-size : (s : Bool) (vo : List ℕ) → digits 5 vo ≡ true → length (code s vo) ≡ codeSize s
+unfolding digits
+code-size true vo d =
+    let n : length vo ≡ 5 = eqb-true (length vo) 5 (left (eqb (length vo) 5) _ d) in
+    omega (arith, length-append vo (bytes ")'"))
+code-size false vo d =
+    let n : length vo ≡ 5 = eqb-true (length vo) 5 (left (eqb (length vo) 5) _ d) in
+    omega (arith, length-append vo (bytes ")"))
+
+pub behind-code : (s : Bool) (vo w : List ℕ) → digits 5 vo ≡ true → drop (codeSize s) (code s vo ++ w) ≡ w
+behind-code s vo w d = ap (λ (n : ℕ). drop n (code s vo ++ w)) (sym (code-size s vo d)) ∙ drop-append-seam (code s vo) w
+
+pub unmarked : (m : List ℕ) (ls : List (List ℕ)) → speech.behind (length m) (map (λ (k : List ℕ). m ++ k) ls) ≡ together ls
+unfolding speech.behind
+unmarked m [] = refl
+unmarked m (l ∷ ls) = ap₂ (λ (a b : List ℕ). a ++ b) (drop-append-seam m l) (unmarked m ls)
+
+-- the bytes before a text's first: the mark and the code
+abbrev pub frontOf : Place → Bool → ℕ
+frontOf In70 s = codeSize s
+frontOf In72 s = 5 + codeSize s
+frontOf BehindRpp s = 5 + codeSize s
+
+abbrev pub nextOf : Place → ℕ
+nextOf In70 = 0
+nextOf In72 = 2
+nextOf BehindRpp = 2
+
+front-dropped : (p : Place) (s : Bool) (l : List ℕ) → drop (frontOf p s) (layout p .mark ++ l) ≡ drop (codeSize s) l
+front-dropped In70 s l = refl
+front-dropped In72 true l = refl
+front-dropped In72 false l = refl
+front-dropped BehindRpp true l = refl
+front-dropped BehindRpp false l = refl
+
+next-dropped : (p : Place) (ls : List (List ℕ)) → speech.behind (nextOf p) (map (λ (k : List ℕ). layout p .next ++ k) ls) ≡ together ls
+next-dropped In70 ls = unmarked (layout In70 .next) ls
+next-dropped In72 ls = unmarked (layout In72 .next) ls
+next-dropped BehindRpp ls = unmarked (layout BehindRpp .next) ls
+
+-- over the lines, behind the marks and the code, stands the text
+pub told-again : (p : Place) (s : Bool) (vo w : List ℕ) (o : ℕ) → digits 5 vo ≡ true → Laid p (codeSize s) (code s vo ++ w)
+    → (at : ℕ) × (speech.details (frontOf p s) (nextOf p) o (linesFor p (codeSize s) (code s vo ++ w)) ≡ speech told at w ∷ [])
+unfolding speech.details
+told-again p s vo w o d h =
+    let l : List ℕ = layout p .mark ++ h .front in
+    let text : drop (frontOf p s) l ++ speech.behind (nextOf p) (map (λ (k : List ℕ). layout p .next ++ k) (h .behind)) ≡ w =
+    ap₂ (λ (a b : List ℕ). a ++ b) (front-dropped p s (h .front)) (next-dropped p (h .behind))
+    ∙ sym (drop-append-le (codeSize s) (h .front) (together (h .behind)) (h .code)) ∙ ap (drop (codeSize s)) (h .joins) ∙ behind-code s vo w d in
+    (toldAt (frontOf p s) (nextOf p) o l, ap (speech.details (frontOf p s) (nextOf p) o) (h .is) ∙ ap (λ (b : List ℕ). speech told (toldAt (frontOf p s) (nextOf p) o l) b ∷ []) text)

@@ -1,0 +1,11 @@
+pub mod SpeltLaws
+pub mod ReadyLaws
+pub mod BuiltLaws
+pub mod CastLaws
+pub mod TextLaws
+pub mod OwnLaws
+pub mod MadeLaws
+pub mod ExactLaws
+pub mod Theorems
+pub mod SizeLaws
+pub mod Examples

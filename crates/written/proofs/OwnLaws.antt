@@ -1,0 +1,120 @@
+-- The built message's own refusal can only be 1 or 5 to 13, and it has place 0 (O2, N1, N5-N13). Assumes nothing.
+use Prim.Native.Nat.{ℕ, _≤_}
+use mathlib.Core.Path.{_≡_, refl, sym, ap, _∙_}
+use mathlib.Core.Bool.{Bool, true, false}
+use mathlib.Core.List.{List, [], _∷_}
+use mathlib.Core.Logic.{inl, inr}
+use native.Mathlib.Omega.{arith}
+use lib.Dec.{ltb}
+use lib.ListN.{length}
+use Rattle.base.specs.Choice.{pick}
+use Rattle.base.specs.Rules.{first}
+use Rattle.base.specs.Calls.{long}
+use Rattle.base.specs.declared.Verdict.{Verdict}
+use Rattle.base.specs.declared.Verdict.the-variants.{Fine, Broken}
+use Rattle.base.proofs.RuleLaws.{fine-broken, Clean}
+use Rattle.fields.specs.Field.{fields}
+use Rattle.fields.specs.Frame.{limit, rule1}
+use Rattle.fields.specs.Places.{startOf}
+use Rattle.types.specs.Form.{Place, placesOf}
+use Rattle.types.specs.Sign.{signOf}
+use Rattle.types.specs.Walk.{walked}
+use Rattle.types.proofs.WalkLaws.{Judged, unknown, notLater, skipping, right, Refused, atField, atEnd, walked-refused}
+use Rattle.forms.specs.Contents.{rightField, rule8}
+use Rattle.forms.proofs.FieldRules.{own-number}
+use Rattle.values.proofs.RuleLaws.{broken9, broken10, broken11, broken12, broken13}
+use Rattle.roles.specs.Rule14.{rule14}
+use Rattle.judge.specs.Message.{messageRules, verdictOf}
+use Rattle.records.specs.Rule19.{sheetType}
+use Rattle.written.specs.Sentences.{Own}
+use Rattle.writer.specs.Sheet.{messageFor, sheetRules, atStart, ownRule}
+use Rattle.written.proofs.BuiltLaws.{built-rule2, built-rule3, built-rule4, built-fields}
+use Rattle.written.proofs.TextLaws.{built-rule14}
+
+infixr 4 _also_
+abbrev _also_ : {A B : Type 0} → A → B → A × B
+a also b = (a, b)
+
+-- ---- rules in order: what is given has a number that one of them gives
+abbrev Gives : (ℕ → Type 0) → Verdict → Type 0
+Gives P v = (n p : ℕ) → v ≡ Broken n p → P n
+
+abbrev AllGive : (ℕ → Type 0) → List Verdict → Type 0
+AllGive P [] = Unit {0}
+AllGive P (v ∷ vs) = Gives P v × AllGive P vs
+
+first-gives : (P : ℕ → Type 0) (vs : List Verdict) → AllGive P vs → Gives P (first vs)
+first-gives P [] h n p e = absurd (fine-broken n p e)
+first-gives P (Fine ∷ vs) h n p e = first-gives P vs (h .1) n p e
+first-gives P (Broken m q ∷ vs) h n p e = h .0 n p e
+
+none-given : {v : Verdict} → v ≡ Fine → Gives Own v
+none-given f n p e = absurd (fine-broken n p (sym f ∙ e))
+
+-- ---- rule by rule
+from-5 : {n : ℕ} (k : ℕ) → n ≡ k → 5 ≤ k → k ≤ 13 → Own n
+from-5 k e a b = inr (omega arith, omega arith)
+
+gives-1 : (m : List ℕ) → Gives Own (rule1 m)
+unfolding rule1 long
+gives-1 m n p e = inl (go (ltb limit (length m)) e)
+  where
+    go : (b : Bool) → pick b (Broken 1 limit) Fine ≡ Broken n p → n ≡ 1
+    go true e = cc
+    go false e = absurd (fine-broken n p e)
+
+faulty : {ps : List Place} {next : ℕ} {t : List ℕ} {n : ℕ} → Judged ps next t n → (n ≡ 0 → ⊥) → Own n
+faulty (unknown h) z = inr (omega arith, omega arith)
+faulty (notLater q h l) z = inr (omega arith, omega arith)
+faulty (skipping q h l k) z = inr (omega arith, omega arith)
+faulty (right q h l k) z = absurd (z refl)
+
+gives-5-7 : (kind : ℕ) (m : List ℕ) → Gives Own (walked kind m)
+gives-5-7 kind m n p e = go (walked-refused kind m n p .0 e)
+  where
+    go : Refused (placesOf kind) 0 5 (fields m) n p → Own n
+    go (atField r) = faulty (r .fault) (r .faulty)
+    go (atEnd r) = from-5 7 (r .number) (omega arith) (omega arith)
+
+gives-8 : (kind : ℕ) (m : List ℕ) → Gives Own (rule8 kind m)
+unfolding rule8
+gives-8 kind m n p e = from-5 8 (own-number 8 (rightField kind (signOf (fields m))) startOf 5 (fields m) n p e) (omega arith) (omega arith)
+
+-- ---- a sheet that no rule before 17 refuses
+module _ (s : List ℕ) (c : Clean (sheetRules s)) where
+  rule14-fine : rule14 (sheetType s) (fields (messageFor s)) ≡ Fine
+  rule14-fine = ap (rule14 (sheetType s)) (built-fields s c) ∙ built-rule14 s c
+
+  all-give : AllGive Own (messageRules (sheetType s) (messageFor s))
+  all-give =
+      none-given (c .1 .1 .0) also gives-1 (messageFor s) also none-given (built-rule2 s c) also none-given (built-rule3 s c) also none-given (built-rule4 s c)
+      also gives-5-7 (sheetType s) (messageFor s) also gives-8 (sheetType s) (messageFor s)
+      also (λ n p e. from-5 9 (broken9 (fields (messageFor s)) n p .0 e .0) (omega arith) (omega arith))
+      also (λ n p e. from-5 10 (broken10 (fields (messageFor s)) n p .0 e .0) (omega arith) (omega arith))
+      also (λ n p e. from-5 11 (broken11 (fields (messageFor s)) n p .0 e .0) (omega arith) (omega arith))
+      also (λ n p e. from-5 12 (broken12 (fields (messageFor s)) n p .0 e .0) (omega arith) (omega arith))
+      also (λ n p e. from-5 13 (broken13 (fields (messageFor s)) n p .0 e .0) (omega arith) (omega arith))
+      also none-given rule14-fine also tt
+
+  pub own-numbers : (n p : ℕ) → verdictOf (sheetType s) (messageFor s) ≡ Broken n p → Own n
+  unfolding verdictOf
+  own-numbers n p e = first-gives Own (messageRules (sheetType s) (messageFor s)) all-give n p e
+
+  -- with place 0
+  pub own-refusal : (n p : ℕ) → ownRule s ≡ Broken n p → Own n × (p ≡ 0)
+  own-refusal n p e = go (verdictOf (sheetType s) (messageFor s)) refl e
+    where
+      go : (v : Verdict) → verdictOf (sheetType s) (messageFor s) ≡ v → atStart v ≡ Broken n p → Own n × (p ≡ 0)
+      go Fine f e = absurd (fine-broken n p e)
+      go (Broken m q) f e =
+          let a : m ≡ n = cc in
+          let b : p ≡ 0 = cc in
+          (own-numbers n q (f ∙ ap (λ (k : ℕ). Broken k q) a), b)
+
+  -- the message is refused exactly if the sheet is, once there is room
+  pub own-fine : ownRule s ≡ Fine → verdictOf (sheetType s) (messageFor s) ≡ Fine
+  own-fine e = go (verdictOf (sheetType s) (messageFor s)) refl e
+    where
+      go : (v : Verdict) → verdictOf (sheetType s) (messageFor s) ≡ v → atStart v ≡ Fine → verdictOf (sheetType s) (messageFor s) ≡ Fine
+      go Fine f e = f
+      go (Broken m q) f e = absurd (fine-broken m 0 (sym e))

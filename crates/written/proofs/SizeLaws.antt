@@ -1,0 +1,215 @@
+-- How long the message built for a sheet can be; and that every refusal of `to_message` has a number up to 19 and a place that fits 32 bits
+-- (N1, N15, N17, N19, K4). Assumes nothing.
+use Prim.Native.Nat.{ℕ, _+_, _*_, _≤_, _<_}
+use mathlib.Core.Path.{_≡_, refl, sym, ap, _∙_}
+use mathlib.Core.Bool.{Bool, true, false}
+use mathlib.Core.List.{List, [], _∷_, _++_, map, tail}
+use mathlib.Core.Logic.{inl, inr}
+use native.Mathlib.Omega.{arith}
+use native.Mathlib.Decide.{decLt}
+use lib.ListN.{length, length-append}
+use Rattle.base.specs.Choice.{pick}
+use Rattle.base.specs.Bytes.{empty}
+use Rattle.base.specs.Rules.{then, first}
+use Rattle.base.specs.Calls.{Answer, said, stuck, textOf}
+use Rattle.base.specs.declared.Verdict.{Verdict}
+use Rattle.base.specs.declared.Verdict.the-variants.{Broken}
+use Rattle.base.specs.declared.Outcome.the-variants.{Done, Refused}
+use Rattle.base.proofs.CallLaws.{refused, is-long, within-limit}
+use Rattle.alphabets.specs.Best.{writing}
+use Rattle.alphabets.proofs.Outcomes.{twice-at-most}
+use Rattle.fields.specs.Field.{field, closing, laid, lined, linesOf, message}
+use Rattle.fields.specs.Frame.{limit}
+use Rattle.fields.specs.Places as lines
+use Rattle.fields.proofs.FieldLaws.{laid-size}
+use Rattle.fields.proofs.PlaceLaws.{size-append}
+use Rattle.roles.specs.Role.{Part, copy, name, taxName, lineOf, cast, shapeOf}
+use Rattle.roles.specs.Speech.{codeSize}
+use Rattle.roles.specs.declared.Shape.{Shape}
+use Rattle.roles.specs.declared.Shape.the-variants.{Plain, Payer, Payee, Agent, Details, Note103, Note202}
+use Rattle.roles.proofs.BreachLaws.{same-lines}
+use Rattle.records.specs.Record.{Record, tabbed, line, sheet, records, rest}
+use Rattle.records.specs.Places.{sizeOf}
+use Rattle.records.specs.Rule19.{sheetType, sheetSign}
+use Rattle.records.specs.Sentences.{BadAt, unbegun, untyped, wrong, unended}
+use Rattle.records.proofs.SheetLaws.{sheet-rest}
+use Rattle.records.proofs.PlaceLaws.{size-sheet, widthOf, size-tabbed}
+use Rattle.details.specs.Layouts.{linesFor, sizeFor}
+use Rattle.details.specs.declared.Place.{Place}
+use Rattle.details.specs.declared.Place.the-variants.{In70, In72, BehindRpp}
+use Rattle.details.specs.declared.Size.{Size}
+use Rattle.details.specs.declared.Size.the-variants.{Bytes, Unfit}
+use Rattle.writer.specs.Spread.{coded, castParts, lineFor, told, rppLine, noteLines, contentLines, fieldFor, spread}
+use Rattle.writer.specs.Sheet.{fieldsOf, messageFor, writeRules, MessageTo}
+use Rattle.written.specs.Sentences as why
+use Rattle.written.specs.Sentences.{partsSize, StuckPart, StuckAt, Own, Reason}
+use Rattle.writer.proofs.NoteLaws.{lines-few, unfit-lines}
+use Rattle.written.proofs.Theorems.{refused-why, written}
+
+-- ---- the lines of parts: no text is written longer than four times its length
+text-size : (s : Bool) (d : List ℕ) → length (textOf (writing s d)) ≤ 4 * length d
+text-size s d = go (writing s d) refl
+  where
+    go : (a : Answer) → writing s d ≡ a → length (textOf a) ≤ 4 * length d
+    go (said t) e = twice-at-most (length d) s d t e (omega arith)
+    go (stuck k) e = omega arith
+
+line-size : (s : Bool) (x : Part) → length (lineFor s x) ≤ 4 * length (lineOf x)
+line-size s (copy p) = omega arith
+line-size s (name p) = text-size s p
+line-size s (taxName p) = text-size s p
+
+parts-size : (s : Bool) (xs : List Part) → lines.sizeOf (map (lineFor s) xs) ≤ 7 * widthOf (map lineOf xs)
+parts-size s [] = omega arith
+parts-size s (x ∷ xs) = omega (arith, line-size s x, parts-size s xs)
+
+cast-size : (s : Bool) (sh : Shape) (ps : List (List ℕ)) → lines.sizeOf (map (lineFor s) (cast sh ps)) ≤ 7 * widthOf ps + 250
+cast-size s sh ps = omega (arith, parts-size s (cast sh ps), ap widthOf (same-lines sh ps))
+
+-- ---- details and notes
+details-size : (p : Place) (least : ℕ) (text : List ℕ) → lines.sizeOf (linesFor p least text) ≤ 250
+details-size p least text = go (sizeFor p least text) refl
+  where
+    go : (z : Size) → sizeFor p least text ≡ z → lines.sizeOf (linesFor p least text) ≤ 250
+    go (Bytes n) e = omega (arith, lines-few p least text n (sym e), laid-size (linesFor p least text))
+    go Unfit e = omega (arith, ap lines.sizeOf (unfit-lines p least text e))
+
+rpps-size : (ps : List (List ℕ)) → lines.sizeOf (map rppLine ps) ≤ 7 * widthOf ps
+rpps-size [] = omega arith
+rpps-size (p ∷ ps) = omega (arith, rpps-size ps)
+
+note-size : (s : Bool) (ps : List (List ℕ)) → lines.sizeOf (noteLines s ps) ≤ 7 * widthOf ps + 250
+note-size s [] = omega arith
+note-size s (r ∷ ps) = go (empty r)
+  where
+    go : (b : Bool) → lines.sizeOf (pick b [] (rppLine r ∷ []) ++ linesFor (pick b In72 BehindRpp) (codeSize s) (told s ps)) ≤ 7 * widthOf (r ∷ ps) + 250
+    go true = omega (arith, details-size In72 (codeSize s) (told s ps))
+    go false = omega (arith, details-size BehindRpp (codeSize s) (told s ps))
+
+content-size : (s : Bool) (sh : Shape) (ps : List (List ℕ)) → lines.sizeOf (contentLines s sh ps) ≤ 7 * widthOf ps + 250
+unfolding contentLines
+content-size s Details ps = omega (arith, details-size In70 (codeSize s) (told s ps))
+content-size s Note103 ps = omega (arith, rpps-size ps)
+content-size s Note202 ps = note-size s ps
+content-size s Plain ps = cast-size s Plain ps
+content-size s Payer ps = cast-size s Payer ps
+content-size s Payee ps = cast-size s Payee ps
+content-size s Agent ps = cast-size s Agent ps
+
+-- ---- records
+lined-size : (t : List ℕ) (ls : List (List ℕ)) → lines.sizeOf (lined (field t ls)) ≤ length t + 2 + lines.sizeOf ls
+lined-size t [] = omega arith
+lined-size t (l ∷ ls) = omega (arith, length-append t (58 ∷ l))
+
+line-long : (t : List ℕ) (ps : List (List ℕ)) → length (line (field t ps)) ≡ length t + widthOf ps
+line-long t ps = omega (arith, length-append t (tabbed ps), size-tabbed ps)
+
+record-size : (kind : ℕ) (s : Bool) (r : Record) → lines.sizeOf (lined (fieldFor kind s r)) ≤ 300 * (length (line r) + 1)
+record-size kind s (field t ps) =
+    omega (arith, lined-size t (contentLines s (shapeOf kind t) ps), content-size s (shapeOf kind t) ps, line-long t ps)
+
+records-size : (kind : ℕ) (s : Bool) (rs : List Record) → lines.sizeOf (linesOf (map (fieldFor kind s) rs)) ≤ 300 * sizeOf rs
+records-size kind s [] = omega arith
+records-size kind s (r ∷ rs) =
+    omega (arith, record-size kind s r, records-size kind s rs, size-append (lined (fieldFor kind s r)) (linesOf (map (fieldFor kind s) rs)))
+
+-- the records take no more than the sheet
+records-within : (s : List ℕ) → sizeOf (records s) ≤ length s
+records-within s = omega (arith, size-sheet (records s), ap length (sheet-rest s), length-append (sheet (records s)) (rest s))
+
+tail-within : (rs : List Record) → sizeOf (tail rs) ≤ sizeOf rs
+tail-within [] = omega arith
+tail-within (r ∷ rs) = omega arith
+
+-- ---- the message: 300 bytes at most for each of the sheet's, and its frame
+pub message-within : (s : List ℕ) → length (messageFor s) ≤ 300 * length s + 7
+unfolding messageFor fieldsOf spread message
+message-within s =
+    let rs : List Record = tail (records s) in
+    let ls : List (List ℕ) = linesOf (map (fieldFor (sheetType s) (sheetSign s)) rs) in
+    omega (arith, records-size (sheetType s) (sheetSign s) rs, tail-within (records s), records-within s, laid-size ls, length-append (laid ls) closing)
+
+-- so the place of 17 is small
+pub message-small : (s : List ℕ) → length s ≤ limit → length (messageFor s) ≤ 3000007
+message-small s h = omega (arith, message-within s)
+
+-- ---- the places of 15 and 19 are in the sheet
+sum-on : {A : Type 0} (size : List A → ℕ) (one : A → ℕ) → size [] ≡ 0 → ((x : A) (xs : List A) → size (x ∷ xs) ≡ one x + size xs) → (before xs : List A) → size (before ++ xs) ≡ size before + size xs
+sum-on size one e f [] xs = omega arith
+sum-on size one e f (x ∷ before) xs = omega (arith, f x before, f x (before ++ xs), sum-on size one e f before xs)
+
+size-on : (before rs : List Record) → sizeOf (before ++ rs) ≡ sizeOf before + sizeOf rs
+size-on = sum-on sizeOf (λ r. length (line r) + 1) refl (λ r rs. refl)
+
+parts-on : (before xs : List Part) → partsSize (before ++ xs) ≡ partsSize before + partsSize xs
+parts-on = sum-on partsSize (λ x. length (lineOf x) + 1) refl (λ x xs. refl)
+
+cast-width : (sh : Shape) (ps : List (List ℕ)) → partsSize (cast sh ps) ≡ widthOf ps
+cast-width sh ps = go (cast sh ps) ∙ ap widthOf (same-lines sh ps)
+  where
+    go : (xs : List Part) → partsSize xs ≡ widthOf (map lineOf xs)
+    go [] = refl
+    go (x ∷ xs) = omega (arith, go xs)
+
+-- details are cast as an agent's parts are: the first copied, the rest names
+coded-width : (ps : List (List ℕ)) → partsSize (coded ps) ≡ widthOf ps
+unfolding cast
+coded-width [] = refl
+coded-width (v ∷ ts) = cast-width Agent (v ∷ ts)
+
+width : (sh : Shape) (ps : List (List ℕ)) → partsSize (castParts sh ps) ≡ widthOf ps
+width Details ps = coded-width ps
+width Note202 [] = refl
+width Note202 (r ∷ ps) = omega (arith, coded-width ps)
+width Note103 ps = cast-width Note103 ps
+width Plain ps = cast-width Plain ps
+width Payer ps = cast-width Payer ps
+width Payee ps = cast-width Payee ps
+width Agent ps = cast-width Agent ps
+
+part-within : {s : Bool} {o : ℕ} {xs : List Part} {p : ℕ} → StuckPart s o xs p → p < o + partsSize xs
+part-within w = omega (arith, w .place, w .first .within, ap partsSize (w .list), parts-on (w .before) (w .this ∷ w .behind))
+
+stuck-within : {kind : ℕ} {s : Bool} {rs : List Record} {p : ℕ} → StuckAt kind s 0 rs p → p < sizeOf rs
+stuck-within {kind} {s} {rs} w =
+    omega (arith, part-within (w .stuck), width (shapeOf kind (w .tag)) (w .parts), line-long (w .tag) (w .parts), ap sizeOf (w .list), size-on (w .before) (field (w .tag) (w .parts) ∷ w .behind))
+
+bad-within : {s : List ℕ} {p : ℕ} → BadAt s p → p ≤ sizeOf (records s)
+bad-within (unbegun e z) = omega arith
+bad-within (untyped m rs e t z) = omega arith
+bad-within (wrong m before r behind e t g b z) = omega (arith, ap sizeOf e, size-on before (r ∷ behind))
+bad-within (unended m rs e t g w z) = omega (arith, ap sizeOf e)
+
+-- ---- a refusal's number and place
+own-most : {n : ℕ} → Own n → n ≤ 19
+own-most (inl e) = omega arith
+own-most (inr h) = omega (arith, h .1)
+
+reason-small : {s out : List ℕ} {p n : ℕ} → length s ≤ limit → Reason s out p n → (n ≤ 19) × (p ≤ 3000007)
+reason-small {s} h (why.over a z) = (omega arith, omega arith)
+reason-small {s} h (why.against b) = (omega arith, omega (arith, bad-within b, records-within s))
+reason-small {s} h (why.typeless a z) = (omega arith, omega arith)
+reason-small {s} h (why.unsaid w) = (omega arith, omega (arith, stuck-within w, records-within s))
+reason-small {s} h (why.crowded a z) = (omega arith, omega arith)
+reason-small {s} h (why.short a z) = (omega arith, omega (arith, message-small s h))
+reason-small {s} h (why.own q w f z) = (own-most w, omega arith)
+
+module _ (s out after : List ℕ) where
+  long-small : (n p : ℕ) → limit < length s → first (writeRules s out) ≡ Broken n p → (n ≤ 19) × (p ≤ 3000007)
+  long-small n p h e =
+      let f : Broken 1 limit ≡ Broken n p = sym (ap (λ (v : Verdict). then v (first (tail (writeRules s out)))) (is-long limit s h)) ∙ e in
+      let a : 1 ≡ n = cc in
+      let b : limit ≡ p = cc in
+      (omega arith, omega arith)
+
+  pub refused-small : (n p : ℕ) → MessageTo s out (Refused n p) after → (n ≤ 19) × (p ≤ 3000007)
+  unfolding MessageTo
+  refused-small n p g = go (decLt limit (length s))
+    where
+      go : Dec (limit < length s) → (n ≤ 19) × (p ≤ 3000007)
+      go (yes h) = long-small n p h (refused (writeRules s out) (messageFor s) out n p after g .0)
+      go (no h) = reason-small (omega arith) (refused-why s out (Refused n p) after g n p refl .0)
+
+  -- and so is the number of bytes written
+  pub written-small : (n : ℕ) → MessageTo s out (Done n) after → n ≤ 3000007
+  written-small n g = let w = written s out (Done n) after g n refl in omega (arith, w .count, message-small s (within-limit limit s (w .clean .0)))

@@ -1,0 +1,158 @@
+-- 14 lets the built message pass: with the sign, every text in it reads, as the part it was written for, and breaks no clause (T1, N14,
+-- N14a-N14c, D3a). Assumes nothing.
+use Prim.Native.Nat.{ℕ, _+_}
+use mathlib.Core.Path.{_≡_, refl, sym, ap, ap₂, _∙_, subst}
+use mathlib.Core.Bool.{Bool, true, false, not, _||_, false≢true}
+use mathlib.Core.List.{List, [], _∷_, _++_, map, tail}
+use lib.ListN.{length}
+use Rattle.base.specs.Choice.{pick, all}
+use Rattle.base.specs.Bytes.{empty}
+use Rattle.base.specs.Calls.{Answer, said, textOf}
+use Rattle.base.specs.declared.Verdict.the-variants.{Fine}
+use Rattle.base.proofs.Bools.{left, right, both, isnt, all-imp}
+use Rattle.base.proofs.RuleLaws.{Clean}
+use Rattle.alphabets.specs.Bank.{reading}
+use Rattle.alphabets.specs.Best.{writing}
+use Rattle.alphabets.proofs.Theorems.{reads-back}
+use Rattle.fields.specs.Field.{field}
+use Rattle.fields.specs.Places.{startOf}
+use Rattle.fields.specs.Places as fields
+use Rattle.fields.specs.Shapes.{goesOn}
+use Rattle.values.specs.Values.{isTax}
+use Rattle.roles.specs.Role.{shapeOf, Part, copy, name, taxName, lineOf, cast}
+use Rattle.roles.specs.Speech.{Manner, named, taxPlaced, told, Speech, speech, saidAt, names, noted, codeSize, speeches}
+use Rattle.roles.specs.Speech as speech
+use Rattle.roles.specs.Rule14.{mute, isInn, taxLike, clauses, breaks, spoken, rule14}
+use Rattle.roles.specs.Sentences.{Heard}
+use Rattle.roles.specs.declared.Shape.{Shape}
+use Rattle.roles.specs.declared.Shape.the-variants.{Payer, Payee, Agent}
+use Rattle.roles.proofs.BreachLaws.{same-lines, rule14-fine}
+use Rattle.records.specs.Record.{Record, records}
+use Rattle.records.specs.Rule19.{digits, sheetType, sheetSign}
+use Rattle.records.specs.Sentences.{Right, plain, agent, payer, payee, details, note103, note202}
+use Rattle.records.proofs.SoundLaws.{calm, cast-calm}
+use Rattle.details.specs.Layouts.{linesFor, sizeFor}
+use Rattle.details.specs.declared.Place.{Place}
+use Rattle.details.specs.declared.Place.the-variants.{In70, In72, BehindRpp}
+use Rattle.writer.specs.Spread.{castParts, lineFor, code, rppLine, contentLines, fieldFor, spread}
+use Rattle.writer.specs.Spread as spread
+use Rattle.writer.specs.Sheet.{isUnfit, crowded, fieldsOf, sheetRules}
+use Rattle.written.proofs.SpeltLaws.{said-is, spelt-open}
+use Rattle.written.proofs.ReadyLaws.{speaks, Laid, laid, Ready}
+use Rattle.written.proofs.CastLaws.{turned, untaxed, cast-untaxed, cast-again, frontOf, nextOf, told-again}
+use Rattle.written.proofs.BuiltLaws.{AllPass, records-pass, built-sign}
+
+-- ---- one text: it reads as its part
+back : (p : List ℕ) → speaks true (name p) ≡ true → reading true (textOf (writing true p)) ≡ said p
+back p e = reads-back true p (textOf (writing true p)) (said-is (writing true p) e)
+
+by-reading : (m : Manner) (b d : List ℕ) → reading true b ≡ said d → clauses m (empty d) b d ≡ false → breaks m b ≡ false
+unfolding breaks
+by-reading m b d r e = ap (λ (a : Answer). clauses m (mute a) b (textOf a)) r ∙ e
+
+told-heard : (p : List ℕ) → speaks true (name p) ≡ true → empty p ≡ false → breaks told (textOf (writing true p)) ≡ false
+told-heard p e n = by-reading told (textOf (writing true p)) p (back p e) n
+
+name-heard : (p : List ℕ) → speaks true (name p) ≡ true → empty p ≡ false → breaks named (textOf (writing true p)) ≡ false
+name-heard p e n =
+    by-reading named (textOf (writing true p)) p (back p e) (ap₂ _||_ n (spelt-open p (textOf (writing true p)) (said-is (writing true p) e)))
+
+tax-heard : (p : List ℕ) → speaks true (name p) ≡ true → empty p ≡ false → isTax p ≡ false → isInn p ≡ false → breaks taxPlaced (textOf (writing true p)) ≡ false
+unfolding taxLike
+tax-heard p e n t i =
+    by-reading taxPlaced (textOf (writing true p)) p (back p e)
+    (ap₂ _||_ n (ap₂ _||_ (spelt-open p (textOf (writing true p)) (said-is (writing true p) e)) (ap₂ _||_ t i)))
+
+-- ---- the names of a record
+abbrev some : List ℕ → Bool
+some p = not (empty p)
+
+part-heard : (o : ℕ) (x : Part) → speaks true x ≡ true → some (lineOf x) ≡ true → untaxed x ≡ true → calm x ≡ true → Heard (saidAt o (turned true x))
+part-heard o (copy p) e n t c = tt
+part-heard o (name p) e n t c = (name-heard p e (isnt (empty p) n), tt)
+part-heard o (taxName p) e n t c = (tax-heard p e (isnt (empty p) n) (isnt (isTax p) t) (isnt (isInn p) c), tt)
+
+heard-both : (xs ys : List Speech) → Heard xs → Heard ys → Heard (xs ++ ys)
+heard-both [] ys h k = k
+heard-both (speech m o b ∷ xs) ys h k = (h .0, heard-both xs ys (h .1) k)
+
+names-heard : (o : ℕ) (xs : List Part) → all (speaks true) xs ≡ true → all some (map lineOf xs) ≡ true → all untaxed xs ≡ true → all calm xs ≡ true → Heard (names o (map (turned true) xs))
+unfolding names
+names-heard o [] e n t c = tt
+names-heard o (x ∷ xs) e n t c =
+    heard-both (saidAt o (turned true x)) (names (o + length (lineOf (turned true x)) + 2) (map (turned true) xs))
+    (part-heard o x (left (speaks true x) _ e) (left (some (lineOf x)) _ n) (left (untaxed x) _ t) (left (calm x) _ c))
+    (names-heard (o + length (lineOf (turned true x)) + 2) xs (right (speaks true x) _ e) (right (some (lineOf x)) _ n) (right (untaxed x) _ t) (right (calm x) _ c))
+
+on-some : (ps : List (List ℕ)) → all goesOn ps ≡ true → all some ps ≡ true
+on-some ps g = all-imp goesOn some (λ p h. left (some p) _ h) ps g
+
+parts-heard : (o : ℕ) (sh : Shape) (p : List ℕ) (ps : List (List ℕ)) → Right true sh (p ∷ ps) → empty p ≡ false → all goesOn ps ≡ true → all (speaks true) (cast sh (p ∷ ps)) ≡ true
+    → Heard (names o (cast sh (map (lineFor true) (cast sh (p ∷ ps)))))
+parts-heard o sh p ps r n g e =
+    let xs : List Part = cast sh (p ∷ ps) in
+    let k : all some (map lineOf xs) ≡ true = ap (all some) (same-lines sh (p ∷ ps)) ∙ both (ap not n) (on-some ps g) in
+    subst (λ (l : List Part). Heard (names o l)) (sym (cast-again true sh (p ∷ ps) r e)) (names-heard o xs e k (cast-untaxed sh (p ∷ ps)) (cast-calm sh (p ∷ ps) r))
+
+-- ---- details
+heard-told : (q : Place) (vo p : List ℕ) (o : ℕ) → digits 5 vo ≡ true → empty p ≡ false → speaks true (name p) ≡ true → Laid q (codeSize true) (code true vo ++ textOf (writing true p))
+    → Heard (speech.details (frontOf q true) (nextOf q) o (linesFor q (codeSize true) (code true vo ++ textOf (writing true p))))
+heard-told q vo p o d n e h =
+    let w = told-again q true vo (textOf (writing true p)) o d h in
+    subst Heard (sym (w .1)) (told-heard p e n, tt)
+
+-- /NZP/ is no RPP line, /RPP/ is one
+noted-first : (o : ℕ) (least : ℕ) (text : List ℕ) → Laid In72 least text → noted true o (linesFor In72 least text) ≡ speech.details (frontOf In72 true) (nextOf In72) o (linesFor In72 least text)
+unfolding noted
+noted-first o least text h = ap (noted true o) (h .is) ∙ ap (speech.details (frontOf In72 true) (nextOf In72) o) (sym (h .is))
+
+noted-behind : (o : ℕ) (r : List ℕ) (ls : List (List ℕ)) → noted true o (rppLine r ∷ ls) ≡ speech.details (frontOf BehindRpp true) (nextOf BehindRpp) (o + length (rppLine r) + 2) ls
+unfolding noted
+noted-behind o r ls = refl
+
+note-heard : (b : Bool) (o : ℕ) (r vo p : List ℕ) → digits 5 vo ≡ true → empty p ≡ false → speaks true (name p) ≡ true
+    → isUnfit (sizeFor (pick b In72 BehindRpp) (codeSize true) (code true vo ++ textOf (writing true p))) ≡ false
+    → Heard (noted true o (pick b [] (rppLine r ∷ []) ++ linesFor (pick b In72 BehindRpp) (codeSize true) (code true vo ++ textOf (writing true p))))
+note-heard true o r vo p d n e u =
+    let text : List ℕ = code true vo ++ textOf (writing true p) in
+    let h = laid In72 (codeSize true) text u in
+    subst Heard (sym (noted-first o (codeSize true) text h)) (heard-told In72 vo p o d n e h)
+note-heard false o r vo p d n e u =
+    let text : List ℕ = code true vo ++ textOf (writing true p) in
+    let h = laid BehindRpp (codeSize true) text u in
+    subst Heard (sym (noted-behind o r (linesFor BehindRpp (codeSize true) text))) (heard-told BehindRpp vo p (o + length (rppLine r) + 2) d n e h)
+
+-- ---- a record, the records
+ready-heard : (o : ℕ) (sh : Shape) (ps : List (List ℕ)) → Ready true sh ps → Heard (speeches true sh o (contentLines true sh ps))
+unfolding speeches contentLines crowded
+ready-heard o sh ps w = go (w .is-right) (w .says) (w .fits)
+  where
+    go : {sh : Shape} {ps : List (List ℕ)} → Right true sh ps → all (speaks true) (castParts sh ps) ≡ true → crowded true sh ps ≡ false
+        → Heard (speeches true sh o (contentLines true sh ps))
+    go (plain p ps e g) a u = tt
+    go (agent p ps e g) a u = parts-heard o Agent p ps (agent p ps e g) e g a
+    go (payer p ps e g n) a u = parts-heard o Payer p ps (payer p ps e g n) e g a
+    go (payee p ps e g n) a u = parts-heard o Payee p ps (payee p ps e g n) e g a
+    go (details v t d e) a u =
+        heard-told In70 v t o d e (left (speaks true (name t)) _ (right (speaks true (copy v)) _ a)) (laid In70 (codeSize true) (spread.told true (v ∷ t ∷ [])) u)
+    go (note103 r e) a u = tt
+    go (note202 r v t d e) a u =
+        note-heard (empty r) o r v t d e (left (speaks true (name t)) _ (right (speaks true (copy v)) _ (right (speaks true (copy r)) _ a))) u
+
+records-heard : (kind o : ℕ) (rs : List Record) → AllPass kind true rs → Heard (spoken kind o (map (fieldFor kind true) rs))
+unfolding spoken
+records-heard kind o [] w = tt
+records-heard kind o (field t ps ∷ rs) w =
+    let ls : List (List ℕ) = contentLines true (shapeOf kind t) ps in
+    heard-both (speeches true (shapeOf kind t) (startOf o (field t ls)) ls) (spoken kind (fields.nextOf o (field t ls)) (map (fieldFor kind true) rs))
+    (ready-heard (startOf o (field t ls)) (shapeOf kind t) ps (w .0 .1)) (records-heard kind (fields.nextOf o (field t ls)) rs (w .1))
+
+signed-heard : (kind : ℕ) (g : Bool) (rs : List Record) → g ≡ true → AllPass kind g rs → Heard (spoken kind 5 (map (fieldFor kind g) rs))
+signed-heard kind true rs q w = records-heard kind 5 rs w
+signed-heard kind false rs q w = absurd (false≢true q)
+
+-- ---- a sheet that no rule before 17 refuses
+module _ (s : List ℕ) (c : Clean (sheetRules s)) where
+  pub built-rule14 : rule14 (sheetType s) (fieldsOf s) ≡ Fine
+  unfolding fieldsOf spread
+  built-rule14 = rule14-fine (sheetType s) (fieldsOf s) .1 (λ q. signed-heard (sheetType s) (sheetSign s) (tail (records s)) (sym (built-sign s c) ∙ q) (records-pass s c))

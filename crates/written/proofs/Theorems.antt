@@ -1,0 +1,283 @@
+-- What the contract of `to_message` says of a sheet: why one is refused and by which number, each number exactly; what is written where none is
+-- given; and that any two outcomes are equal (N1, N15-N19, O2, K6, D2d, D3). Assumes nothing.
+use Prim.Native.Nat.{ℕ, _<_, _≤_}
+use mathlib.Core.Path.{_≡_, refl, sym, ap, _∙_, subst}
+use mathlib.Core.Bool.{Bool, true, false}
+use mathlib.Core.List.{List, [], _∷_, _++_, tail}
+use mathlib.Core.Logic.{_↔_, inl, inr}
+use native.Mathlib.Omega.{arith}
+use lib.Dec.{eqb, ltb}
+use lib.ListN.{length}
+use borrow.Author.Tests.{ltb-true, eqb-false, ne-eqb}
+use Rattle.base.specs.Choice.{pick}
+use Rattle.base.specs.Bytes.{empty}
+use Rattle.base.specs.Rules.{then, first}
+use Rattle.base.specs.Calls.{long, short, outcome, over, room, Gives}
+use Rattle.base.specs.declared.Verdict.{Verdict}
+use Rattle.base.specs.declared.Verdict.the-variants.{Fine, Broken}
+use Rattle.base.specs.declared.Outcome.{Outcome}
+use Rattle.base.specs.declared.Outcome.the-variants.{Done, Refused}
+use Rattle.base.proofs.RuleLaws.{fine-broken, then-fine, Clean, first-clean, FirstOf, broken-first}
+use Rattle.base.proofs.CallLaws.{gives-one, accepted, refused, not-long, is-short, not-short, enough}
+use Rattle.fields.specs.Field.{fields}
+use Rattle.fields.specs.Frame.{limit}
+use Rattle.types.specs.Form.{Place, Form, form, placesOf, forms, form103, form202}
+use Rattle.types.specs.Walk.{rule18}
+use Rattle.judge.specs.Message.{verdictOf}
+use Rattle.records.specs.Record.{records}
+use Rattle.records.specs.Rule19.{sheetType, sheetSign, rule19}
+use Rattle.records.specs.Sentences.{BadAt}
+use Rattle.records.proofs.RuleLaws.{rule19-bad, bad-rule19}
+use Rattle.writer.specs.Sheet.{rule15, rule16, messageFor, sheetRules, atStart, ownRule, writeRules, MessageTo}
+use Rattle.written.specs.Sentences as why
+use Rattle.written.specs.Sentences.{OneByOne, Made, StuckAt, CrowdedIn, Own, NoType, Reason}
+use Rattle.written.proofs.ExactLaws.{rule15-broken, rule15-iff, rule16-broken, crowded-rule16}
+use Rattle.written.proofs.OwnLaws.{own-refusal, own-fine}
+use Rattle.written.proofs.MadeLaws.{built-made}
+
+-- any two outcomes are equal, lent units counted
+pub message-one : (s out : List ℕ) {r q : Outcome} {a b : List ℕ} → MessageTo s out r a → MessageTo s out q b → (r ≡ q) × (a ≡ b)
+unfolding MessageTo
+message-one s out g h = gives-one g h
+
+-- ---- rules in order
+same-broken : {m n p q : ℕ} → Broken m p ≡ Broken n q → (m ≡ n) × (p ≡ q)
+same-broken e = (cc, cc)
+
+passed : (us vs : List Verdict) → Clean us → first (us ++ vs) ≡ first vs
+passed [] vs c = refl
+passed (u ∷ us) vs c = ap (λ (v : Verdict). then v (first (us ++ vs))) (c .0) ∙ passed us vs (c .1)
+
+-- ---- 18: the type is neither 103 nor 202
+abbrev placesIn : Form → List Place
+placesIn (form n ps) = ps
+
+rule18-broken : (kind n p : ℕ) → rule18 kind ≡ Broken n p → (n ≡ 18) × (p ≡ 0) × NoType kind
+unfolding rule18 placesOf forms form103 form202
+rule18-broken kind n p e = go (eqb kind 103) (eqb kind 202) (placesIn form103) (placesIn form202) refl refl refl refl e
+  where
+    go : (a b : Bool) (x y : List Place) → empty x ≡ false → empty y ≡ false → eqb kind 103 ≡ a → eqb kind 202 ≡ b
+        → pick (empty (pick a x (pick b y []))) (Broken 18 0) Fine ≡ Broken n p → (n ≡ 18) × (p ≡ 0) × NoType kind
+    go true b x y h k f g e = absurd (fine-broken n p (ap (λ (q : Bool). pick q (Broken 18 0) Fine) (sym h) ∙ e))
+    go false true x y h k f g e = absurd (fine-broken n p (ap (λ (q : Bool). pick q (Broken 18 0) Fine) (sym k) ∙ e))
+    go false false x y h k f g e = (cc, cc, (eqb-false kind 103 f, eqb-false kind 202 g))
+
+-- ---- why a sheet is refused
+module _ (s out : List ℕ) where
+  long-broken : (n p : ℕ) → long limit s ≡ Broken n p → (n ≡ 1) × (p ≡ limit) × (limit < length s)
+  unfolding long
+  long-broken n p e = go (ltb limit (length s)) refl e
+    where
+      go : (b : Bool) → ltb limit (length s) ≡ b → pick b (Broken 1 limit) Fine ≡ Broken n p → (n ≡ 1) × (p ≡ limit) × (limit < length s)
+      go true h e = (cc, cc, ltb-true limit (length s) h)
+      go false h e = absurd (fine-broken n p e)
+
+  short-broken : (n p : ℕ) → short (messageFor s) out ≡ Broken n p → (n ≡ 17) × (p ≡ length (messageFor s)) × (length out < length (messageFor s))
+  unfolding short
+  short-broken n p e = go (ltb (length out) (length (messageFor s))) refl e
+    where
+      go : (b : Bool) → ltb (length out) (length (messageFor s)) ≡ b → pick b (Broken 17 (length (messageFor s))) Fine ≡ Broken n p
+          → (n ≡ 17) × (p ≡ length (messageFor s)) × (length out < length (messageFor s))
+      go true h e = (cc, cc, ltb-true (length out) (length (messageFor s)) h)
+      go false h e = absurd (fine-broken n p e)
+
+  own-broken : (n p : ℕ) → Clean (sheetRules s) → ownRule s ≡ Broken n p → Reason s out p n
+  own-broken n p c e = go (verdictOf (sheetType s) (messageFor s)) refl e
+    where
+      go : (v : Verdict) → verdictOf (sheetType s) (messageFor s) ≡ v → atStart v ≡ Broken n p → Reason s out p n
+      go Fine f e = absurd (fine-broken n p e)
+      go (Broken m q) f e =
+          let h = own-refusal s c n p (ap atStart f ∙ e) in
+          why.own q (h .0) (f ∙ ap (λ (k : ℕ). Broken k q) (same-broken e .0)) (h .1)
+
+  module _ (n p : ℕ) where
+    by-number : (k : ℕ) → n ≡ k → Reason s out p k → Reason s out p n
+    by-number k e r = subst (Reason s out p) (sym e) r
+
+    abbrev Why : Verdict → Type 0
+    Why v = v ≡ Broken n p → Reason s out p n
+
+    step : (v w : Verdict) → Why v → (v ≡ Fine → Why w) → Why (then v w)
+    step Fine w f g e = g refl e
+    step (Broken m q) w f g e = f e
+
+    why-1 : Why (long limit s)
+    why-1 e = let h = long-broken n p e in by-number 1 (h .0) (why.over (h .2) (h .1))
+
+    why-19 : Why (rule19 s)
+    why-19 e = let h = rule19-bad s n p e in by-number 19 (sym (h .0)) (why.against (h .1))
+
+    why-18 : Why (rule18 (sheetType s))
+    why-18 e = let h = rule18-broken (sheetType s) n p e in by-number 18 (h .0) (why.typeless (h .2) (h .1))
+
+    why-15 : Why (rule15 (sheetType s) (sheetSign s) 0 (records s))
+    why-15 e = let h = rule15-broken (sheetSign s) (sheetType s) 0 (records s) n p e in by-number 15 (h .0) (why.unsaid (h .1))
+
+    why-16 : Why (rule16 (sheetType s) (sheetSign s) (tail (records s)))
+    why-16 e = let h = rule16-broken (sheetSign s) (sheetType s) (tail (records s)) n p e in by-number 16 (h .0) (why.crowded (h .2) (h .1))
+
+    why-17 : Why (short (messageFor s) out)
+    why-17 e = let h = short-broken n p e in by-number 17 (h .0) (why.short (h .2) (h .1))
+
+    -- a refusal has one of the reasons
+    pub refusal-reason : Why (first (writeRules s out))
+    refusal-reason e =
+        step (long limit s) _ why-1 (λ a. step (rule19 s) _ why-19 (λ b. step (rule18 (sheetType s)) _ why-18
+        (λ c. step (rule15 (sheetType s) (sheetSign s) 0 (records s)) _ why-15 (λ d. step (rule16 (sheetType s) (sheetSign s) (tail (records s))) _ why-16
+        (λ f. step (short (messageFor s) out) _ why-17 (λ g h. own-broken n p (a, (b, (c, (d, (f, tt))))) (sym (then-fine (ownRule s)) ∙ h))))))) e
+
+-- ---- what a number tells
+module _ (s out : List ℕ) (p : ℕ) where
+  abbrev pub Tells : ℕ → Type 0
+  Tells n =
+      pick (eqb n 19) (BadAt s p)
+      (pick (eqb n 18) ((p ≡ 0) × NoType (sheetType s))
+      (pick (eqb n 15) (StuckAt (sheetType s) (sheetSign s) 0 (records s) p)
+      (pick (eqb n 16) ((p ≡ 0) × CrowdedIn (sheetType s) (sheetSign s) (tail (records s)))
+      (pick (eqb n 17) ((p ≡ length (messageFor s)) × (length out < length (messageFor s))) (Unit {0})))))
+
+  tells-own : (n : ℕ) → n ≤ 13 → Tells n
+  tells-own n h =
+      rw (ne-eqb n 19 (λ e. omega arith), ne-eqb n 18 (λ e. omega arith), ne-eqb n 15 (λ e. omega arith), ne-eqb n 16 (λ e. omega arith), ne-eqb n 17 (λ e. omega arith)) tt
+
+  at-most : {n : ℕ} → Own n → n ≤ 13
+  at-most (inl e) = omega arith
+  at-most (inr h) = h .1
+
+  tells : {n : ℕ} → Reason s out p n → Tells n
+  tells (why.over a b) = tt
+  tells (why.against h) = h
+  tells (why.typeless a b) = (b, a)
+  tells (why.unsaid h) = h
+  tells (why.crowded h a) = (a, h)
+  tells (why.short a b) = (b, a)
+  tells (why.own {n} q h f z) = tells-own n (at-most h)
+
+-- ---- and each is given exactly then, where nothing earlier stands
+no-type : (kind : ℕ) → NoType kind → rule18 kind ≡ Broken 18 0
+unfolding rule18 placesOf forms form103 form202
+no-type kind h =
+    ap (λ (a : Bool). pick (empty (pick a (placesIn form103) (pick (eqb kind 202) (placesIn form202) []))) (Broken 18 0) Fine) (ne-eqb kind 103 (h .0))
+    ∙ ap (λ (b : Bool). pick (empty (pick b (placesIn form202) [])) (Broken 18 0) Fine) (ne-eqb kind 202 (h .1))
+
+module _ (s out : List ℕ) (r : Outcome) (after : List ℕ) (g : MessageTo s out r after) where
+  -- from the rules to the outcome, and back
+  given : (n p : ℕ) → first (writeRules s out) ≡ Broken n p → r ≡ Refused n p
+  unfolding MessageTo
+  given n p e = g .answers ∙ ap (λ (v : Verdict). outcome v (length (messageFor s))) e
+
+  rule-of : (n p : ℕ) → r ≡ Refused n p → (first (writeRules s out) ≡ Broken n p) × (after ≡ out)
+  unfolding MessageTo
+  rule-of n p e = refused (writeRules s out) (messageFor s) out n p after (subst (λ (q : Outcome). Gives (writeRules s out) (messageFor s) out q after) e g)
+
+  -- a refusal has one of the reasons, and leaves the room as it was
+  pub refused-why : (n p : ℕ) → r ≡ Refused n p → Reason s out p n × (after ≡ out)
+  refused-why n p e = let h = rule-of n p e in (refusal-reason s out n p (h .0), h .1)
+
+  told : (n p : ℕ) → r ≡ Refused n p → Tells s out p n
+  told n p e = tells s out p (refused-why n p e .0)
+
+  broken-at : (n p : ℕ) → FirstOf (writeRules s out) n p → r ≡ Refused n p
+  broken-at n p f = given n p (broken-first (writeRules s out) n p f)
+
+  module _ (p : ℕ) where
+    -- 19 exactly if a rule of the sheet is broken, at the first bad record
+    pub exact-19 : length s ≤ limit → (r ≡ Refused 19 p) ↔ BadAt s p
+    exact-19 h = (
+      (λ e. told 19 p e),
+      λ b. broken-at 19 p (record {
+        before = long limit s ∷ [];
+        behind = tail (tail (writeRules s out));
+        list = ap (λ (v : Verdict). long limit s ∷ v ∷ tail (tail (writeRules s out))) (bad-rule19 s p b);
+        clean = (not-long limit s h, tt);
+      }),
+    )
+
+    pub exact-18 : Clean (long limit s ∷ rule19 s ∷ []) → (r ≡ Refused 18 p) ↔ ((p ≡ 0) × NoType (sheetType s))
+    exact-18 c = (
+      (λ e. told 18 p e),
+      λ b. broken-at 18 p (record {
+        before = long limit s ∷ rule19 s ∷ [];
+        behind = tail (tail (tail (writeRules s out)));
+        list = ap (λ (v : Verdict). long limit s ∷ rule19 s ∷ v ∷ tail (tail (tail (writeRules s out)))) (no-type (sheetType s) (b .1) ∙ ap (Broken 18) (sym (b .0)));
+        clean = c;
+      }),
+    )
+
+    -- 15 exactly if a name or details text has no bank text or a copied part leaves the x set, at the first such byte
+    pub exact-15 : Clean (long limit s ∷ rule19 s ∷ rule18 (sheetType s) ∷ []) → (r ≡ Refused 15 p) ↔ StuckAt (sheetType s) (sheetSign s) 0 (records s) p
+    exact-15 c = (
+      (λ e. told 15 p e),
+      λ b. broken-at 15 p (record {
+        before = long limit s ∷ rule19 s ∷ rule18 (sheetType s) ∷ [];
+        behind = tail (tail (tail (tail (writeRules s out))));
+        list = ap (λ (v : Verdict). long limit s ∷ rule19 s ∷ rule18 (sheetType s) ∷ v ∷ tail (tail (tail (tail (writeRules s out))))) (rule15-iff (sheetSign s) (sheetType s) 0 (records s) p .1 b);
+        clean = c;
+      }),
+    )
+
+    -- 16 exactly if some details record of the type has no division in any way
+    pub exact-16 : Clean (long limit s ∷ rule19 s ∷ rule18 (sheetType s) ∷ rule15 (sheetType s) (sheetSign s) 0 (records s) ∷ [])
+        → (r ≡ Refused 16 p) ↔ ((p ≡ 0) × CrowdedIn (sheetType s) (sheetSign s) (tail (records s)))
+    exact-16 c = (
+      (λ e. told 16 p e),
+      λ b. broken-at 16 p (record {
+        before = long limit s ∷ rule19 s ∷ rule18 (sheetType s) ∷ rule15 (sheetType s) (sheetSign s) 0 (records s) ∷ [];
+        behind = short (messageFor s) out ∷ ownRule s ∷ [];
+        list = ap (λ (v : Verdict). long limit s ∷ rule19 s ∷ rule18 (sheetType s) ∷ rule15 (sheetType s) (sheetSign s) 0 (records s) ∷ v ∷ short (messageFor s) out ∷ ownRule s ∷ [])
+            (crowded-rule16 (sheetSign s) (sheetType s) (tail (records s)) (b .1) ∙ ap (Broken 16) (sym (b .0)));
+        clean = c;
+      }),
+    )
+
+    -- 17 exactly if the room is shorter than the message, whose length is the place
+    pub exact-17 : Clean (sheetRules s) → (r ≡ Refused 17 p) ↔ ((p ≡ length (messageFor s)) × (length out < length (messageFor s)))
+    exact-17 c = (
+      (λ e. told 17 p e),
+      λ b. broken-at 17 p (record {
+        before = sheetRules s;
+        behind = ownRule s ∷ [];
+        list = ap (λ (v : Verdict). sheetRules s ++ v ∷ ownRule s ∷ []) (is-short (messageFor s) out (b .1) ∙ ap (Broken 17) (sym (b .0)));
+        clean = c;
+      }),
+    )
+
+  -- then the message's own refusal, with place 0, and nothing else; it can only be 1 or 5 to 13 (OwnLaws)
+  module _ (c : Clean (sheetRules s)) (h : length (messageFor s) ≤ length out) where
+    own-alone : first (writeRules s out) ≡ ownRule s
+    own-alone = passed (sheetRules s) (short (messageFor s) out ∷ ownRule s ∷ []) c ∙ ap (λ (v : Verdict). then v (then (ownRule s) Fine)) (not-short (messageFor s) out h) ∙ then-fine (ownRule s)
+
+    pub exact-own : (n p : ℕ) → (r ≡ Refused n p) ↔ ((q : ℕ) × (verdictOf (sheetType s) (messageFor s) ≡ Broken n q) × (p ≡ 0))
+    exact-own n p = (
+      (λ e. go (verdictOf (sheetType s) (messageFor s)) refl (sym own-alone ∙ rule-of n p e .0)),
+      (λ w. given n p (own-alone ∙ ap atStart (w .1) ∙ ap (Broken n) (sym (w .2)))),
+    )
+      where
+        go : (v : Verdict) → verdictOf (sheetType s) (messageFor s) ≡ v → atStart v ≡ Broken n p → (q : ℕ) × (verdictOf (sheetType s) (messageFor s) ≡ Broken n q) × (p ≡ 0)
+        go Fine f e = absurd (fine-broken n p e)
+        go (Broken m q) f e = let k = same-broken e in (q, f ∙ ap (λ (j : ℕ). Broken j q) (k .0), sym (k .1))
+
+    -- written exactly if the message is accepted
+    pub exact-done : verdictOf (sheetType s) (messageFor s) ≡ Fine → (r ≡ Done (length (messageFor s))) × (after ≡ over (messageFor s) out)
+    unfolding MessageTo
+    exact-done e =
+        let f : first (writeRules s out) ≡ Fine = own-alone ∙ ap atStart e in
+        (g .answers ∙ ap (λ (v : Verdict). outcome v (length (messageFor s))) f, g .leaves ∙ ap (λ (v : Verdict). room v (messageFor s) out) f)
+
+  -- ---- a sheet that is written
+  pub record Written (n : ℕ) : Type 0 where
+    pub clean : Clean (sheetRules s)
+    pub count : n ≡ length (messageFor s)
+    pub room : length (messageFor s) ≤ length out
+    pub filled : after ≡ over (messageFor s) out
+    -- the message is accepted, and has just the fields of the records
+    pub message-fine : verdictOf (sheetType s) (messageFor s) ≡ Fine
+    pub made : OneByOne (Made (sheetType s) (sheetSign s)) (tail (records s)) (fields (messageFor s))
+
+  pub written : (n : ℕ) → r ≡ Done n → Written n
+  unfolding MessageTo
+  written n e =
+      let a = accepted (writeRules s out) (messageFor s) out n after (subst (λ (q : Outcome). Gives (writeRules s out) (messageFor s) out q after) e g) in
+      let c = first-clean (writeRules s out) (a .clean) in
+      let k : Clean (sheetRules s) = (c .0, (c .1 .0, (c .1 .1 .0, (c .1 .1 .1 .0, (c .1 .1 .1 .1 .0, tt))))) in
+      record { clean = k; count = a .count; room = enough (messageFor s) out (c .1 .1 .1 .1 .1 .0); filled = a .filled; message-fine = own-fine s k (c .1 .1 .1 .1 .1 .1 .0); made = built-made s k }

@@ -1,0 +1,178 @@
+-- What is said of a sheet written as a message, in sentences: the fields made of its records, 15 and 16, and the message's own refusal (S2, S7,
+-- T9, T11, T12, B1-B5, N15, N16, O2, D3). Assumes nothing.
+use Prim.Native.Nat.{ℕ, _+_, _≤_, _<_}
+use mathlib.Core.Path.{_≡_}
+use mathlib.Core.Logic.{_⊎_}
+use mathlib.Core.Bool.{Bool, true, false}
+use mathlib.Core.List.{List, [], _∷_, _++_, tail}
+use lib.ListN.{length, take}
+use Rattle.base.specs.Choice.{all}
+use Rattle.base.specs.Bytes.{byte, empty, xset}
+use Rattle.base.specs.Calls.{said}
+use Rattle.base.specs.declared.Verdict.the-variants.{Broken}
+use Rattle.alphabets.specs.Grid.{Kind, unwritable, russian, latin, common, kind}
+use Rattle.alphabets.specs.Bank.{reading}
+use Rattle.alphabets.specs.Best.{writing}
+use Rattle.fields.specs.Field.{Field, field}
+use Rattle.fields.specs.Frame.{limit}
+use Rattle.roles.specs.Role.{shapeOf, Part, copy, name, taxName, lineOf, cast}
+use Rattle.roles.specs.Speech.{codeSize}
+use Rattle.roles.specs.declared.Shape.{Shape}
+use Rattle.roles.specs.declared.Shape.the-variants.{Plain, Payer, Payee, Agent, Details, Note103, Note202}
+use Rattle.judge.specs.Message.{verdictOf}
+use Rattle.records.specs.Record.{Record, records}
+use Rattle.records.specs.Places.{sizeOf}
+use Rattle.records.specs.Rule19.{sheetType, sheetSign}
+use Rattle.records.specs.Sentences.{BadAt}
+use Rattle.details.specs.Lines.{together, Most}
+use Rattle.details.specs.Breaking.{opens}
+use Rattle.details.specs.Layouts.{layout, DivisionIn, marked}
+use Rattle.details.specs.declared.Place.{Place}
+use Rattle.details.specs.declared.Place.the-variants.{In70, In72, BehindRpp}
+use Rattle.writer.specs.Spread.{castParts, code, told, rppLine}
+use Rattle.writer.specs.Sheet.{messageFor}
+
+-- ---- lists
+abbrev pub Every : {A : Type 0} → (A → Type 0) → List A → Type 0
+Every P [] = Unit {0}
+Every P (x ∷ xs) = P x × Every P xs
+
+-- as many on both sides, each with its own
+abbrev pub OneByOne : {A B : Type 0} → (A → B → Type 0) → List A → List B → Type 0
+OneByOne P [] [] = Unit {0}
+OneByOne P [] (y ∷ ys) = ⊥
+OneByOne P (x ∷ xs) [] = ⊥
+OneByOne P (x ∷ xs) (y ∷ ys) = P x y × OneByOne P xs ys
+
+-- ---- the fields made of records; s: with the sign
+-- the line of a part: a copied part itself; for a name the text that D3 speaks of
+abbrev pub Line : Bool → Part → List ℕ → Type 0
+Line s (copy p) l = l ≡ p
+Line s (name p) l = writing s p ≡ said l
+Line s (taxName p) l = writing s p ≡ said l
+
+-- details: their lines, the marks left out, are together the code and the text that D3 speaks of; they are a division, and each has the most
+-- that it lawfully can
+pub record Told (s : Bool) (place : Place) (vo text : List ℕ) (ls : List (List ℕ)) : Type 0 where
+  pub spelt : List ℕ
+  pub writes : writing s text ≡ said spelt
+  pub rows : List (List ℕ)
+  pub marks : ls ≡ marked (layout place) rows
+  pub joined : together rows ≡ code s vo ++ spelt
+  pub division : DivisionIn (layout place) (codeSize s) (code s vo ++ spelt) rows
+  pub fullest : Most (opens (layout place .barred)) (layout place .widths) rows
+
+pub data Content (s : Bool) : Shape → List (List ℕ) → List (List ℕ) → Type 0 where
+  plain : {ps ls : List (List ℕ)} → OneByOne (Line s) (cast Plain ps) ls → Content s Plain ps ls
+  payer : {ps ls : List (List ℕ)} → OneByOne (Line s) (cast Payer ps) ls → Content s Payer ps ls
+  payee : {ps ls : List (List ℕ)} → OneByOne (Line s) (cast Payee ps) ls → Content s Payee ps ls
+  agent : {ps ls : List (List ℕ)} → OneByOne (Line s) (cast Agent ps) ls → Content s Agent ps ls
+  details : {vo text : List ℕ} {ls : List (List ℕ)} → Told s In70 vo text ls → Content s Details (vo ∷ text ∷ []) ls
+  note103 : {r : List ℕ} → Content s Note103 (r ∷ []) (rppLine r ∷ [])
+  note202 : {vo text : List ℕ} {ls : List (List ℕ)} → Told s In72 vo text ls → Content s Note202 ([] ∷ vo ∷ text ∷ []) ls
+  behindRpp : {r vo text : List ℕ} {ls : List (List ℕ)} → empty r ≡ false → Told s BehindRpp vo text ls → Content s Note202 (r ∷ vo ∷ text ∷ []) (rppLine r ∷ ls)
+
+-- a field made of a record: the same tag, and such a content
+abbrev pub Made : ℕ → Bool → Record → Field → Type 0
+Made kind s (field t ps) (field u ls) = (u ≡ t) × Content s (shapeOf kind t) ps ls
+
+-- ---- 15
+-- a copied part is of the x set; some bank text reads as a name or a details text
+abbrev pub Writable : Bool → Part → Type 0
+Writable s (copy p) = all xset p ≡ true
+Writable s (name p) = (b : List ℕ) × (reading s b ≡ said p)
+Writable s (taxName p) = (b : List ℕ) × (reading s b ≡ said p)
+
+-- a copied part is not, no bank text of any length does
+abbrev pub Unwritable : Bool → Part → Type 0
+Unwritable s (copy p) = all xset p ≡ false
+Unwritable s (name p) = (b : List ℕ) → reading s b ≡ said p → ⊥
+Unwritable s (taxName p) = (b : List ℕ) → reading s b ≡ said p → ⊥
+
+-- a byte that can be written in a text: with the sign one of the 34, a Latin letter or a shared mark, else one of the x set
+abbrev pub hasKind : Kind → Bool
+hasKind unwritable = false
+hasKind russian = true
+hasKind latin = true
+hasKind common = true
+
+abbrev pub canSay : Bool → ℕ → Bool
+canSay true x = hasKind (kind x)
+canSay false x = xset x
+
+abbrev pub canWrite : Bool → Part → ℕ → Bool
+canWrite s (copy p) x = xset x
+canWrite s (name p) x = canSay s x
+canWrite s (taxName p) x = canSay s x
+
+-- k is the first byte that fails a test
+pub record FirstFails (ok : ℕ → Bool) (d : List ℕ) (k : ℕ) : Type 0 where
+  pub within : k < length d
+  pub fails : ok (byte d k) ≡ false
+  pub before : all ok (take k d) ≡ true
+
+-- how many bytes parts take, with the tab or LF behind each
+abbrev pub partsSize : List Part → ℕ
+partsSize [] = 0
+partsSize (x ∷ xs) = length (lineOf x) + 1 + partsSize xs
+
+-- of parts one behind another, the first at o: p is the first byte that can't be written, in the first part that can't
+pub record StuckPart (s : Bool) (o : ℕ) (xs : List Part) (p : ℕ) : Type 0 where
+  pub before : List Part
+  pub this : Part
+  pub behind : List Part
+  pub list : xs ≡ before ++ this ∷ behind
+  pub fine : Every (Writable s) before
+  pub bad : Unwritable s this
+  pub at : ℕ
+  pub first : FirstFails (canWrite s this) (lineOf this) at
+  pub place : p ≡ o + partsSize before + at
+
+abbrev pub WritableRecord : ℕ → Bool → Record → Type 0
+WritableRecord kind s (field t ps) = Every (Writable s) (castParts (shapeOf kind t) ps)
+
+-- of records one behind another, the first at o: p is that byte, in the first record that can't be written
+pub record StuckAt (kind : ℕ) (s : Bool) (o : ℕ) (rs : List Record) (p : ℕ) : Type 0 where
+  pub before : List Record
+  pub tag : List ℕ
+  pub parts : List (List ℕ)
+  pub behind : List Record
+  pub list : rs ≡ before ++ field tag parts ∷ behind
+  pub fine : Every (WritableRecord kind s) before
+  pub stuck : StuckPart s (o + sizeOf before + length tag + 1) (castParts (shapeOf kind tag) parts) p
+
+-- ---- 16
+-- the code and the text written for it can't be divided in any way
+abbrev pub Undivided : Bool → Place → List (List ℕ) → Type 0
+Undivided s place ps = (rows : List (List ℕ)) → DivisionIn (layout place) (codeSize s) (told s ps) rows → ⊥
+
+pub data NoWay (s : Bool) : Shape → List (List ℕ) → Type 0 where
+  in70 : {ps : List (List ℕ)} → Undivided s In70 ps → NoWay s Details ps
+  in72 : {ps : List (List ℕ)} → Undivided s In72 ps → NoWay s Note202 ([] ∷ ps)
+  pastRpp : {r : List ℕ} {ps : List (List ℕ)} → empty r ≡ false → Undivided s BehindRpp ps → NoWay s Note202 (r ∷ ps)
+
+pub record CrowdedIn (kind : ℕ) (s : Bool) (rs : List Record) : Type 0 where
+  pub before : List Record
+  pub tag : List ℕ
+  pub parts : List (List ℕ)
+  pub behind : List Record
+  pub list : rs ≡ before ++ field tag parts ∷ behind
+  pub no-way : NoWay s (shapeOf kind tag) parts
+
+-- ---- the built message's own refusal: 1, or 5 to 13
+abbrev pub Own : ℕ → Type 0
+Own n = (n ≡ 1) ⊎ ((5 ≤ n) × (n ≤ 13))
+
+-- ---- 18: the type is neither of the two
+abbrev pub NoType : ℕ → Type 0
+NoType kind = (kind ≡ 103 → ⊥) × (kind ≡ 202 → ⊥)
+
+-- ---- why a sheet is refused by n at p; that nothing earlier stands is in the order of the rules
+pub data Reason (s out : List ℕ) (p : ℕ) : ℕ → Type 0 where
+  over : limit < length s → p ≡ limit → Reason s out p 1
+  against : BadAt s p → Reason s out p 19
+  typeless : NoType (sheetType s) → p ≡ 0 → Reason s out p 18
+  unsaid : StuckAt (sheetType s) (sheetSign s) 0 (records s) p → Reason s out p 15
+  crowded : CrowdedIn (sheetType s) (sheetSign s) (tail (records s)) → p ≡ 0 → Reason s out p 16
+  short : length out < length (messageFor s) → p ≡ length (messageFor s) → Reason s out p 17
+  own : {n : ℕ} (q : ℕ) → Own n → verdictOf (sheetType s) (messageFor s) ≡ Broken n q → p ≡ 0 → Reason s out p n
