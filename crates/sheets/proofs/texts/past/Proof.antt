@@ -1,0 +1,36 @@
+-- `sheets::texts::past` meets its contract. Assumes nothing.
+use Rattle.sheets.proofs.StepLaws.{past-end, past-in}
+use borrow.Author.Needs.{needs}
+use Rattle.sheets.proofs.texts.past.Statement.{statement}
+use Rattle.sheets.proofs.texts.past.Tie as tie
+use Rattle.sheets.proofs.texts.past.Reads as reads
+use Rattle.sheets.proofs.texts.past.Lts as lts
+
+slice-aggregate-result : tie.Need-slice-aggregate-result
+slice-aggregate-result c = search needs
+
+returns : tie.Need-returns
+returns c = past-end (c .before .before .args .l .now) (c .before .before .args .d) (c .before .if1 .taken)
+
+sub-result : tie.Need-sub-result
+sub-result c = search needs
+
+part-result-start : tie.Need-part-result-start
+part-result-start c = search needs
+
+part-result-end : tie.Need-part-result-end
+part-result-end c = search needs
+
+returns-2 : tie.Need-returns-2
+returns-2 c = past-in (c .before .before .args .l .now) (c .before .before .args .d)
+
+pub past-spec : {M : Type 1} → statement M
+past-spec =
+    tie.close
+    (tie.spec
+    slice-aggregate-result
+    returns
+    sub-result
+    part-result-start
+    part-result-end
+    returns-2)

@@ -1,0 +1,39 @@
+-- Worked examples of messages read into sheets, as one list (section S, T4-T7, T12, O1); those that go there and back stand in trips. That they
+-- hold is proved in proofs/Examples.antt. Assumes nothing.
+use Prim.Native.Nat.{ℕ}
+use Prim.Native.String.{String}
+use mathlib.Core.Path.{_≡_}
+use mathlib.Core.List.{List, [], _∷_}
+use Rattle.base.specs.Quoted.{bytes}
+use Rattle.base.specs.Rules.{first}
+use Rattle.base.specs.declared.Verdict.the-variants.{Fine, Broken}
+use Rattle.records.specs.Cases.{desk}
+use Rattle.sheets.specs.Gather.{sheetOf}
+use Rattle.sheets.specs.Calls.{readRules}
+
+pub data Case : Type 0 where
+  -- with room just enough, the message of that type is read into this sheet
+  read : ℕ → String → String → Case
+  -- with no room at all, it is refused by this number at this place
+  refused : ℕ → String → ℕ → ℕ → Case
+
+abbrev pub Holds : Case → Type 0
+Holds (read kind m s) = (first (readRules kind (bytes m) (desk s)) ≡ Fine) × (sheetOf kind (bytes m) ≡ desk s)
+Holds (refused kind m n p) = first (readRules kind (bytes m) []) ≡ Broken n p
+
+abbrev pub AllHold : List Case → Type 0
+AllHold [] = Unit {0}
+AllHold (c ∷ cs) = Holds c × AllHold cs
+
+unfoldable pub cases : List Case
+cases =
+    -- without the sign apostrophes stay, and details are joined with nothing between
+    read 103 "{4:\r\n:20:A\r\n:23B:CRED\r\n:32A:240229RUB1,\r\n:50K:INN7707083893\r\nN'O\r\n:53B:/D/30111810500000100000\r\n:59:/1\r\nA\r\n:70:(VO10100)AB\r\nC'D\r\n:71A:OUR\r\n:72:/RPP/1.240229.5.BESP\r\n-}"
+    "MT\t103\n20\tA\n23B\tCRED\n32A\t240229RUB1,\n50K\tINN7707083893\tN'O\n53B\t/D/30111810500000100000\n59\t/1\tA\n70\t10100\tABC'D\n71A\tOUR\n72\t1.240229.5.BESP\n"
+    -- the Latin side goes on over a break; spellings that are not the shortest read too
+    ∷ read 103 "{4:\r\n:20:+A\r\n:23B:CRED\r\n:32A:240229RUB1,\r\n:50K:/1\r\nA'A'\r\n:53B:/D/30111810500000100000\r\n:59:/1\r\nPoTR\r\n:70:'(VO10100)'A'B\r\nC''\r\n'D\r\n:71A:OUR\r\n-}"
+    "MT\t103\n20\t+A\n23B\tCRED\n32A\t240229RUB1,\n50K\t/1\tАA\n53B\t/D/30111810500000100000\n59\t/1\tПЁТР\n70\t10100\tАBCД\n71A\tOUR\n"
+    -- the message's own refusal comes first
+    ∷ refused 104 "" 18 0
+    ∷ refused 103 "{4:\r\n:20:+A\r\n:23B:CRED\r\n:32A:240229RUB1,\r\n:50K:/1\r\nA'A'\r\n:53B:/D/30111810500000100000\r\n:59:/1\r\nW\r\n:70:'(VO10100)'A\r\n:71A:OUR\r\n-}" 14 95
+    ∷ []

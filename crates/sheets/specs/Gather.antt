@@ -1,0 +1,69 @@
+-- What a field becomes on a sheet: its lines read, and the record that they make (S2, T7, T12, Cdetails, C72). Assumes nothing.
+use Prim.Native.Nat.{ℕ, _+_, _/_, _%_}
+use mathlib.Core.Bool.{Bool, true, false}
+use mathlib.Core.List.{List, [], _∷_, _++_, map}
+use lib.ListN.{take, drop}
+use Rattle.base.specs.Choice.{pick}
+use Rattle.base.specs.Quoted.{bytes}
+use Rattle.base.specs.Calls.{textOf}
+use Rattle.alphabets.specs.Bank.{reading}
+use Rattle.fields.specs.Field.{Field, field, fields}
+use Rattle.types.specs.Sign.{signOf}
+use Rattle.values.specs.Values.{isRpp}
+use Rattle.roles.specs.Role.{shapeOf, Part, copy, name, taxName, cast}
+use Rattle.roles.specs.Speech.{codeSize, behind}
+use Rattle.roles.specs.declared.Shape.{Shape}
+use Rattle.roles.specs.declared.Shape.the-variants.{Plain, Payer, Payee, Agent, Details, Note103, Note202}
+use Rattle.records.specs.Record.{Record, sheet}
+
+-- ---- the parts
+-- names as desk text, other lines as they are
+abbrev pub partFor : Bool → Part → List ℕ
+partFor s (copy l) = l
+partFor s (name l) = textOf (reading s l)
+partFor s (taxName l) = textOf (reading s l)
+
+-- the digits of the VO code behind `mark` bytes: they stand behind `(VO`, with the sign behind one apostrophe more
+abbrev pub codeDigits : Bool → List ℕ → List ℕ
+codeDigits true l = take 5 (drop 4 l)
+codeDigits false l = take 5 (drop 3 l)
+
+-- VO digits and text, of lines behind `first` bytes of mark in the first and `mark` bytes in each later one
+abbrev pub toldParts : Bool → ℕ → ℕ → List (List ℕ) → List (List ℕ)
+toldParts s first mark [] = []
+toldParts s first mark (l ∷ ls) = codeDigits s (drop first l) ∷ textOf (reading s (drop (first + codeSize s) l ++ behind mark ls)) ∷ []
+
+-- 72 of a 202: what follows /RPP/ or an empty part, then VO digits and text
+abbrev pub noteParts : Bool → List (List ℕ) → List (List ℕ)
+noteParts s [] = []
+noteParts s (l ∷ ls) = pick (isRpp l) (drop 5 l ∷ toldParts s 5 2 ls) ([] ∷ toldParts s 5 2 (l ∷ ls))
+
+unfoldable pub contentParts : Bool → Shape → List (List ℕ) → List (List ℕ)
+contentParts s Details ls = toldParts s 0 0 ls
+contentParts s Note103 ls = map (drop 5) ls
+contentParts s Note202 ls = noteParts s ls
+contentParts s Plain ls = map (partFor s) (cast Plain ls)
+contentParts s Payer ls = map (partFor s) (cast Payer ls)
+contentParts s Payee ls = map (partFor s) (cast Payee ls)
+contentParts s Agent ls = map (partFor s) (cast Agent ls)
+
+-- ---- from fields to records
+abbrev pub recordFor : ℕ → Bool → Field → Record
+recordFor kind s (field t ls) = field t (contentParts s (shapeOf kind t) ls)
+
+unfoldable pub gather : ℕ → Bool → List Field → List Record
+gather kind s fs = map (recordFor kind s) fs
+
+-- the first record names the type
+abbrev pub typeDigits : ℕ → List ℕ
+typeDigits kind = (48 + kind / 100 % 10) ∷ (48 + kind / 10 % 10) ∷ (48 + kind % 10) ∷ []
+
+abbrev pub typeRecord : ℕ → Record
+typeRecord kind = field (bytes "MT") (typeDigits kind ∷ [])
+
+unfoldable pub recordsOf : ℕ → List ℕ → List Record
+recordsOf kind m = typeRecord kind ∷ gather kind (signOf (fields m)) (fields m)
+
+-- the sheet of a message
+unfoldable pub sheetOf : ℕ → List ℕ → List ℕ
+sheetOf kind m = sheet (recordsOf kind m)

@@ -1,0 +1,4 @@
+pub mod Gather
+pub mod Calls
+pub mod Cases
+pub mod Steps

@@ -1,0 +1,250 @@
+-- A sheet that is written reads back as that sheet: part by part, record by record, whole, and by the two calls (D2d, S2, T7, T12, Cdetails, C72,
+-- N17). Assumes nothing.
+use Prim.Native.Nat.{ℕ, _+_, _*_, _-_, _/_, _%_, _≤_, _<_}
+use mathlib.Core.Path.{_≡_, refl, sym, ap, ap₂, _∙_}
+use mathlib.Core.Bool.{Bool, true, false, false≢true}
+use mathlib.Core.List.{List, [], _∷_, _++_, map, tail}
+use native.Mathlib.Omega.{arith}
+use lib.Arith.{digits-mod}
+use lib.Dec.{eqb}
+use lib.ListN.{length, take, drop, length-append, length-drop}
+use lib.Seq.{take-append-le, drop-append-le, take-at}
+use borrow.Author.Tests.{eqb-true}
+use Rattle.base.specs.Choice.{all}
+use Rattle.base.specs.Bytes.{digit}
+use Rattle.base.specs.Quoted.{bytes}
+use Rattle.base.specs.Rules.{then, first}
+use Rattle.base.specs.Calls.{textOf, short, outcome, room}
+use Rattle.base.specs.declared.Verdict.{Verdict}
+use Rattle.base.specs.declared.Verdict.the-variants.{Fine}
+use Rattle.base.specs.declared.Outcome.{Outcome}
+use Rattle.base.specs.declared.Outcome.the-variants.{Done, Refused}
+use Rattle.base.proofs.Bools.{left, right}
+use Rattle.base.proofs.ByteLaws.{digit-range}
+use Rattle.base.proofs.RuleLaws.{Clean, first-last}
+use Rattle.base.proofs.CallLaws.{is-short, not-short}
+use Rattle.alphabets.specs.Bank.{reading}
+use Rattle.alphabets.specs.Best.{writing}
+use Rattle.alphabets.proofs.Theorems.{reads-back}
+use Rattle.fields.specs.Field.{Field, field, fields}
+use Rattle.types.specs.Sign.{signOf}
+use Rattle.roles.specs.Role.{shapeOf, Part, copy, name, taxName, lineOf, cast}
+use Rattle.roles.specs.Speech as speech
+use Rattle.roles.specs.Speech.{Speech, speech, codeSize}
+use Rattle.roles.specs.declared.Shape.{Shape}
+use Rattle.roles.specs.declared.Shape.the-variants.{Plain, Payer, Payee, Agent}
+use Rattle.roles.proofs.BreachLaws.{same-lines}
+use Rattle.judge.specs.Message.{messageRules, verdictOf}
+use Rattle.records.specs.Record.{Record, sheet, records}
+use Rattle.records.specs.Rule19.{digits, number, sheetType, sheetSign}
+use Rattle.records.specs.Sentences.{Right, plain, agent, payer, payee, details, note103, note202, Sound}
+use Rattle.records.proofs.RuleLaws.{fine-sound, named}
+use Rattle.records.proofs.SoundLaws.{sound-sheet, sound-type}
+use Rattle.details.specs.Lines.{together}
+use Rattle.details.specs.Layouts.{layout, linesFor, sizeFor}
+use Rattle.details.specs.declared.Place.{Place}
+use Rattle.details.specs.declared.Place.the-variants.{In70, In72, BehindRpp}
+use Rattle.writer.specs.Spread.{castParts, lineFor, code, told, notePlace, noteLines, contentLines, spread}
+use Rattle.writer.specs.Sheet.{isUnfit, crowded, fieldsOf, messageFor, sheetRules, MessageTo}
+use Rattle.written.proofs.SpeltLaws.{said-is}
+use Rattle.written.proofs.ReadyLaws.{speaks, Laid, laid, Ready}
+use Rattle.written.proofs.CastLaws.{turned, cast-again, frontOf, nextOf, told-again}
+use Rattle.written.proofs.BuiltLaws.{AllPass, records-pass, built-fields, built-sign}
+use Rattle.written.proofs.Theorems as writer
+use Rattle.sheets.specs.Gather.{partFor, codeDigits, toldParts, noteParts, contentParts, gather, typeDigits, typeRecord, recordsOf, sheetOf}
+use Rattle.sheets.specs.Calls.{readRules, SheetTo}
+
+-- ---- parts that are copied or names
+module _ (s : Bool) where
+  text-back : (p : List ℕ) → speaks s (name p) ≡ true → textOf (reading s (textOf (writing s p))) ≡ p
+  text-back p e = ap textOf (reads-back s p (textOf (writing s p)) (said-is (writing s p) e))
+
+  part-back : (x : Part) → speaks s x ≡ true → partFor s (turned s x) ≡ lineOf x
+  part-back (copy p) e = refl
+  part-back (name p) e = text-back p e
+  part-back (taxName p) e = text-back p e
+
+  parts-back : (xs : List Part) → all (speaks s) xs ≡ true → map (partFor s) (map (turned s) xs) ≡ map lineOf xs
+  parts-back [] e = refl
+  parts-back (x ∷ xs) e =
+      ap₂ (λ (l : List ℕ) (k : List (List ℕ)). l ∷ k) (part-back x (left (speaks s x) _ e)) (parts-back xs (right (speaks s x) _ e))
+
+  cast-back : (sh : Shape) (ps : List (List ℕ)) → Right s sh ps → all (speaks s) (cast sh ps) ≡ true
+      → map (partFor s) (cast sh (map (lineFor s) (cast sh ps))) ≡ ps
+  cast-back sh ps r e = ap (map (partFor s)) (cast-again s sh ps r e) ∙ parts-back (cast sh ps) e ∙ same-lines sh ps
+
+-- ---- details
+-- five bytes between, in a text and in a first line that holds them
+five-in : (n : ℕ) (l r : List ℕ) → n + 5 ≤ length l → take 5 (drop n l) ≡ take 5 (drop n (l ++ r))
+five-in n l r h =
+    let k : 5 ≤ length (drop n l) = omega (arith, length-drop n l) in
+    sym (ap (take 5) (drop-append-le n l r (omega arith)) ∙ take-append-le 5 (drop n l) r k)
+
+five-of : (vo e w : List ℕ) → digits 5 vo ≡ true → take 5 ((vo ++ e) ++ w) ≡ vo
+unfolding digits
+five-of vo e w d =
+    let n : length vo ≡ 5 = eqb-true (length vo) 5 (left (eqb (length vo) 5) _ d) in
+    take-append-le 5 (vo ++ e) w (omega (arith, length-append vo e)) ∙ take-at vo e 5 n
+
+digits-back : (s : Bool) (vo w : List ℕ) → digits 5 vo ≡ true → codeDigits s (code s vo ++ w) ≡ vo
+digits-back true vo w d = five-of vo (bytes ")'") w d
+digits-back false vo w d = five-of vo (bytes ")") w d
+
+digits-in : (s : Bool) (l r : List ℕ) → codeSize s ≤ length l → codeDigits s l ≡ codeDigits s (l ++ r)
+digits-in true l r h = five-in 4 l r (omega arith)
+digits-in false l r h = five-in 3 l r (omega arith)
+
+abbrev textIn : List Speech → List ℕ
+textIn [] = []
+textIn (speech m o t ∷ xs) = t
+
+-- the bytes of the mark before the first line
+abbrev markOf : Place → ℕ
+markOf In70 = 0
+markOf In72 = 5
+markOf BehindRpp = 5
+
+mark-dropped : (p : Place) (l : List ℕ) → drop (markOf p) (layout p .mark ++ l) ≡ l
+mark-dropped In70 l = refl
+mark-dropped In72 l = refl
+mark-dropped BehindRpp l = refl
+
+mark-and-code : (p : Place) (s : Bool) → markOf p + codeSize s ≡ frontOf p s
+mark-and-code In70 true = refl
+mark-and-code In70 false = refl
+mark-and-code In72 true = refl
+mark-and-code In72 false = refl
+mark-and-code BehindRpp true = refl
+mark-and-code BehindRpp false = refl
+
+told-back : (p : Place) (s : Bool) (vo w : List ℕ) → digits 5 vo ≡ true → Laid p (codeSize s) (code s vo ++ w)
+    → toldParts s (markOf p) (nextOf p) (linesFor p (codeSize s) (code s vo ++ w)) ≡ vo ∷ textOf (reading s w) ∷ []
+unfolding speech.details
+told-back p s vo w d h =
+    let l : List ℕ = layout p .mark ++ h .front in
+    let ls : List (List ℕ) = map (λ (k : List ℕ). layout p .next ++ k) (h .behind) in
+    let number : codeDigits s (drop (markOf p) l) ≡ vo =
+    ap (codeDigits s) (mark-dropped p (h .front)) ∙ digits-in s (h .front) (together (h .behind)) (h .code) ∙ ap (codeDigits s) (h .joins) ∙ digits-back s vo w d in
+    let text : drop (frontOf p s) l ++ speech.behind (nextOf p) ls ≡ w =
+    ap textIn (ap (speech.details (frontOf p s) (nextOf p) 0) (sym (h .is)) ∙ told-again p s vo w 0 d h .1) in
+    ap (toldParts s (markOf p) (nextOf p)) (h .is)
+    ∙ ap (λ (n : ℕ). codeDigits s (drop (markOf p) l) ∷ textOf (reading s (drop n l ++ speech.behind (nextOf p) ls)) ∷ []) (mark-and-code p s)
+    ∙ ap₂ (λ (v t : List ℕ). v ∷ textOf (reading s t) ∷ []) number text
+
+-- with the text that is written
+spelt-back : (p : Place) (s : Bool) (vo t : List ℕ) → digits 5 vo ≡ true → all (speaks s) (copy vo ∷ name t ∷ []) ≡ true
+    → isUnfit (sizeFor p (codeSize s) (told s (vo ∷ t ∷ []))) ≡ false
+    → toldParts s (markOf p) (nextOf p) (linesFor p (codeSize s) (told s (vo ∷ t ∷ []))) ≡ vo ∷ t ∷ []
+spelt-back p s vo t d a u =
+    told-back p s vo (textOf (writing s t)) d (laid p (codeSize s) (told s (vo ∷ t ∷ [])) u)
+    ∙ ap (λ (k : List ℕ). vo ∷ k ∷ []) (text-back s t (left (speaks s (name t)) _ (right (speaks s (copy vo)) _ a)))
+
+-- 72 of a 202: with and without an RPP line
+note-back : (s : Bool) (r vo t : List ℕ) → digits 5 vo ≡ true → all (speaks s) (copy vo ∷ name t ∷ []) ≡ true
+    → isUnfit (sizeFor (notePlace r) (codeSize s) (told s (vo ∷ t ∷ []))) ≡ false → noteParts s (noteLines s (r ∷ vo ∷ t ∷ [])) ≡ r ∷ vo ∷ t ∷ []
+note-back s [] vo t d a u =
+    let h : Laid In72 (codeSize s) (told s (vo ∷ t ∷ [])) = laid In72 (codeSize s) (told s (vo ∷ t ∷ [])) u in
+    ap (noteParts s) (h .is) ∙ ap (λ (k : List (List ℕ)). [] ∷ toldParts s 5 2 k) (sym (h .is)) ∙ ap (λ (k : List (List ℕ)). [] ∷ k) (spelt-back In72 s vo t d a u)
+note-back s (x ∷ r) vo t d a u = ap (λ (k : List (List ℕ)). (x ∷ r) ∷ k) (spelt-back BehindRpp s vo t d a u)
+
+-- ---- a record that 19, 15 and 16 let pass
+pub content-back : (s : Bool) (sh : Shape) (ps : List (List ℕ)) → Ready s sh ps → contentParts s sh (contentLines s sh ps) ≡ ps
+unfolding contentParts contentLines crowded
+content-back s sh ps w = go (w .is-right) (w .says) (w .fits)
+  where
+    go : {sh : Shape} {ps : List (List ℕ)} → Right s sh ps → all (speaks s) (castParts sh ps) ≡ true → crowded s sh ps ≡ false
+        → contentParts s sh (contentLines s sh ps) ≡ ps
+    go (plain p ps e g) a u = cast-back s Plain (p ∷ ps) (plain p ps e g) a
+    go (agent p ps e g) a u = cast-back s Agent (p ∷ ps) (agent p ps e g) a
+    go (payer p ps e g n) a u = cast-back s Payer (p ∷ ps) (payer p ps e g n) a
+    go (payee p ps e g n) a u = cast-back s Payee (p ∷ ps) (payee p ps e g n) a
+    go (details v t d e) a u = spelt-back In70 s v t d a u
+    go (note103 r e) a u = refl
+    go (note202 r v t d e) a u = note-back s r v t d (right (speaks s (copy r)) _ a) u
+
+-- ---- records and the first of them
+pub gather-back : (kind : ℕ) (s : Bool) (rs : List Record) → AllPass kind s rs → gather kind s (spread kind s rs) ≡ rs
+unfolding gather spread
+gather-back kind s [] w = refl
+gather-back kind s (field t ps ∷ rs) w =
+    ap₂ (λ (k : List (List ℕ)) (l : List Record). field t k ∷ l) (content-back s (shapeOf kind t) ps (w .0 .1)) (gather-back kind s rs (w .1))
+
+digits-number : (p : List ℕ) → digits 3 p ≡ true → typeDigits (number p) ≡ p
+unfolding digits
+digits-number [] d = absurd (false≢true d)
+digits-number (a ∷ []) d = absurd (false≢true d)
+digits-number (a ∷ b ∷ []) d = absurd (false≢true d)
+digits-number (a ∷ b ∷ c ∷ x ∷ p) d =
+    let n : length (a ∷ b ∷ c ∷ x ∷ p) ≡ 3 = eqb-true (length (a ∷ b ∷ c ∷ x ∷ p)) 3 (left (eqb (length (a ∷ b ∷ c ∷ x ∷ p)) 3) _ d) in
+    absurd (omega arith)
+digits-number (a ∷ b ∷ c ∷ []) d =
+    let fa = digit-range a (left (digit a) _ d) in
+    let fb = digit-range b (left (digit b) _ (right (digit a) _ d)) in
+    let fc = digit-range c (left (digit c) _ (right (digit b) _ (right (digit a) _ d))) in
+    let n : ℕ = (a - 48) * 100 + (b - 48) * 10 + (c - 48) in
+    let u : 48 + n / 100 % 10 ≡ a = omega (arith, fa .0, fa .1, fb .0, fb .1, fc .0, fc .1) in
+    let q : n / 10 ≡ (a - 48) * 10 + (b - 48) = omega (arith, fc .0, fc .1) in
+    let m : ((a - 48) * 10 + (b - 48)) % 10 ≡ b - 48 = digits-mod (a - 48) (omega (arith, fb .1)) in
+    let v : 48 + n / 10 % 10 ≡ b = ap (λ (k : ℕ). 48 + k % 10) q ∙ omega (arith, fb .0, m) in
+    let w : 48 + n % 10 ≡ c = omega (arith, fc .0, fc .1, q) in
+    ap (λ (k : ℕ). k ∷ (48 + n / 10 % 10) ∷ (48 + n % 10) ∷ []) u ∙ ap₂ (λ (k j : ℕ). a ∷ k ∷ j ∷ []) v w
+
+-- ---- a sheet that no rule before 17 refuses
+module _ (s : List ℕ) (c : Clean (sheetRules s)) where
+  is-sound : Sound s
+  is-sound = fine-sound s (c .1 .0)
+
+  type-back : typeRecord (sheetType s) ≡ is-sound .head
+  type-back =
+      let n = named (is-sound .head) (is-sound .names) in
+      ap typeRecord (sound-type s is-sound ∙ n .worth) ∙ ap (λ (p : List ℕ). field (bytes "MT") (p ∷ [])) (digits-number (n .type) (n .three)) ∙ sym (n .is)
+
+  records-back : gather (sheetType s) (signOf (fields (messageFor s))) (fields (messageFor s)) ≡ is-sound .behind
+  unfolding fieldsOf
+  records-back =
+      ap (λ (fs : List Field). gather (sheetType s) (signOf fs) fs) (built-fields s c) ∙ ap (λ (b : Bool). gather (sheetType s) b (fieldsOf s)) (built-sign s c)
+      ∙ gather-back (sheetType s) (sheetSign s) (tail (records s)) (records-pass s c) ∙ ap tail (is-sound .list)
+
+  -- the sheet of its message is the sheet
+  pub sheet-back : sheetOf (sheetType s) (messageFor s) ≡ s
+  unfolding sheetOf recordsOf
+  sheet-back = ap₂ (λ (r : Record) (rs : List Record). sheet (r ∷ rs)) type-back records-back ∙ sym (sound-sheet s is-sound)
+
+-- ---- the two calls: a sheet that is written
+module _ (s out a : List ℕ) (n : ℕ) (g : MessageTo s out (Done n) a) where
+  abbrev is-written : writer.Written s out (Done n) a g n
+  is-written = writer.written s out (Done n) a g n refl
+
+  -- what stands at the front of the room is its message, and that is accepted
+  pub written-message : take n a ≡ messageFor s
+  written-message =
+      ap (take n) (is-written .filled) ∙ take-at (messageFor s) (drop (length (messageFor s)) out) n (sym (is-written .count))
+
+  pub written-fine : verdictOf (sheetType s) (take n a) ≡ Fine
+  written-fine = ap (verdictOf (sheetType s)) written-message ∙ is-written .message-fine
+
+  pub written-sheet : sheetOf (sheetType s) (take n a) ≡ s
+  written-sheet = ap (sheetOf (sheetType s)) written-message ∙ sheet-back s (is-written .clean)
+
+  module _ (back : List ℕ) (r : Outcome) (b : List ℕ) (h : SheetTo (sheetType s) (take n a) back r b) where
+    -- 17 alone can refuse to read it
+    read-rules : first (readRules (sheetType s) (take n a) back) ≡ short s back
+    unfolding verdictOf
+    read-rules =
+        first-last (messageRules (sheetType s) (take n a)) (short (sheetOf (sheetType s) (take n a)) back)
+        ∙ ap₂ (λ (v : Verdict) (t : List ℕ). then v (short t back)) written-fine written-sheet
+
+    read-as : {v : Verdict} → short s back ≡ v → (r ≡ outcome v (length s)) × (b ≡ room v s back)
+    unfolding SheetTo
+    read-as e = (
+      h .answers ∙ ap₂ (λ (v : Verdict) (t : List ℕ). outcome v (length t)) (read-rules ∙ e) written-sheet,
+      h .leaves ∙ ap₂ (λ (v : Verdict) (t : List ℕ). room v t back) (read-rules ∙ e) written-sheet,
+    )
+
+    -- with room enough, the sheet itself is read, and the room behind it is as it was
+    pub written-reads : length s ≤ length back → (r ≡ Done (length s)) × (b ≡ s ++ drop (length s) back)
+    written-reads k = read-as (not-short s back k)
+
+    -- else 17, with the sheet's length
+    pub written-narrow : length back < length s → (r ≡ Refused 17 (length s)) × (b ≡ back)
+    written-narrow k = read-as (is-short s back k)

@@ -1,0 +1,81 @@
+-- What is known of a field of an accepted message, what its names keep when they are read and written again, and what its record on the sheet
+-- is. Assumes nothing.
+use Prim.Native.Nat.{ℕ, _+_, _≤_}
+use mathlib.Core.Path.{_≡_}
+use mathlib.Core.Bool.{Bool, true, false}
+use mathlib.Core.List.{List}
+use lib.ListN.{length}
+use Rattle.base.specs.Choice.{all}
+use Rattle.base.specs.Bytes.{begins, empty}
+use Rattle.base.specs.Calls.{said, textOf}
+use Rattle.alphabets.specs.Bank.{reading}
+use Rattle.fields.specs.Field.{Field, field, lined, laid}
+use Rattle.fields.specs.Shapes.{shaped}
+use Rattle.forms.specs.Contents.{rightField}
+use Rattle.values.specs.Values.{isTax}
+use Rattle.roles.specs.Role.{shapeOf, Part, copy, name, taxName}
+use Rattle.roles.specs.Speech.{speeches}
+use Rattle.roles.specs.Sentences.{Heard}
+use Rattle.roles.specs.declared.Shape.{Shape}
+use Rattle.roles.specs.declared.Shape.the-variants.{Plain, Payer, Payee, Agent, Details, Note103, Note202}
+use Rattle.records.specs.Record.{plainText, line}
+use Rattle.records.specs.Rule19.{sound}
+use Rattle.writer.specs.Spread.{castParts}
+use Rattle.writer.specs.Sheet.{crowded}
+use Rattle.written.proofs.ReadyLaws.{Fair, speaks}
+use Rattle.sheets.specs.Gather.{contentParts}
+use Rattle.trips.specs.Again.{again}
+
+-- ---- a field of a message that no rule refuses; s: its sign
+pub record Held (kind : ℕ) (s : Bool) (t : List ℕ) (ls : List (List ℕ)) : Type 0 where
+  pub tagged : shaped t ≡ true
+  pub fair : Fair ls
+  pub right : rightField kind s (field t ls) ≡ true
+  pub heard : s ≡ true → Heard (speeches true (shapeOf kind t) 0 ls)
+
+abbrev pub HeldField : ℕ → Bool → Field → Type 0
+HeldField kind s (field t ls) = Held kind s t ls
+
+-- ---- a name: it says something, and what is written for that keeps what decides on its part
+pub record Kept (s : Bool) (l : List ℕ) : Type 0 where
+  pub text : List ℕ
+  pub reads : reading s l ≡ said text
+  pub means : empty text ≡ false
+  pub some : empty (again s l) ≡ false
+  pub slim : length (again s l) ≤ length l
+  pub slash : begins 47 (again s l) ≡ begins 47 l
+  pub slash-read : begins 47 text ≡ begins 47 l
+
+pub record TaxKept (s : Bool) (l : List ℕ) : Type 0 where
+  pub as-name : Kept s l
+  pub untaxed : isTax l ≡ false
+  pub untaxed-read : isTax (textOf (reading s l)) ≡ false
+  pub untaxed-again : isTax (again s l) ≡ false
+
+abbrev pub KeptPart : Bool → Part → Type 0
+KeptPart s (copy l) = Unit {0}
+KeptPart s (name l) = Kept s l
+KeptPart s (taxName l) = TaxKept s l
+
+-- shapes of which each line is a part of its own, and those that hold details or an RPP line
+pub data LineByLine : Shape → Type 0 where
+  plain : LineByLine Plain
+  payer : LineByLine Payer
+  payee : LineByLine Payee
+  agent : LineByLine Agent
+
+pub data Noted : Shape → Type 0 where
+  details : Noted Details
+  note103 : Noted Note103
+  note202 : Noted Note202
+
+-- ---- its record: right by 19, written by 15, without tab and LF, no longer than the field; without the sign its details fit
+pub record Sheeted (kind : ℕ) (s : Bool) (t : List ℕ) (ls : List (List ℕ)) : Type 0 where
+  pub is-sound : sound s (shapeOf kind t) (contentParts s (shapeOf kind t) ls) ≡ true
+  pub says : all (speaks s) (castParts (shapeOf kind t) (contentParts s (shapeOf kind t) ls)) ≡ true
+  pub textual : all plainText (contentParts s (shapeOf kind t) ls) ≡ true
+  pub no-longer : length (line (field t (contentParts s (shapeOf kind t) ls))) + 1 ≤ length (laid (lined (field t ls)))
+  pub fits : s ≡ false → crowded s (shapeOf kind t) (contentParts s (shapeOf kind t) ls) ≡ false
+
+abbrev pub SheetedField : ℕ → Bool → Field → Type 0
+SheetedField kind s (field t ls) = Sheeted kind s t ls

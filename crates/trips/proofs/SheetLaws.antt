@@ -1,0 +1,322 @@
+-- The rules of writing over the sheet of a message: where each field has its record (Held), none refuses it but 16, and that only with the sign
+-- (K7, S2, S8, S10, N1, N15, N16, N18, N19). Assumes nothing.
+use Prim.Native.Nat.{ℕ, _+_, _≤_}
+use mathlib.Core.Path.{_≡_, refl, sym, ap, ap₂, subst, _∙_}
+use mathlib.Core.Bool.{Bool, true, false, not, true≢false}
+use mathlib.Core.List.{List, [], _∷_, _++_, map, tail}
+use mathlib.Core.Logic.{_⊎_, inl, inr}
+use native.Mathlib.Omega.{arith}
+use lib.Dec.{eqb}
+use lib.ListN.{length, length-append}
+use borrow.Author.Tests.{eqb-true, eqb-false}
+use Rattle.base.specs.Choice.{pick, all}
+use Rattle.base.specs.Bytes.{begins, empty, same, digit, capital, letter, shared, xset}
+use Rattle.base.specs.Quoted.{bytes}
+use Rattle.base.specs.Rules.{first}
+use Rattle.base.specs.Calls.{long}
+use Rattle.base.specs.declared.Verdict.{Verdict}
+use Rattle.base.specs.declared.Verdict.the-variants.{Fine, Broken}
+use Rattle.base.proofs.Bools.{left, right, both}
+use Rattle.base.proofs.ByteLaws.{same-is}
+use Rattle.base.proofs.RuleLaws.{fine-broken, Clean, broken-first}
+use Rattle.base.proofs.CallLaws.{not-long, within-limit}
+use Rattle.alphabets.specs.Bank.{plainly}
+use Rattle.fields.specs.Field.{Field, field, laid, lined, linesOf, message, closing, fields}
+use Rattle.fields.specs.Frame.{limit, rule1}
+use Rattle.fields.specs.Shapes.{shaped, shapedTag}
+use Rattle.fields.proofs.TagLaws.{shaped-without}
+use Rattle.fields.proofs.FieldLaws.{fields-shaped, message-fields}
+use Rattle.types.specs.Walk.{rule18}
+use Rattle.types.specs.Sign.{firstLine, signOf}
+use Rattle.types.proofs.TableLaws.{rule18-iff}
+use Rattle.roles.specs.Role.{shapeOf, shape103, shape202, copy, cast}
+use Rattle.roles.specs.declared.Shape.{Shape}
+use Rattle.roles.specs.declared.Shape.the-variants.{Plain}
+use Rattle.judge.specs.Message.{messageRules, verdictOf}
+use Rattle.judge.proofs.Theorems.{message-accepts}
+use Rattle.records.specs.Record.{Record, sheet, pieces, front, final, recordOf, records, rest, begun, plainText, writable}
+use Rattle.records.specs.Places.{sizeOf}
+use Rattle.records.specs.Rule19.{digits, good, typed, typeIn, typeOf, sheetType, sheetSign, rule19}
+use Rattle.records.specs.Sentences.{Sound}
+use Rattle.records.proofs.PieceLaws.{some-piece}
+use Rattle.records.proofs.PlaceLaws.{size-sheet}
+use Rattle.records.proofs.SheetLaws.{records-sheet, rest-sheet}
+use Rattle.records.proofs.RuleLaws.{sound-fine, named-size}
+use Rattle.writer.specs.Spread.{contentLines, fieldFor, spread}
+use Rattle.writer.specs.Sheet.{someCrowded, rule15, rule16, fieldsOf, messageFor, sheetRules}
+use Rattle.written.specs.Sentences.{Every}
+use Rattle.written.proofs.BuiltLaws.{plain-lines, shape-20}
+use Rattle.written.proofs.ReadyLaws.{speaking, roomy, rule15-fine, rule16-fine}
+use Rattle.sheets.specs.Gather.{partFor, contentParts, recordFor, gather, typeRecord, recordsOf, sheetOf}
+use Rattle.trips.specs.Again.{fieldAgain}
+use Rattle.trips.proofs.Held.{SheetedField}
+
+-- ---- the type is one of the two
+abbrev Known : ℕ → Type 0
+Known kind = (kind ≡ 103) ⊎ (kind ≡ 202)
+
+is-known : (kind : ℕ) → rule18 kind ≡ Fine → Known kind
+is-known kind e = go (eqb kind 103) (eqb kind 202) refl refl
+  where
+    go : (a b : Bool) → eqb kind 103 ≡ a → eqb kind 202 ≡ b → Known kind
+    go true b p q = inl (eqb-true kind 103 p)
+    go false true p q = inr (eqb-true kind 202 q)
+    go false false p q = absurd (fine-broken 18 0 (sym e ∙ rule18-iff kind .1 (eqb-false kind 103 p, eqb-false kind 202 q)))
+
+-- ---- its record
+record Typed (kind : ℕ) : Type 0 where
+  names : typed (typeRecord kind) ≡ true
+  worth : typeIn (typeRecord kind) ≡ kind
+  textual : writable (typeRecord kind) ≡ true
+  says : (s : Bool) → speaking kind s (typeRecord kind) ≡ true
+
+is-typed : (kind : ℕ) → Known kind → Typed kind
+unfolding same digits digit shapeOf shape103 shape202 cast plainly xset letter capital shared
+is-typed kind (inl e) = subst Typed (sym e) (record { names = refl; worth = refl; textual = refl; says = λ s. refl })
+is-typed kind (inr e) = subst Typed (sym e) (record { names = refl; worth = refl; textual = refl; says = λ s. refl })
+
+-- ---- the sign: field 20 is copied, and nothing behind the last LF counts
+-- what keeps each tag, and the content of 20, keeps the sign
+sign-kept : (g : Field → Field) (f : List ℕ → List (List ℕ) → List (List ℕ)) → ((t : List ℕ) (ls : List (List ℕ)) → g (field t ls) ≡ field t (f t ls))
+    → ((ls : List (List ℕ)) → f (bytes "20") ls ≡ ls) → (fs : List Field) → signOf (map g fs) ≡ signOf fs
+unfolding signOf
+sign-kept g f e h [] = refl
+sign-kept g f e h (field t ls ∷ fs) = ap (λ (x : Field). signOf (x ∷ map g fs)) (e t ls) ∙ go (same t (bytes "20")) refl (sign-kept g f e h fs)
+  where
+    go : (b : Bool) → same t (bytes "20") ≡ b → signOf (map g fs) ≡ signOf fs
+        → pick b (begins 43 (firstLine (f t ls))) (signOf (map g fs)) ≡ pick b (begins 43 (firstLine ls)) (signOf fs)
+    go true q i = ap (λ (k : List (List ℕ)). begins 43 (firstLine k)) (ap (λ (u : List ℕ). f u ls) (same-is t (bytes "20") q) ∙ h ls)
+    go false q i = i
+
+plain-parts : (s : Bool) (ls : List (List ℕ)) → contentParts s Plain ls ≡ ls
+unfolding contentParts cast
+plain-parts s ls = go ls
+  where
+    go : (ks : List (List ℕ)) → map (partFor s) (map copy ks) ≡ ks
+    go [] = refl
+    go (k ∷ ks) = ap (λ (r : List (List ℕ)). k ∷ r) (go ks)
+
+parts-20 : (kind : ℕ) (s : Bool) (ls : List (List ℕ)) → contentParts s (shapeOf kind (bytes "20")) ls ≡ ls
+parts-20 kind s ls = ap (λ (sh : Shape). contentParts s sh ls) (shape-20 kind s) ∙ plain-parts s ls
+
+sign-gather : (kind : ℕ) (s : Bool) (fs : List Field) → signOf (map (recordFor kind s) fs) ≡ signOf fs
+sign-gather kind s fs = sign-kept (recordFor kind s) (λ (t : List ℕ). contentParts s (shapeOf kind t)) (λ t ls. refl) (parts-20 kind s) fs
+
+-- so a message read and written again has its sign
+lines-20 : (kind : ℕ) (s : Bool) (ls : List (List ℕ)) → contentLines s (shapeOf kind (bytes "20")) (contentParts s (shapeOf kind (bytes "20")) ls) ≡ ls
+lines-20 kind s ls = ap₂ (λ (sh : Shape) (k : List (List ℕ)). contentLines s sh k) (shape-20 kind s) (parts-20 kind s ls) ∙ plain-lines kind s ls
+
+pub sign-again : (kind : ℕ) (s : Bool) (fs : List Field) → signOf (map (fieldAgain kind s) fs) ≡ signOf fs
+sign-again kind s fs =
+    sign-kept (fieldAgain kind s) (λ (t : List ℕ) (ls : List (List ℕ)). contentLines s (shapeOf kind t) (contentParts s (shapeOf kind t) ls)) (λ t ls. refl) (lines-20 kind s) fs
+
+front-final : (ls : List (List ℕ)) → (ls ≡ [] → ⊥) → map recordOf ls ≡ map recordOf (front ls) ++ recordOf (final ls) ∷ []
+front-final [] n = absurd (n refl)
+front-final (l ∷ []) n = refl
+front-final (l ∷ k ∷ ls) n = ap (λ (rs : List Record). recordOf l ∷ rs) (front-final (k ∷ ls) (λ e. true≢false (ap empty (sym e))))
+
+begun-is : (s : List ℕ) → begun s ≡ records s ++ recordOf (rest s) ∷ []
+unfolding begun records rest
+begun-is s = front-final (pieces 10 s) (some-piece 10 s)
+
+sign-end : (rs : List Record) → signOf (rs ++ recordOf [] ∷ []) ≡ signOf rs
+unfolding signOf recordOf pieces same
+sign-end [] = refl
+sign-end (field t ps ∷ rs) = ap (pick (same t (bytes "20")) (begins 43 (firstLine ps))) (sign-end rs)
+
+-- ---- how many bytes
+laid-both : (ks ls : List (List ℕ)) → length (laid (ks ++ ls)) ≡ length (laid ks) + length (laid ls)
+laid-both [] ls = omega arith
+laid-both (k ∷ ks) ls =
+    let n = laid-both ks ls in
+    omega (arith, length-append k (13 ∷ 10 ∷ laid (ks ++ ls)), length-append k (13 ∷ 10 ∷ laid ks), n)
+
+message-size : (fs : List Field) → length (message fs) ≡ length (laid (linesOf fs)) + 7
+unfolding message
+message-size fs = omega (arith, length-append (laid (linesOf fs)) closing)
+
+records-size : (kind : ℕ) (s : Bool) (fs : List Field) → Every (SheetedField kind s) fs → sizeOf (map (recordFor kind s) fs) ≤ length (laid (linesOf fs))
+records-size kind s [] w = omega arith
+records-size kind s (field t ls ∷ fs) w =
+    let n = records-size kind s fs (w .1) in
+    let m = w .0 .no-longer in
+    omega (arith, n, m, laid-both (lined (field t ls)) (linesOf fs))
+
+-- ---- records of fields that have theirs
+tag-plain : (t : List ℕ) → shaped t ≡ true → plainText t ≡ true
+unfolding digit capital
+tag-plain t e = both (shaped-without 9 refl refl t e) (shaped-without 10 refl refl t e)
+
+module _ (kind : ℕ) (s : Bool) where
+  all-writable : (fs : List Field) → all shapedTag fs ≡ true → Every (SheetedField kind s) fs → all writable (map (recordFor kind s) fs) ≡ true
+  all-writable [] e w = refl
+  all-writable (field t ls ∷ fs) e w =
+      both (both (tag-plain t (left (shaped t) _ e)) (w .0 .textual)) (all-writable fs (right (shaped t) _ e) (w .1))
+
+  all-good : (fs : List Field) → all shapedTag fs ≡ true → Every (SheetedField kind s) fs → all (good kind s) (map (recordFor kind s) fs) ≡ true
+  all-good [] e w = refl
+  all-good (field t ls ∷ fs) e w = both (both (left (shaped t) _ e) (w .0 .is-sound)) (all-good fs (right (shaped t) _ e) (w .1))
+
+  all-speaking : (fs : List Field) → Every (SheetedField kind s) fs → all (speaking kind s) (map (recordFor kind s) fs) ≡ true
+  all-speaking [] w = refl
+  all-speaking (field t ls ∷ fs) w = both (w .0 .says) (all-speaking fs (w .1))
+
+  all-roomy : (fs : List Field) → Every (SheetedField kind s) fs → s ≡ false → all (roomy kind s) (map (recordFor kind s) fs) ≡ true
+  all-roomy [] w q = refl
+  all-roomy (field t ls ∷ fs) w q = both (ap not (w .0 .fits q)) (all-roomy fs (w .1) q)
+
+-- ---- the sheet
+module _ (kind : ℕ) (s : Bool) (fs : List Field) (eighteen : rule18 kind ≡ Fine) (sign : s ≡ signOf fs) (tags : all shapedTag fs ≡ true) (each : Every (SheetedField kind s) fs) where
+  abbrev pub sheetFor : List ℕ
+  sheetFor = sheet (typeRecord kind ∷ gather kind s fs)
+
+  known : Known kind
+  known = is-known kind eighteen
+
+  head : Typed kind
+  head = is-typed kind known
+
+  can-write : all writable (typeRecord kind ∷ gather kind s fs) ≡ true
+  unfolding gather
+  can-write = both (head .textual) (all-writable kind s fs tags each)
+
+  pub its-records : records sheetFor ≡ typeRecord kind ∷ gather kind s fs
+  its-records = records-sheet (typeRecord kind ∷ gather kind s fs) can-write
+
+  pub its-rest : rest sheetFor ≡ []
+  its-rest = rest-sheet (typeRecord kind ∷ gather kind s fs) can-write
+
+  pub its-type : sheetType sheetFor ≡ kind
+  unfolding sheetType
+  its-type = ap typeOf its-records ∙ head .worth
+
+  pub its-sign : sheetSign sheetFor ≡ s
+  unfolding sheetSign gather signOf same
+  its-sign =
+      ap signOf (begun-is sheetFor ∙ ap₂ (λ (rs : List Record) (w : List ℕ). rs ++ recordOf w ∷ []) its-records its-rest)
+      ∙ sign-end (typeRecord kind ∷ gather kind s fs) ∙ sign-gather kind s fs ∙ sym sign
+
+  -- what is asked of its type, its sign and its records
+  read-as : {A : Type 0} (f : ℕ → Bool → List Record → A) → f (sheetType sheetFor) (sheetSign sheetFor) (records sheetFor) ≡ f kind s (typeRecord kind ∷ gather kind s fs)
+  read-as f = ap (λ (k : ℕ). f k (sheetSign sheetFor) (records sheetFor)) its-type ∙ ap₂ (f kind) its-sign its-records
+
+  pub its-fields : fieldsOf sheetFor ≡ map (fieldAgain kind s) fs
+  unfolding fieldsOf spread gather
+  its-fields = read-as (λ (k : ℕ) (b : Bool) (rs : List Record). map (fieldFor k b) (tail rs)) ∙ go fs
+    where
+      go : (gs : List Field) → map (fieldFor kind s) (map (recordFor kind s) gs) ≡ map (fieldAgain kind s) gs
+      go [] = refl
+      go (field t ls ∷ gs) = ap (λ (k : List Field). fieldAgain kind s (field t ls) ∷ k) (go gs)
+
+  pub its-message : messageFor sheetFor ≡ message (map (fieldAgain kind s) fs)
+  unfolding messageFor
+  its-message = ap message its-fields
+
+  -- ---- rule by rule
+  pub its-sound : Sound sheetFor
+  unfolding gather
+  its-sound =
+      record {
+        head = typeRecord kind;
+        behind = gather kind s fs;
+        list = its-records;
+        names = head .names;
+        each = ap₂ (λ (k : ℕ) (b : Bool). all (good k b) (gather kind s fs)) (head .worth) its-sign ∙ all-good kind s fs tags each;
+        ended = its-rest;
+      }
+
+  pub its-19 : rule19 sheetFor ≡ Fine
+  its-19 = sound-fine sheetFor its-sound
+
+  pub its-18 : rule18 (sheetType sheetFor) ≡ Fine
+  its-18 = ap rule18 its-type ∙ eighteen
+
+  pub its-15 : rule15 (sheetType sheetFor) (sheetSign sheetFor) 0 (records sheetFor) ≡ Fine
+  unfolding gather
+  its-15 =
+      read-as (λ (k : ℕ) (b : Bool) (rs : List Record). rule15 k b 0 rs)
+      ∙ rule15-fine s kind 0 (typeRecord kind ∷ gather kind s fs) .1 (both (head .says s) (all-speaking kind s fs each))
+
+  abbrev sixteen : Verdict
+  sixteen = rule16 (sheetType sheetFor) (sheetSign sheetFor) (tail (records sheetFor))
+
+  -- without the sign its details fit
+  pub its-16 : s ≡ false → sixteen ≡ Fine
+  unfolding gather
+  its-16 q =
+      read-as (λ (k : ℕ) (b : Bool) (rs : List Record). rule16 k b (tail rs)) ∙ rule16-fine kind s (gather kind s fs) .1 (all-roomy kind s fs each q)
+
+  fits-or-not : (sixteen ≡ Fine) ⊎ ((sixteen ≡ Broken 16 0) × (s ≡ true))
+  unfolding rule16
+  fits-or-not = go s (someCrowded (sheetType sheetFor) (sheetSign sheetFor) (tail (records sheetFor))) refl refl
+    where
+      go : (b c : Bool) → s ≡ b → someCrowded (sheetType sheetFor) (sheetSign sheetFor) (tail (records sheetFor)) ≡ c
+          → (sixteen ≡ Fine) ⊎ ((sixteen ≡ Broken 16 0) × (s ≡ true))
+      go false c p q = inl (its-16 p)
+      go true true p q = inr (ap (λ (k : Bool). pick k (Broken 16 0) Fine) q, p)
+      go true false p q = inl (ap (λ (k : Bool). pick k (Broken 16 0) Fine) q)
+
+  -- ---- a message within the limit: its sheet passes, or is refused by 16, and then the sign is on
+  module _ (within : length (message fs) ≤ limit) where
+    pub its-size : length sheetFor ≤ limit
+    unfolding gather
+    its-size =
+        let n = size-sheet (typeRecord kind ∷ gather kind s fs) in
+        let m = records-size kind s fs each in
+        omega (arith, n, m, named-size (typeRecord kind) (head .names), message-size fs)
+
+    pub its-1 : long limit sheetFor ≡ Fine
+    its-1 = not-long limit sheetFor its-size
+
+    pub sheet-passes : Clean (sheetRules sheetFor) ⊎ ((first (sheetRules sheetFor) ≡ Broken 16 0) × (s ≡ true))
+    sheet-passes = go fits-or-not
+      where
+        go : (sixteen ≡ Fine) ⊎ ((sixteen ≡ Broken 16 0) × (s ≡ true)) → Clean (sheetRules sheetFor) ⊎ ((first (sheetRules sheetFor) ≡ Broken 16 0) × (s ≡ true))
+        go (inl e) = inl (its-1, (its-19, (its-18, (its-15, (e, tt)))))
+        go (inr e) = inr (
+          broken-first (sheetRules sheetFor) 16 0 (record {
+            before = long limit sheetFor ∷ rule19 sheetFor ∷ rule18 (sheetType sheetFor) ∷ rule15 (sheetType sheetFor) (sheetSign sheetFor) 0 (records sheetFor) ∷ [];
+            behind = [];
+            list = ap (λ (v : Verdict). long limit sheetFor ∷ rule19 sheetFor ∷ rule18 (sheetType sheetFor) ∷ rule15 (sheetType sheetFor) (sheetSign sheetFor) 0 (records sheetFor) ∷ v ∷ []) (e .0);
+            clean = (its-1, (its-19, (its-18, (its-15, tt))));
+          }),
+          e .1,
+        )
+
+-- ---- the sheet of an accepted message whose fields all have their records
+module _ (kind : ℕ) (m : List ℕ) (fine : verdictOf kind m ≡ Fine) (each : Every (SheetedField kind (signOf (fields m))) (fields m)) where
+  clean : Clean (messageRules kind m)
+  clean = message-accepts kind m .0 fine
+
+  tags : all shapedTag (fields m) ≡ true
+  tags = fields-shaped m (clean .1 .1 .1 .1 .0)
+
+  within : length (message (fields m)) ≤ limit
+  unfolding rule1
+  within =
+      subst (λ (k : List ℕ). length k ≤ limit) (sym (message-fields m (clean .1 .1 .0) (clean .1 .1 .1 .0) (clean .1 .1 .1 .1 .0))) (within-limit limit m (clean .1 .0))
+
+  pub accepted-type : sheetType (sheetOf kind m) ≡ kind
+  unfolding sheetOf recordsOf
+  accepted-type = its-type kind (signOf (fields m)) (fields m) (clean .0) refl tags each
+
+  pub accepted-sign : sheetSign (sheetOf kind m) ≡ signOf (fields m)
+  unfolding sheetOf recordsOf
+  accepted-sign = its-sign kind (signOf (fields m)) (fields m) (clean .0) refl tags each
+
+  pub accepted-message : messageFor (sheetOf kind m) ≡ message (map (fieldAgain kind (signOf (fields m))) (fields m))
+  unfolding sheetOf recordsOf
+  accepted-message = its-message kind (signOf (fields m)) (fields m) (clean .0) refl tags each
+
+  pub accepted-passes : Clean (sheetRules (sheetOf kind m)) ⊎ ((first (sheetRules (sheetOf kind m)) ≡ Broken 16 0) × (signOf (fields m) ≡ true))
+  unfolding sheetOf recordsOf
+  accepted-passes = sheet-passes kind (signOf (fields m)) (fields m) (clean .0) refl tags each within
+
+  -- it is no longer than a message may be
+  pub accepted-size : length (sheetOf kind m) ≤ limit
+  unfolding sheetOf recordsOf
+  accepted-size = its-size kind (signOf (fields m)) (fields m) (clean .0) refl tags each within
+
+  pub accepted-records : tail (records (sheetOf kind m)) ≡ gather kind (signOf (fields m)) (fields m)
+  unfolding sheetOf recordsOf
+  accepted-records = ap tail (its-records kind (signOf (fields m)) (fields m) (clean .0) refl tags each)

@@ -1,0 +1,337 @@
+-- The record of a field that holds details or an RPP line: right by 19, written by 15, without tab and LF, no longer than the field, and without
+-- the sign its details fit as they stood (S4, N15, N16, B1-B3, C70, C72). Assumes nothing.
+use Prim.Native.Nat.{ℕ, _+_, _≤_, _<_}
+use mathlib.Core.Path.{_≡_, refl, sym, ap, ap₂, _∙_, subst}
+use mathlib.Core.Bool.{Bool, true, false, not, true≢false, false≢true}
+use mathlib.Core.List.{List, [], _∷_, _++_, map, append-assoc, tail}
+use native.Mathlib.Omega.{arith}
+use lib.Dec.{eqb}
+use lib.ListN.{length, take, drop, length-append}
+use lib.Seq.{take-at, drop-append-seam, drop-append-add}
+use borrow.Author.Tests.{eqb-true}
+use Rattle.base.specs.Choice.{pick, all}
+use Rattle.base.specs.Bytes.{byte, empty, same, xset}
+use Rattle.base.specs.Quoted.{bytes}
+use Rattle.base.specs.Calls.{Answer, said, textOf}
+use Rattle.base.proofs.Bools.{left, right, both, all-append, all-behind}
+use Rattle.base.proofs.ByteLaws.{same-is}
+use Rattle.alphabets.specs.Bank.{plainly, reading}
+use Rattle.alphabets.proofs.Theorems.{plain-only}
+use Rattle.fields.specs.Field.{field, lined, laid}
+use Rattle.forms.specs.States.{at70, at70Signed, rpp103, at72, at72Signed}
+use Rattle.forms.specs.Contents.{starts103, starts202, stateOf, rightField}
+use Rattle.roles.specs.Role.{shapeOf, shape103, shape202, cast}
+use Rattle.roles.specs.Speech as speech
+use Rattle.roles.specs.Speech.{codeSize, speeches}
+use Rattle.roles.specs.Rule14.{breaks}
+use Rattle.roles.specs.Sentences.{Heard}
+use Rattle.roles.specs.declared.Shape.{Shape}
+use Rattle.roles.specs.declared.Shape.the-variants.{Plain, Payer, Payee, Agent, Details, Note103, Note202}
+use Rattle.records.specs.Record.{plainText, line}
+use Rattle.records.specs.Rule19.{digits, detailed, sound}
+use Rattle.details.specs.Lines.{together, lines}
+use Rattle.details.specs.Layouts.{layout, DivisionIn, marked, sizeFor}
+use Rattle.details.specs.declared.Place.{Place}
+use Rattle.details.specs.declared.Place.the-variants.{In70, In72, BehindRpp}
+use Rattle.details.specs.declared.Size.{Size}
+use Rattle.details.specs.declared.Size.the-variants.{Bytes, Unfit}
+use Rattle.details.proofs.Theorems.{unfit-none}
+use Rattle.writer.specs.Spread.{castParts, coded, code, told, rppLine, notePlace}
+use Rattle.writer.specs.Sheet.{isUnfit, crowded}
+use Rattle.written.proofs.ReadyLaws.{speaks}
+use Rattle.written.proofs.CastLaws.{behind-code, code-size, unmarked}
+use Rattle.sheets.specs.Gather.{codeDigits, toldParts, noteParts, contentParts}
+use Rattle.trips.proofs.Held.{Held, Noted, details, note103, note202, Sheeted}
+use Rattle.trips.proofs.TakenLaws.{Told, told-lines, rpp-alone, Note, with-rpp, without, note-lines}
+use Rattle.trips.proofs.SaidLaws.{Says, says-plain, says-signed, says-written, plain-said, says-short, set-text, says-text, digits-set}
+
+-- ---- where the tag has such a shape
+data Seat (kind : ℕ) (t : List ℕ) : Type 0 where
+  seat-70 : shapeOf kind t ≡ Details → ((s : Bool) → stateOf kind s t ≡ pick s at70Signed at70) → Seat kind t
+  seat-103 : shapeOf kind t ≡ Note103 → ((s : Bool) → stateOf kind s t ≡ rpp103) → Seat kind t
+  seat-202 : shapeOf kind t ≡ Note202 → ((s : Bool) → stateOf kind s t ≡ pick s at72Signed at72) → Seat kind t
+
+abbrev isNoted : Shape → Bool
+isNoted Details = true
+isNoted Note103 = true
+isNoted Note202 = true
+isNoted Plain = false
+isNoted Payer = false
+isNoted Payee = false
+isNoted Agent = false
+
+noted-is : {sh : Shape} → Noted sh → isNoted sh ≡ true
+noted-is details = refl
+noted-is note103 = refl
+noted-is note202 = refl
+
+at-70 : Seat 103 (bytes "70")
+unfolding shapeOf shape103 same stateOf starts103
+at-70 = seat-70 refl (λ s. refl)
+
+at-72 : Seat 103 (bytes "72")
+unfolding shapeOf shape103 same stateOf starts103
+at-72 = seat-103 refl (λ s. refl)
+
+at-72-202 : Seat 202 (bytes "72")
+unfolding shapeOf shape202 same stateOf starts202
+at-72-202 = seat-202 refl (λ s. refl)
+
+tagged : (kind : ℕ) (u t : List ℕ) → same t u ≡ true → Seat kind u → Seat kind t
+tagged kind u t e w = subst (λ (v : List ℕ). Seat kind v) (sym (same-is t u e)) w
+
+seat-of-103 : (t : List ℕ) → isNoted (shape103 t) ≡ true → Seat 103 t
+unfolding shape103
+seat-of-103 t e = go (same t (bytes "50K")) (same t (bytes "59")) (same t (bytes "56D")) (same t (bytes "57D")) (same t (bytes "70")) (same t (bytes "72")) refl refl e
+  where
+    go : (a b c d f g : Bool) → same t (bytes "70") ≡ f → same t (bytes "72") ≡ g
+        → isNoted (pick a Payer (pick b Payee (pick c Agent (pick d Agent (pick f Details (pick g Note103 Plain)))))) ≡ true → Seat 103 t
+    go true b c d f g p q e = absurd (false≢true e)
+    go false true c d f g p q e = absurd (false≢true e)
+    go false false true d f g p q e = absurd (false≢true e)
+    go false false false true f g p q e = absurd (false≢true e)
+    go false false false false true g p q e = tagged 103 (bytes "70") t p at-70
+    go false false false false false true p q e = tagged 103 (bytes "72") t q at-72
+    go false false false false false false p q e = absurd (false≢true e)
+
+seat-of-202 : (t : List ℕ) → isNoted (shape202 t) ≡ true → Seat 202 t
+unfolding shape202
+seat-of-202 t e = go (same t (bytes "58D")) (same t (bytes "56D")) (same t (bytes "57D")) (same t (bytes "72")) refl e
+  where
+    go : (a b c d : Bool) → same t (bytes "72") ≡ d → isNoted (pick a Payee (pick b Agent (pick c Agent (pick d Note202 Plain)))) ≡ true → Seat 202 t
+    go true b c d q e = absurd (false≢true e)
+    go false true c d q e = absurd (false≢true e)
+    go false false true d q e = absurd (false≢true e)
+    go false false false true q e = tagged 202 (bytes "72") t q at-72-202
+    go false false false false q e = absurd (false≢true e)
+
+seat : (kind : ℕ) (t : List ℕ) → isNoted (shapeOf kind t) ≡ true → Seat kind t
+unfolding shapeOf
+seat kind t e = go (eqb kind 103) (eqb kind 202) refl refl e
+  where
+    go : (a b : Bool) → eqb kind 103 ≡ a → eqb kind 202 ≡ b → isNoted (pick a (shape103 t) (pick b (shape202 t) Plain)) ≡ true → Seat kind t
+    go true b p q e = subst (λ (k : ℕ). Seat k t) (sym (eqb-true kind 103 p)) (seat-of-103 t e)
+    go false true p q e = subst (λ (k : ℕ). Seat k t) (sym (eqb-true kind 202 q)) (seat-of-202 t e)
+    go false false p q e = absurd (false≢true e)
+
+-- ---- details: code and text over their lines
+code-least : (s : Bool) → 9 ≤ codeSize s
+code-least true = omega arith
+code-least false = omega arith
+
+vo-five : (vo : List ℕ) → digits 5 vo ≡ true → length vo ≡ 5
+unfolding digits
+vo-five vo d = eqb-true (length vo) 5 (left (eqb (length vo) 5) _ d)
+
+vo-set : (vo : List ℕ) → digits 5 vo ≡ true → all xset vo ≡ true
+unfolding digits
+vo-set vo d = digits-set vo (right (eqb (length vo) 5) _ d)
+
+code-digits : (s : Bool) (vo w : List ℕ) → digits 5 vo ≡ true → codeDigits s (code s vo ++ w) ≡ vo
+code-digits true vo w d = ap (take 5) (append-assoc vo (bytes ")'") w) ∙ take-at vo (bytes ")'" ++ w) 5 (vo-five vo d)
+code-digits false vo w d = ap (take 5) (append-assoc vo (bytes ")") w) ∙ take-at vo (bytes ")" ++ w) 5 (vo-five vo d)
+
+-- later lines: their texts, how long they are, and that their bytes are of the x set
+marks-long : (m : List ℕ) (ls : List (List ℕ)) → length (together ls) ≤ length (laid (map (λ (k : List ℕ). m ++ k) ls))
+marks-long m [] = omega arith
+marks-long m (l ∷ ls) =
+    omega (arith, marks-long m ls, length-append l (together ls), length-append m l, length-append (m ++ l) (13 ∷ 10 ∷ laid (map (λ (k : List ℕ). m ++ k) ls)))
+
+marks-set : (m : List ℕ) (ls : List (List ℕ)) → all (all xset) (map (λ (k : List ℕ). m ++ k) ls) ≡ true → all xset (together ls) ≡ true
+marks-set m [] e = refl
+marks-set m (l ∷ ls) e = all-append xset l (together ls) (all-behind xset m l (left (all xset (m ++ l)) _ e)) (marks-set m ls (right (all xset (m ++ l)) _ e))
+
+abbrev markSize : Place → ℕ
+markSize p = length (layout p .mark)
+
+abbrev nextSize : Place → ℕ
+nextSize p = length (layout p .next)
+
+module _ {p : Place} {s : Bool} {ls : List (List ℕ)} (w : Told p s ls) where
+  abbrev whole : List ℕ
+  whole = w .text ++ together (w .texts)
+
+  front-text : drop (markSize p + codeSize s) (layout p .mark ++ (code s (w .vo) ++ w .text)) ≡ w .text
+  front-text = drop-append-add (layout p .mark) (code s (w .vo) ++ w .text) (codeSize s) ∙ behind-code s (w .vo) (w .text) (w .five)
+
+  -- behind the marks and the code stands the text
+  whole-text : drop (markSize p + codeSize s) (layout p .mark ++ (code s (w .vo) ++ w .text)) ++ speech.behind (nextSize p) (map (λ (k : List ℕ). layout p .next ++ k) (w .texts)) ≡ whole
+  whole-text = ap₂ (λ (a b : List ℕ). a ++ b) front-text (unmarked (layout p .next) (w .texts))
+
+  told-parts : toldParts s (markSize p) (nextSize p) ls ≡ w .vo ∷ textOf (reading s whole) ∷ []
+  told-parts =
+      ap (toldParts s (markSize p) (nextSize p)) (w .is)
+      ∙ ap₂ (λ (a b : List ℕ). a ∷ textOf (reading s b) ∷ []) (ap (codeDigits s) (drop-append-seam (layout p .mark) (code s (w .vo) ++ w .text)) ∙ code-digits s (w .vo) (w .text) (w .five)) whole-text
+
+  told-heard : (o : ℕ) → Heard (speech.details (markSize p + codeSize s) (nextSize p) o ls) → breaks speech.told whole ≡ false
+  unfolding speech.details
+  told-heard o h = ap (breaks speech.told) (sym whole-text) ∙ (rw (w .is) at h) .0
+
+  told-set : all (all xset) ls ≡ true → all xset whole ≡ true
+  told-set e =
+      let f : all (all xset) (marked (layout p) ((code s (w .vo) ++ w .text) ∷ w .texts)) ≡ true = rw (w .is) at e in
+      let g = left (all xset (layout p .mark ++ (code s (w .vo) ++ w .text))) _ f in
+      all-append xset (w .text) (together (w .texts)) (all-behind xset (code s (w .vo)) (w .text) (all-behind xset (layout p .mark) (code s (w .vo) ++ w .text) g))
+      (marks-set (layout p .next) (w .texts) (right (all xset (layout p .mark ++ (code s (w .vo) ++ w .text))) _ f))
+
+  told-long : markSize p + codeSize s + length whole + 2 ≤ length (laid ls)
+  told-long =
+      let l : List ℕ = layout p .mark ++ (code s (w .vo) ++ w .text) in
+      let ks = map (λ (k : List ℕ). layout p .next ++ k) (w .texts) in
+      omega (
+        arith,
+        ap (λ (x : List (List ℕ)). length (laid x)) (w .is),
+        length-append l (13 ∷ 10 ∷ laid ks),
+        length-append (layout p .mark) (code s (w .vo) ++ w .text),
+        length-append (code s (w .vo)) (w .text),
+        code-size s (w .vo) (w .five),
+        length-append (w .text) (together (w .texts)),
+        marks-long (layout p .next) (w .texts),
+      )
+
+  -- the lines divide code and text as the field's place asks
+  abbrev firstWidth : ℕ
+  firstWidth = byte (layout p .widths) 0
+
+  told-divides : layout p .widths ≡ firstWidth ∷ tail (layout p .widths) → firstWidth + markSize p ≡ 35
+      → DivisionIn (layout p) (codeSize s) (code s (w .vo) ++ whole) ((code s (w .vo) ++ w .text) ∷ w .texts)
+  told-divides e f =
+      let n : length (code s (w .vo) ++ w .text) ≡ codeSize s + length (w .text) = length-append (code s (w .vo)) (w .text) ∙ ap (λ (k : ℕ). k + length (w .text)) (code-size s (w .vo) (w .five)) in
+      let a : 0 < length (code s (w .vo) ++ w .text) = omega (arith, code-least s) in
+      let b : codeSize s ≤ length (code s (w .vo) ++ w .text) = omega arith in
+      let c : length (code s (w .vo) ++ w .text) ≤ firstWidth = omega (arith, w .short, length-append (layout p .mark) (code s (w .vo) ++ w .text)) in
+      rw e (lines a b c (w .later) (append-assoc (code s (w .vo)) (w .text) (together (w .texts))))
+
+widths-of : (p : Place) → (layout p .widths ≡ byte (layout p .widths) 0 ∷ tail (layout p .widths)) × (byte (layout p .widths) 0 + markSize p ≡ 35)
+widths-of In70 = (refl, refl)
+widths-of In72 = (refl, refl)
+widths-of BehindRpp = (refl, refl)
+
+-- ---- their parts: digits, and what the text says
+record Gathered (p : Place) (s : Bool) (ls : List (List ℕ)) (vo d : List ℕ) : Type 0 where
+  parts : toldParts s (markSize p) (nextSize p) ls ≡ vo ∷ d ∷ []
+  right-parts : detailed (vo ∷ d ∷ []) ≡ true
+  written : all (speaks s) (coded (vo ∷ d ∷ [])) ≡ true
+  plain : all plainText (vo ∷ d ∷ []) ≡ true
+  five : length vo ≡ 5
+  short : markSize p + codeSize s + length d + 2 ≤ length (laid ls)
+  fit : s ≡ false → isUnfit (sizeFor p (codeSize s) (told s (vo ∷ d ∷ []))) ≡ false
+
+-- what can be divided fits
+never-unfit : (p : Place) (least : ℕ) (text : List ℕ) {ls : List (List ℕ)} → DivisionIn (layout p) least text ls → isUnfit (sizeFor p least text) ≡ false
+never-unfit p least text d = go (sizeFor p least text) refl
+  where
+    go : (z : Size) → sizeFor p least text ≡ z → isUnfit z ≡ false
+    go (Bytes n) e = refl
+    go Unfit e = absurd (unfit-none p least text e d)
+
+-- without the sign a text is written as it stood
+told-same : (s : Bool) (vo b d : List ℕ) → s ≡ false → reading s b ≡ said d → told s (vo ∷ d ∷ []) ≡ code s vo ++ b
+told-same true vo b d e r = absurd (true≢false e)
+told-same false vo b d e r =
+    let f : d ≡ b = sym (plain-only b d r) in
+    ap (λ (x : List ℕ). code false vo ++ textOf (plainly x)) f ∙ ap (λ (a : Answer). code false vo ++ textOf a) r ∙ ap (λ (x : List ℕ). code false vo ++ x) f
+
+gathered : {p : Place} {s : Bool} {ls : List (List ℕ)} (w : Told p s ls) (h : Says s (whole w)) → Gathered p s ls (w .vo) (h .desk)
+gathered {p} {s} {ls} w h = record {
+  parts = told-parts w ∙ ap (λ (a : Answer). w .vo ∷ textOf a ∷ []) (h .reads);
+  right-parts = both (w .five) (ap not (h .means));
+  written = both (plain-said (w .vo) (vo-set (w .vo) (w .five))) (both (says-written s (whole w) (h .desk) (h .reads)) refl);
+  plain = both (set-text (w .vo) (vo-set (w .vo) (w .five))) (both (says-text s (whole w) (h .desk) (h .reads)) refl);
+  five = vo-five (w .vo) (w .five);
+  short = omega (arith, told-long w, says-short s (whole w) (h .desk) (h .reads));
+  fit = λ e. ap (λ (x : List ℕ). isUnfit (sizeFor p (codeSize s) x)) (told-same s (w .vo) (whole w) (h .desk) e (h .reads))
+      ∙ never-unfit p (codeSize s) (code s (w .vo) ++ whole w) (told-divides w (widths-of p .0) (widths-of p .1));
+}
+
+-- what it says, by 3 or by 14
+told-says : {p : Place} (s : Bool) {ls : List (List ℕ)} (w : Told p s ls) (o : ℕ) → all (all xset) ls ≡ true
+    → (s ≡ true → Heard (speech.details (markSize p + codeSize true) (nextSize p) o ls)) → Says s (whole w)
+told-says true w o e h = says-signed (whole w) (told-heard w o (h refl))
+told-says false w o e h = says-plain (whole w) (told-set w e) (w .some)
+
+-- ---- the record
+lined-size : (t : List ℕ) (ls : List (List ℕ)) → empty ls ≡ false → length (laid (lined (field t ls))) ≡ length t + 2 + length (laid ls)
+lined-size t [] e = absurd (true≢false e)
+lined-size t (l ∷ ls) e =
+    omega (arith, length-append (58 ∷ t ++ 58 ∷ l) (13 ∷ 10 ∷ laid ls), length-append t (58 ∷ l), length-append l (13 ∷ 10 ∷ laid ls))
+
+-- from the parts that it comes to
+sheeted-as : (kind : ℕ) (s : Bool) (t : List ℕ) (ls : List (List ℕ)) (sh : Shape) (ps : List (List ℕ)) → shapeOf kind t ≡ sh → contentParts s sh ls ≡ ps → empty ls ≡ false
+    → sound s sh ps ≡ true → all (speaks s) (castParts sh ps) ≡ true → all plainText ps ≡ true → length (line (field t ps)) ≤ length t + 1 + length (laid ls) → (s ≡ false → crowded s sh ps ≡ false)
+    → Sheeted kind s t ls
+sheeted-as kind s t ls sh ps e f z a b c d g = record {
+  is-sound = rw (e, f) a;
+  says = rw (e, f) b;
+  textual = rw (e, f) c;
+  no-longer = rw (e, f) (omega (arith, lined-size t ls z));
+  fits = λ q. rw (e, f) (g q);
+}
+
+module _ (kind : ℕ) (s : Bool) (t : List ℕ) (ls : List (List ℕ)) (h : Held kind s t ls) where
+  heard-as : {sh : Shape} → shapeOf kind t ≡ sh → s ≡ true → Heard (speeches true sh 0 ls)
+  heard-as e p = rw e at (h .heard p)
+
+  sheeted-70 : shapeOf kind t ≡ Details → Told In70 s ls → Sheeted kind s t ls
+  unfolding contentParts sound crowded speeches
+  sheeted-70 e w =
+      let y : Says s (whole w) = told-says s w 0 (h .fair .inside) (heard-as e) in
+      let g = gathered w y in
+      let n : length (line (field t (w .vo ∷ y .desk ∷ []))) ≤ length t + 1 + length (laid ls) =
+      omega (arith, length-append t (9 ∷ (w .vo ++ 9 ∷ (y .desk ++ []))), length-append (w .vo) (9 ∷ (y .desk ++ [])), length-append (y .desk) [], g .five, g .short, code-least s) in
+      sheeted-as kind s t ls Details (w .vo ∷ y .desk ∷ []) e (g .parts) (h .fair .some) (g .right-parts) (g .written) (g .plain) n (g .fit)
+
+  sheeted-103 : shapeOf kind t ≡ Note103 → (r : List ℕ) → ls ≡ rppLine r ∷ [] → empty r ≡ false → Sheeted kind s t ls
+  unfolding contentParts sound crowded cast
+  sheeted-103 e r i z =
+      let x : all xset r ≡ true = all-behind xset (bytes "/RPP/") r (left (all xset (rppLine r)) true (rw i at (h .fair .inside))) in
+      let n : length (line (field t (r ∷ []))) ≤ length t + 1 + length (laid ls) =
+      omega (arith, ap (λ (k : List (List ℕ)). length (laid k)) i, length-append t (9 ∷ (r ++ [])), length-append r [], length-append (rppLine r) (13 ∷ 10 ∷ [])) in
+      sheeted-as kind s t ls Note103 (r ∷ []) e (ap (map (drop 5)) i) (h .fair .some) (ap not z) (both (plain-said r x) refl) (both (set-text r x) refl) n (λ _. refl)
+
+  -- r is what follows /RPP/, or nothing
+  noted-by : shapeOf kind t ≡ Note202 → (r : List ℕ) (ks : List (List ℕ)) (w : Told (notePlace r) s ks) → Says s (whole w)
+      → noteParts s ls ≡ r ∷ toldParts s (markSize (notePlace r)) (nextSize (notePlace r)) ks → all xset r ≡ true → length r + length (laid ks) ≤ length (laid ls) → Sheeted kind s t ls
+  unfolding contentParts sound crowded
+  noted-by e r ks w y i x k =
+      let g = gathered w y in
+      let n : length (line (field t (r ∷ w .vo ∷ y .desk ∷ []))) ≤ length t + 1 + length (laid ls) =
+      omega (
+        arith,
+        length-append t (9 ∷ (r ++ 9 ∷ (w .vo ++ 9 ∷ (y .desk ++ [])))),
+        length-append r (9 ∷ (w .vo ++ 9 ∷ (y .desk ++ []))),
+        length-append (w .vo) (9 ∷ (y .desk ++ [])),
+        length-append (y .desk) [],
+        g .five,
+        g .short,
+        code-least s,
+      ) in
+      sheeted-as kind s t ls Note202 (r ∷ w .vo ∷ y .desk ∷ []) e (i ∙ ap (λ (ps : List (List ℕ)). r ∷ ps) (g .parts)) (h .fair .some) (g .right-parts)
+      (both (plain-said r x) (g .written)) (both (set-text r x) (g .plain)) n (g .fit)
+
+  sheeted-202 : shapeOf kind t ≡ Note202 → Note s ls → Sheeted kind s t ls
+  unfolding speeches speech.noted
+  sheeted-202 e (without w) =
+      let u : s ≡ true → Heard (speech.details 16 2 0 ls) = λ q. subst Heard (ap (speech.noted true 0) (w .is) ∙ ap (speech.details 16 2 0) (sym (w .is))) (heard-as e q) in
+      let i : noteParts s ls ≡ [] ∷ toldParts s 5 2 ls = ap (noteParts s) (w .is) ∙ ap (λ (k : List (List ℕ)). [] ∷ toldParts s 5 2 k) (sym (w .is)) in
+      noted-by e [] ls w (told-says s w 0 (h .fair .inside) u) i refl (omega arith)
+  sheeted-202 e (with-rpp r ks j z w) =
+      let o : ℕ = 0 + length (rppLine r) + 2 in
+      let f : all (all xset) (rppLine r ∷ ks) ≡ true = rw j at (h .fair .inside) in
+      let y : Says s (whole w) = told-says s w o (right (all xset (rppLine r)) _ f) (λ q. subst Heard (ap (speech.noted true 0) j) (heard-as e q)) in
+      let k : length r + length (laid ks) ≤ length (laid ls) = omega (arith, ap (λ (x : List (List ℕ)). length (laid x)) j, length-append (rppLine r) (13 ∷ 10 ∷ laid ks)) in
+      by r z (ap (noteParts s) j) (all-behind xset (bytes "/RPP/") r (left (all xset (rppLine r)) _ f)) k w y
+    where
+      by : (r : List ℕ) {ks : List (List ℕ)} → empty r ≡ false → noteParts s ls ≡ r ∷ toldParts s 5 2 ks → all xset r ≡ true → length r + length (laid ks) ≤ length (laid ls)
+          → (w : Told BehindRpp s ks) → Says s (whole w) → Sheeted kind s t ls
+      by [] z i x k w y = absurd (true≢false z)
+      by (c ∷ r) {ks} z i x k w y = noted-by e (c ∷ r) ks w y i x k
+
+pub sheeted-noted : (kind : ℕ) (s : Bool) (t : List ℕ) (ls : List (List ℕ)) → Noted (shapeOf kind t) → Held kind s t ls → Sheeted kind s t ls
+unfolding rightField
+sheeted-noted kind s t ls n h = go (seat kind t (noted-is n))
+  where
+    go : Seat kind t → Sheeted kind s t ls
+    go (seat-70 e q) = sheeted-70 kind s t ls h e (told-lines In70 s ls (rw (q s) at (h .right)) (h .fair .on))
+    go (seat-103 e q) = let w = rpp-alone ls (rw (q s) at (h .right)) in sheeted-103 kind s t ls h e (w .0) (w .1) (w .2)
+    go (seat-202 e q) = sheeted-202 kind s t ls h e (note-lines s ls (rw (q s) at (h .right)) (h .fair .on))
