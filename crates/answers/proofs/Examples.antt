@@ -1,0 +1,50 @@
+-- The worked examples hold: each is computed. Assumes nothing.
+use mathlib.Core.Path.{refl}
+use Rattle.base.specs.Calls.{long}
+use Rattle.base.specs.Bytes.{isIn, digit, capital, letter, marks, shared, xset, same}
+use Rattle.fields.specs.Field.{message, body, cut, upto, past, grouped, fields}
+use Rattle.fields.specs.Frame.{rule1, framed, rule2, scan, rule3, tagged, lineBad, badLine, rule4}
+use Rattle.fields.specs.Shapes.{shaped}
+use Rattle.types.specs.Form.{form103, form202, forms, placesOf}
+use Rattle.types.specs.Walk.{find, wrong, walk, rule18, walked}
+use Rattle.types.specs.Sign.{signOf}
+use Rattle.judge.specs.Message.{verdictOf}
+use Rattle.formats.specs.Format.{sign, member, run, counted, apart, notPlus, wayFirst, purpose, meets, fits}
+use Rattle.machine.specs.Machine.{cell, isAs, holds, tookOf, right, lives, behind, widest}
+use Rattle.forms.specs.Formats.{formats}
+use Rattle.forms.specs.States.{rows}
+use Rattle.forms.specs.FieldRules.{firstWrong}
+use Rattle.forms.specs.Contents.{starts103, starts202, stateOf, rightField, rule8}
+use Rattle.values.specs.Number.{onward}
+use Rattle.values.specs.Day.{leap, daysIn, isDay, yearOf, realDay, dated}
+use Rattle.values.specs.Values.{behindDigits, payment, pointIn, datesBehind, rpp, bothParts, parties, taxPlace, isTax, withKpp, taxes, valuesOf}
+use Rattle.values.specs.Judged.{firstBad, rule9, rule10, rule11, rule12, rule13}
+use Rattle.roles.specs.Role.{shape103, shape202, shapeOf, cast}
+use Rattle.roles.specs.Speech.{names, details, noted, speeches}
+use Rattle.roles.specs.Speech as speech
+use Rattle.roles.specs.Rule14.{hidden, isInn, taxLike, breaks, unheard, spoken, rule14}
+use Rattle.alphabets.specs.Grid.{grid, kind}
+use Rattle.alphabets.specs.Grid as signs
+use Rattle.alphabets.specs.Bank.{reads, plainly}
+use Rattle.alphabets.specs.Best.{latinNext, best, bad, writes}
+use Rattle.records.specs.Record.{pieces, recordOf, records, rest, begun}
+use Rattle.records.specs.Rule19.{digits, general, untaxed, sound, badFrom, judge, sheetSign, sheetType, rule19}
+use Rattle.details.specs.Breaking.{opens, last, broken}
+use Rattle.details.specs.Breaking as breaking
+use Rattle.details.specs.Layouts.{linesFor, sizeFor}
+use Rattle.writer.specs.Spread.{contentLines, spread}
+use Rattle.writer.specs.Sheet.{unsaid, rule15, crowded, rule16, fieldsOf, messageFor}
+use Rattle.answers.specs.Line.{digitsIn, decimal, refusalLine}
+use Rattle.sheets.specs.Gather.{contentParts, gather, recordsOf, sheetOf}
+use Rattle.answers.specs.Programs.{messageAnswer, namesType, sheetAnswer}
+use Rattle.answers.specs.Cases.{AllHold, cases}
+
+infixr 4 _also_
+abbrev _also_ : {A B : Type 0} → A → B → A × B
+a also b = (a, b)
+
+pub worked : AllHold cases
+unfolding cases digitsIn decimal refusalLine messageAnswer namesType sheetAnswer contentParts gather recordsOf sheetOf long isIn digit capital letter marks shared xset same message body cut upto past grouped fields rule1 framed rule2 scan rule3 tagged lineBad badLine rule4 shaped form103 form202 forms placesOf find wrong walk rule18 walked signOf verdictOf sign member run counted apart notPlus wayFirst purpose meets fits cell tookOf right formats rows firstWrong starts103 starts202 stateOf rightField rule8 onward leap daysIn isDay yearOf realDay dated behindDigits payment pointIn datesBehind rpp bothParts parties taxPlace isTax withKpp taxes valuesOf firstBad rule9 rule10 rule11 rule12 rule13 shape103 shape202 shapeOf cast names details noted speeches speech.behind hidden isInn taxLike breaks unheard spoken rule14 grid kind signs.sign reads plainly latinNext best bad writes pieces recordOf records rest begun digits general untaxed sound badFrom judge sheetSign sheetType rule19 opens last broken breaking.breaks linesFor sizeFor contentLines spread unsaid rule15 crowded rule16 fieldsOf messageFor isAs holds lives behind widest
+worked =
+    refl also refl also refl also refl also refl also refl also refl also refl also refl also refl also refl
+    also refl also refl also refl also refl also refl also refl also refl also tt

@@ -1,0 +1,9 @@
+pub mod DigitLaws
+pub mod LineLaws
+pub mod VerdictLaws
+pub mod PlaceLaws
+pub mod CallLaws
+pub mod Theorems
+pub mod TypeLaws
+pub mod SheetLaws
+pub mod Examples

@@ -1,0 +1,141 @@
+-- The answer of `tosheet`: the type in front, then the message's sheet or its refusal; any two outcomes are equal, 10,000 bytes always have room,
+-- and what stands behind the first 10,005 bytes changes nothing (R1, R3, O1, K9). Assumes nothing.
+use Prim.Native.Nat.{ℕ, zero, suc, _+_, _<_, _≤_}
+use mathlib.Core.Path.{_≡_, refl, sym, ap, ap₂, _∙_, subst}
+use mathlib.Core.Bool.{Bool, true, false}
+use mathlib.Core.List.{List, [], _∷_}
+use native.Mathlib.Omega.{arith}
+use native.Mathlib.Decide.{decLt}
+use lib.ListN.{length, take, length-drop}
+use lib.Seq.{take-all, length-take-le}
+use Rattle.base.specs.Choice.{pick}
+use Rattle.base.specs.Bytes.{byte}
+use Rattle.base.specs.Rules.{then, first}
+use Rattle.base.specs.Calls.{short, over}
+use Rattle.base.specs.declared.Verdict.{Verdict}
+use Rattle.base.specs.declared.Verdict.the-variants.{Fine, Broken}
+use Rattle.base.specs.declared.Outcome.{Outcome}
+use Rattle.base.specs.declared.Outcome.the-variants.{Done, Refused}
+use Rattle.base.proofs.RuleLaws.{fine-broken, first-last, then-clean}
+use Rattle.base.proofs.CallLaws.{gives-one, gives-refused, gives-past, not-short, is-long}
+use Rattle.fields.specs.Frame.{limit, rule1}
+use Rattle.types.specs.Walk.{rule18}
+use Rattle.judge.specs.Message.{messageRules, verdictOf}
+use Rattle.judge.proofs.SmallLaws.{verdict-small}
+use Rattle.frame.proofs.SmallLaws as verdicts
+use Rattle.records.specs.Rule19.{number}
+use Rattle.sheets.specs.Gather.{sheetOf}
+use Rattle.sheets.specs.Calls.{readRules, SheetTo}
+use Rattle.trips.proofs.Theorems.{sheet-size}
+use Rattle.answers.specs.Line.{refusalLine, shown}
+use Rattle.answers.specs.Programs.{Puts, namesType, messageIn, typeRule, sheetVerdict, sheetAnswer, SheetAnswered}
+use Rattle.answers.specs.Steps.{Held, shownOf, ReadsNamed}
+use Rattle.answers.proofs.CallLaws.{held, shown-is, puts-done, puts-front}
+use Rattle.answers.proofs.Theorems.{line-fits}
+
+-- any two outcomes are equal, lent units counted
+pub sheet-answer-one : (i out : List ℕ) {r q : Outcome} {a b : List ℕ} → SheetAnswered i out r a → SheetAnswered i out q b → (r ≡ q) × (a ≡ b)
+unfolding SheetAnswered
+sheet-answer-one i out g h = gives-one g h
+
+-- ---- the type in front
+pub reads-untyped : (i m : List ℕ) → namesType i ≡ false → ReadsNamed i m (Refused 18 0) m
+reads-untyped i m e = gives-refused _ _ m 18 0 (ap (λ (b : Bool). then (pick b Fine (Broken 18 0)) (first (readRules (number i) (messageIn i) m))) e)
+
+pub reads-typed : (i m : List ℕ) {kind : ℕ} {t after : List ℕ} {r : Outcome} → namesType i ≡ true → kind ≡ number i → t ≡ messageIn i → SheetTo kind t m r after → ReadsNamed i m r after
+unfolding SheetTo
+reads-typed i m {kind} {t} {after} {r} e k q g =
+    gives-past (ap (λ (b : Bool). pick b Fine (Broken 18 0)) e)
+    (subst (λ (x : List ℕ). SheetTo (number i) x m r after) q (subst (λ (x : ℕ). SheetTo x t m r after) k g))
+
+-- ---- with 10,000 bytes the room is never too short
+room-last : (i m : List ℕ) → length m ≡ limit → first (typeRule i ∷ readRules (number i) (messageIn i) m) ≡ sheetVerdict i
+unfolding verdictOf
+room-last i m l = first-last (typeRule i ∷ messageRules (number i) (messageIn i)) (short (sheetOf (number i) (messageIn i)) m) ∙ go (sheetVerdict i) refl
+  where
+    go : (v : Verdict) → sheetVerdict i ≡ v → then v (short (sheetOf (number i) (messageIn i)) m) ≡ v
+    go (Broken n p) e = refl
+    go Fine e =
+        not-short (sheetOf (number i) (messageIn i)) m
+        (omega (arith, sheet-size (number i) (messageIn i) (then-clean (typeRule i) (first (messageRules (number i) (messageIn i))) e .1)))
+
+module _ (i old m : List ℕ) (l : length old ≡ limit) (a : Outcome) (g : ReadsNamed i old a m) where
+  pub sheet-held : Held a m
+  sheet-held = held _ _ old m g
+
+  pub sheet-answered : {out after : List ℕ} {r : Outcome} → Puts (shownOf a m) out r after → SheetAnswered i out r after
+  unfolding SheetAnswered sheetAnswer
+  sheet-answered {out} {after} {r} h =
+      subst (λ (t : List ℕ). Puts t out r after) (shown-is _ _ old m g ∙ ap (λ (v : Verdict). shown v (sheetOf (number i) (messageIn i))) (room-last i old l)) h
+
+-- ---- it fits 10,000 bytes
+fits-by : (i : List ℕ) (v : Verdict) → sheetVerdict i ≡ v → length (shown v (sheetOf (number i) (messageIn i))) ≤ limit
+unfolding verdictOf
+fits-by i Fine e = sheet-size (number i) (messageIn i) (then-clean (typeRule i) (first (messageRules (number i) (messageIn i))) e .1)
+fits-by i (Broken n p) e = go (namesType i) (first (messageRules (number i) (messageIn i))) (verdict-small (number i) (messageIn i)) e
+  where
+    go : (b : Bool) (v : Verdict) → verdicts.Small 10000 v → then (pick b Fine (Broken 18 0)) v ≡ Broken n p → length (refusalLine n p) ≤ limit
+    go true Fine s f = absurd (fine-broken n p f)
+    go true (Broken k q) s f = let x : k ≡ n = cc in let y : q ≡ p = cc in omega (arith, line-fits n p (omega (arith, s .0)) (omega (arith, s .1)))
+    go false v s f = let x : 18 ≡ n = cc in let y : 0 ≡ p = cc in omega (arith, line-fits n p (omega arith) (omega arith))
+
+pub sheet-answer-fits : (i : List ℕ) → length (sheetAnswer i) ≤ limit
+unfolding sheetAnswer
+sheet-answer-fits i = fits-by i (sheetVerdict i) refl
+
+pub sheet-done : (i out after : List ℕ) (r : Outcome) → limit ≤ length out → SheetAnswered i out r after → (r ≡ Done (length (sheetAnswer i))) × (after ≡ over (sheetAnswer i) out)
+unfolding SheetAnswered
+sheet-done i out after r h g = puts-done (sheetAnswer i) out after r (omega (arith, sheet-answer-fits i)) g
+
+pub sheet-front : (i out after : List ℕ) (r : Outcome) (k : ℕ) → SheetAnswered i out r after → r ≡ Done k → (k ≤ length after) × (take k after ≡ sheetAnswer i)
+unfolding SheetAnswered
+sheet-front i out after r k g e = puts-front (sheetAnswer i) out after r k g e
+
+-- ---- what stands behind the first 10,005 bytes changes nothing
+over-verdict : (kind : ℕ) (m : List ℕ) → limit < length m → verdictOf kind m ≡ then (rule18 kind) (Broken 1 limit)
+unfolding verdictOf rule1
+over-verdict kind m h = rw (is-long limit m h)
+
+over-answer : (i : List ℕ) → limit < length (messageIn i) → sheetVerdict i ≡ then (typeRule i) (then (rule18 (number i)) (Broken 1 limit))
+unfolding verdictOf
+over-answer i h = ap (then (typeRule i)) (over-verdict (number i) (messageIn i) h)
+
+never-fine : (v w : Verdict) (n p : ℕ) → then v (then w (Broken n p)) ≡ Fine → ⊥
+never-fine Fine Fine n p e = fine-broken n p (sym e)
+never-fine Fine (Broken k q) n p e = fine-broken k q (sym e)
+never-fine (Broken k q) w n p e = fine-broken k q (sym e)
+
+shown-same : (v w : Verdict) (t u : List ℕ) → v ≡ w → (v ≡ Fine → ⊥) → shown v t ≡ shown w u
+shown-same v Fine t u e n = absurd (n e)
+shown-same v (Broken k q) t u e n = ap (λ (x : Verdict). shown x t) e
+
+same-front : (i : List ℕ) (n k : ℕ) → k < n → byte (take n i) k ≡ byte i k
+same-front i zero k h = absurd (omega arith)
+same-front [] (suc n) k h = refl
+same-front (x ∷ i) (suc n) zero h = refl
+same-front (x ∷ i) (suc n) (suc k) h = same-front i n k (omega arith)
+
+pub sheet-answer-read : (i : List ℕ) → sheetAnswer (take (limit + 5) i) ≡ sheetAnswer i
+unfolding sheetAnswer namesType
+sheet-answer-read i = go (decLt (limit + 5) (length i))
+  where
+    j : List ℕ
+    j = take (limit + 5) i
+
+    same : (k : ℕ) → k < limit + 5 → byte j k ≡ byte i k
+    same k h = same-front i (limit + 5) k h
+
+    kinds : number j ≡ number i
+    kinds = rw (same 0 (omega arith), same 1 (omega arith), same 2 (omega arith)) refl
+
+    types : namesType j ≡ namesType i
+    types = rw (same 0 (omega arith), same 1 (omega arith), same 2 (omega arith), same 3 (omega arith)) refl
+
+    go : Dec (limit + 5 < length i) → sheetAnswer j ≡ sheetAnswer i
+    go (no h) = ap sheetAnswer (take-all (limit + 5) i (omega arith))
+    go (yes h) =
+        let a : limit < length (messageIn j) = omega (arith, length-drop 4 j, length-take-le (limit + 5) i (omega arith)) in
+        let b : limit < length (messageIn i) = omega (arith, length-drop 4 i) in
+        let v : sheetVerdict j ≡ sheetVerdict i =
+        over-answer j a ∙ ap₂ (λ (q : Bool) (k : ℕ). then (pick q Fine (Broken 18 0)) (then (rule18 k) (Broken 1 limit))) types kinds ∙ sym (over-answer i b) in
+        shown-same (sheetVerdict j) (sheetVerdict i) _ _ v (λ e. never-fine (typeRule j) (rule18 (number j)) 1 limit (sym (over-answer j a) ∙ e))

@@ -1,0 +1,159 @@
+-- What the answers say: the message where `to_message` writes it, else the line of the first broken rule, never both; any two outcomes are
+-- equal; 10,000 bytes always have room; and what stands behind the first 10,001 bytes of a sheet changes nothing (R2, R3, O2, K9).
+-- Assumes nothing.
+use Prim.Native.Nat.{ℕ, _+_, _<_, _≤_}
+use mathlib.Core.Path.{_≡_, refl, sym, ap, _∙_, subst}
+use mathlib.Core.Bool.{Bool, true, false, not}
+use mathlib.Core.List.{List, [], _∷_, _++_}
+use mathlib.Core.Logic.{_↔_}
+use native.Mathlib.Omega.{arith}
+use native.Mathlib.Decide.{decLt}
+use lib.ListN.{length, take, drop, length-append}
+use lib.Seq.{take-all, length-take-le}
+use borrow.Author.Tests.{ne-eqb}
+use Rattle.base.specs.Bytes.{digit, other, without, begins}
+use Rattle.base.specs.Calls.{over, outcome, Gives}
+use Rattle.base.specs.declared.Verdict.{Verdict}
+use Rattle.base.specs.declared.Verdict.the-variants.{Fine, Broken}
+use Rattle.base.specs.declared.Outcome.{Outcome}
+use Rattle.base.specs.declared.Outcome.the-variants.{Done, Refused}
+use Rattle.base.proofs.RuleLaws.{Clean, first-clean}
+use Rattle.base.proofs.Bools.{all-imp}
+use Rattle.base.proofs.ByteLaws.{digit-range}
+use Rattle.base.proofs.CallLaws.{gives-one, accepted, refused, within-limit}
+use Rattle.fields.specs.Field.{upto, past, message}
+use Rattle.fields.specs.Frame.{limit, rule1}
+use Rattle.fields.proofs.TagLaws.{upto-at, past-at}
+use Rattle.judge.specs.Message.{messageRules, verdictOf}
+use Rattle.records.specs.Rule19.{sheetType}
+use Rattle.values.specs.Number.{number}
+use Rattle.writer.specs.Sheet.{sheetRules, ownRule, messageFor, writeRules, MessageTo}
+use Rattle.written.proofs.OwnLaws.{own-fine}
+use Rattle.answers.specs.Line.{decimal, refusalLine, shown}
+use Rattle.answers.specs.Programs.{messageVerdict, messageAnswer, MessageAnswered}
+use Rattle.answers.proofs.DigitLaws.{decimal-value, decimal-digits, size-most}
+use Rattle.answers.proofs.VerdictLaws.{over-limit, room-verdict, fine-verdict}
+use Rattle.answers.proofs.PlaceLaws.{refusal-within}
+use Rattle.answers.proofs.CallLaws.{done-held, puts-done, puts-front}
+
+-- any two outcomes are equal, lent units counted
+pub answer-one : (s out : List ℕ) {r q : Outcome} {a b : List ℕ} → MessageAnswered s out r a → MessageAnswered s out q b → (r ≡ q) × (a ≡ b)
+unfolding MessageAnswered
+answer-one s out g h = gives-one g h
+
+-- ---- a line stands for one refusal
+no-mark : (c n : ℕ) → c < 48 → without c (decimal n) ≡ true
+no-mark c n k = all-imp digit (other c) (λ x e. let h = digit-range x e in ap not (ne-eqb x c (λ z. omega arith))) (decimal n) (decimal-digits n)
+
+abbrev behindWord : List ℕ → List ℕ
+behindWord l = drop 8 l
+
+pub line-number : (n p : ℕ) → number (upto 9 (behindWord (refusalLine n p))) ≡ n
+unfolding refusalLine
+line-number n p = ap number (upto-at 9 (decimal n) (decimal p ++ 10 ∷ []) (no-mark 9 n (omega arith))) ∙ decimal-value n
+
+pub line-place : (n p : ℕ) → number (upto 10 (past 9 (behindWord (refusalLine n p)))) ≡ p
+unfolding refusalLine
+line-place n p =
+    ap (λ (l : List ℕ). number (upto 10 l)) (past-at 9 (decimal n) (decimal p ++ 10 ∷ []) (no-mark 9 n (omega arith)))
+    ∙ ap number (upto-at 10 (decimal p) [] (no-mark 10 p (omega arith))) ∙ decimal-value p
+
+pub line-one : (n p m q : ℕ) → refusalLine n p ≡ refusalLine m q → (n ≡ m) × (p ≡ q)
+line-one n p m q e = (
+  sym (line-number n p) ∙ ap (λ (l : List ℕ). number (upto 9 (behindWord l))) e ∙ line-number m q,
+  sym (line-place n p) ∙ ap (λ (l : List ℕ). number (upto 10 (past 9 (behindWord l)))) e ∙ line-place m q,
+)
+
+-- and is no message
+pub line-apart : (n p : ℕ) (s : List ℕ) → refusalLine n p ≡ messageFor s → ⊥
+unfolding refusalLine messageFor message
+line-apart n p s e = let z : _≡_ {A = Bool} true false = ap (begins 114) e in let y : _≡_ {A = ℕ} 0 1 = cc in omega arith
+
+-- ---- the two ways, whatever room the call has that is enough for the message
+module _ (s out : List ℕ) (r : Outcome) (after : List ℕ) (g : MessageTo s out r after) where
+  pub answer-message : (n : ℕ) → r ≡ Done n → messageAnswer s ≡ take n after
+  unfolding MessageTo messageAnswer
+  answer-message n e =
+      let w : Gives (writeRules s out) (messageFor s) out (Done n) after = subst (λ (q : Outcome). Gives (writeRules s out) (messageFor s) out q after) e g in
+      ap (λ (v : Verdict). shown v (messageFor s)) (fine-verdict s out (accepted (writeRules s out) (messageFor s) out n after w .clean)) ∙ sym (done-held (writeRules s out) (messageFor s) out after w .1)
+
+  module _ (h : length (messageFor s) ≤ length out) where
+    pub answer-refused : (n p : ℕ) → r ≡ Refused n p → messageAnswer s ≡ refusalLine n p
+    unfolding MessageTo messageAnswer
+    answer-refused n p e =
+        let w : Gives (writeRules s out) (messageFor s) out (Refused n p) after = subst (λ (q : Outcome). Gives (writeRules s out) (messageFor s) out q after) e g in
+        ap (λ (v : Verdict). shown v (messageFor s)) (sym (room-verdict s out h) ∙ refused (writeRules s out) (messageFor s) out n p after w .0)
+
+    by-verdict : (v : Verdict) → messageVerdict s ≡ v → r ≡ outcome v (length (messageFor s))
+    unfolding MessageTo
+    by-verdict v e = g .answers ∙ ap (λ (u : Verdict). outcome u (length (messageFor s))) (room-verdict s out h ∙ e)
+
+    -- the message exactly if the call writes it, a refusal's line exactly if the call gives that refusal
+    pub exact-message : (messageAnswer s ≡ messageFor s) ↔ (r ≡ Done (length (messageFor s)))
+    unfolding messageAnswer
+    exact-message = (go (messageVerdict s) refl, back (messageVerdict s) refl)
+      where
+        go : (v : Verdict) → messageVerdict s ≡ v → shown v (messageFor s) ≡ messageFor s → r ≡ Done (length (messageFor s))
+        go Fine e f = by-verdict Fine e
+        go (Broken n p) e f = absurd (line-apart n p s f)
+
+        back : (v : Verdict) → messageVerdict s ≡ v → r ≡ Done (length (messageFor s)) → shown v (messageFor s) ≡ messageFor s
+        back Fine e f = refl
+        back (Broken n p) e f = let x = by-verdict (Broken n p) e in let z : _≡_ {A = ℕ} 0 1 = cc in absurd (omega arith)
+
+    pub exact-refused : (n p : ℕ) → (messageAnswer s ≡ refusalLine n p) ↔ (r ≡ Refused n p)
+    unfolding messageAnswer
+    exact-refused n p = (go (messageVerdict s) refl, answer-refused n p)
+      where
+        go : (v : Verdict) → messageVerdict s ≡ v → shown v (messageFor s) ≡ refusalLine n p → r ≡ Refused n p
+        go Fine e f = absurd (line-apart n p s (sym f))
+        go (Broken m q) e f = let k = line-one m q n p f in let a = k .0 in let b = k .1 in let x = by-verdict (Broken m q) e in cc
+
+-- ---- 10,000 bytes have room for every answer
+pub line-fits : (n p : ℕ) → n ≤ 19 → p ≤ limit → length (refusalLine n p) ≤ 17
+unfolding refusalLine
+line-fits n p a b =
+    omega (arith, length-append (decimal n) (9 ∷ (decimal p ++ 10 ∷ [])), length-append (decimal p) (10 ∷ []), size-most 1 n (omega arith), size-most 4 p (omega arith))
+
+module _ (s : List ℕ) where
+  message-fits : messageVerdict s ≡ Fine → length (messageFor s) ≤ limit
+  unfolding verdictOf rule1
+  message-fits e =
+      let c = first-clean (sheetRules s ++ ownRule s ∷ []) e in
+      let k : Clean (sheetRules s) = (c .0, (c .1 .0, (c .1 .1 .0, (c .1 .1 .1 .0, (c .1 .1 .1 .1 .0, tt))))) in
+      within-limit limit (messageFor s) (first-clean (messageRules (sheetType s) (messageFor s)) (own-fine s k (c .1 .1 .1 .1 .1 .0)) .1 .0)
+
+  pub answer-fits : length (messageAnswer s) ≤ limit
+  unfolding messageAnswer
+  answer-fits = go (messageVerdict s) refl
+    where
+      go : (v : Verdict) → messageVerdict s ≡ v → length (shown v (messageFor s)) ≤ limit
+      go Fine e = message-fits e
+      go (Broken n p) e =
+          let w = refusal-within s n p e in
+          omega (arith, line-fits n p (w .0) (w .1))
+
+-- so with that room the answer is always there
+pub answer-done : (s out after : List ℕ) (r : Outcome) → limit ≤ length out → MessageAnswered s out r after → (r ≡ Done (length (messageAnswer s))) × (after ≡ over (messageAnswer s) out)
+unfolding MessageAnswered
+answer-done s out after r h g = puts-done (messageAnswer s) out after r (omega (arith, answer-fits s)) g
+
+-- the units reported are the answer
+pub answer-front : (s out after : List ℕ) (r : Outcome) (k : ℕ) → MessageAnswered s out r after → r ≡ Done k → (k ≤ length after) × (take k after ≡ messageAnswer s)
+unfolding MessageAnswered
+answer-front s out after r k g e = puts-front (messageAnswer s) out after r k g e
+
+-- ---- what stands behind the first 10,001 bytes changes nothing
+pub answer-over : (s : List ℕ) → limit < length s → messageAnswer s ≡ refusalLine 1 limit
+unfolding messageAnswer
+answer-over s h = ap (λ (v : Verdict). shown v (messageFor s)) (over-limit s h)
+
+pub answer-cut : (s t : List ℕ) → limit < length s → messageAnswer (s ++ t) ≡ messageAnswer s
+answer-cut s t h = answer-over (s ++ t) (omega (arith, length-append s t)) ∙ sym (answer-over s h)
+
+pub answer-read : (s : List ℕ) → messageAnswer (take (limit + 1) s) ≡ messageAnswer s
+answer-read s = go (decLt limit (length s))
+  where
+    go : Dec (limit < length s) → messageAnswer (take (limit + 1) s) ≡ messageAnswer s
+    go (yes h) = answer-over (take (limit + 1) s) (omega (arith, length-take-le (limit + 1) s (omega arith))) ∙ sym (answer-over s h)
+    go (no h) = ap messageAnswer (take-all (limit + 1) s (omega arith))

@@ -1,0 +1,4 @@
+pub mod Line
+pub mod Programs
+pub mod Steps
+pub mod Cases

@@ -1,0 +1,26 @@
+-- A refusal as a line: `refused`, number and place in decimal digits, tabs between, LF; and what a verdict and a text are shown as (R3).
+-- Assumes nothing.
+use Prim.Native.Nat.{ℕ, zero, suc, _+_, _/_, _%_}
+use mathlib.Core.List.{List, [], _∷_, _++_}
+use lib.Dec.{ltb}
+use Rattle.base.specs.Choice.{pick}
+use Rattle.base.specs.Quoted.{bytes}
+use Rattle.base.specs.declared.Verdict.{Verdict}
+use Rattle.base.specs.declared.Verdict.the-variants.{Fine, Broken}
+
+-- the last digits of n, at most k of them and no 0 in front
+unfoldable pub digitsIn : ℕ → ℕ → List ℕ
+digitsIn zero n = []
+digitsIn (suc k) n = pick (ltb n 10) [] (digitsIn k (n / 10)) ++ (48 + n % 10) ∷ []
+
+-- all of them: n has no more than n + 1
+unfoldable pub decimal : ℕ → List ℕ
+decimal n = digitsIn (suc n) n
+
+unfoldable pub refusalLine : ℕ → ℕ → List ℕ
+refusalLine number place = bytes "refused" ++ 9 ∷ (decimal number ++ 9 ∷ (decimal place ++ 10 ∷ []))
+
+-- the text where no rule is broken, else the line of the first that is
+abbrev pub shown : Verdict → List ℕ → List ℕ
+shown Fine t = t
+shown (Broken number place) t = refusalLine number place

@@ -1,0 +1,54 @@
+-- The whole output of a program for its whole input (R1-R3, O1, O2). Assumes nothing.
+use Prim.Native.Nat.{ℕ}
+use mathlib.Core.Bool.{Bool, _&&_}
+use mathlib.Core.List.{List, [], _∷_, _++_}
+use lib.Dec.{eqb}
+use lib.ListN.{drop}
+use Rattle.base.specs.Choice.{pick}
+use Rattle.base.specs.Bytes.{byte, digit}
+use Rattle.base.specs.Rules.{first}
+use Rattle.base.specs.Calls.{short, Gives}
+use Rattle.base.specs.declared.Verdict.{Verdict}
+use Rattle.base.specs.declared.Verdict.the-variants.{Fine, Broken}
+use Rattle.base.specs.declared.Outcome.{Outcome}
+use Rattle.judge.specs.Message.{messageRules}
+use Rattle.records.specs.Rule19.{number}
+use Rattle.writer.specs.Sheet.{sheetRules, ownRule, messageFor}
+use Rattle.sheets.specs.Gather.{sheetOf}
+use Rattle.answers.specs.Line.{shown}
+
+-- the order of writing without 17: a program has room enough
+abbrev pub messageVerdict : List ℕ → Verdict
+messageVerdict s = first (sheetRules s ++ ownRule s ∷ [])
+
+-- `tomessage`: the message for the sheet, or its refusal
+unfoldable pub messageAnswer : List ℕ → List ℕ
+messageAnswer s = shown (messageVerdict s) (messageFor s)
+
+-- a text put into the room lent, refused only by 17
+abbrev pub Puts : List ℕ → List ℕ → Outcome → List ℕ → Type 0
+Puts t out r after = Gives (short t out ∷ []) t out r after
+
+unfoldable pub MessageAnswered : List ℕ → List ℕ → Outcome → List ℕ → Type 0
+MessageAnswered s out r after = Puts (messageAnswer s) out r after
+
+-- `tosheet`: three digits and LF, then a message of that type
+unfoldable pub namesType : List ℕ → Bool
+namesType i = digit (byte i 0) && (digit (byte i 1) && (digit (byte i 2) && eqb (byte i 3) 10))
+
+abbrev pub messageIn : List ℕ → List ℕ
+messageIn i = drop 4 i
+
+-- 18 where no type is named; the rules of the message else, places counted from its first byte
+abbrev pub typeRule : List ℕ → Verdict
+typeRule i = pick (namesType i) Fine (Broken 18 0)
+
+abbrev pub sheetVerdict : List ℕ → Verdict
+sheetVerdict i = first (typeRule i ∷ messageRules (number i) (messageIn i))
+
+-- the sheet of the message, or its refusal
+unfoldable pub sheetAnswer : List ℕ → List ℕ
+sheetAnswer i = shown (sheetVerdict i) (sheetOf (number i) (messageIn i))
+
+unfoldable pub SheetAnswered : List ℕ → List ℕ → Outcome → List ℕ → Type 0
+SheetAnswered i out r after = Puts (sheetAnswer i) out r after

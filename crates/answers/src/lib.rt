@@ -1,0 +1,3 @@
+// Whole answers of the programs: the output, or the line of the refusal.
+pub mod calls;
+mod line;

@@ -1,0 +1,33 @@
+-- A message read place by place (K2, K5). Assumes nothing.
+use Prim.Native.Nat.{ℕ, zero, suc, _-_}
+use mathlib.Core.Bool.{Bool, not}
+use mathlib.Core.List.{List}
+use lib.Dec.{eqb, leb}
+use Rattle.base.specs.Choice.{pick}
+use Rattle.base.specs.Bytes.{empty}
+use Rattle.base.specs.Bits.{bit}
+use Rattle.message.specs.Calls.{contentOf}
+
+-- the first of n numbers from i on that passes, or the one behind them
+unfoldable pub firstFrom : (ℕ → Bool) → ℕ → ℕ → ℕ
+firstFrom test i zero = i
+firstFrom test i (suc n) = pick (test i) i (firstFrom test (suc i) n)
+
+-- the first place behind this one that has a content; 32, which no type has, where there is none
+abbrev pub filled : ℕ → List ℕ → ℕ → Bool
+filled kind m i = not (empty (contentOf kind m i))
+
+unfoldable pub placeBehind : ℕ → List ℕ → ℕ → ℕ
+placeBehind kind m place = pick (leb 32 place) 32 (firstFrom (filled kind m) (suc place) (31 - place))
+
+-- the place at hand after k moves from the first
+unfoldable pub placeAfter : ℕ → List ℕ → ℕ → ℕ
+placeAfter kind m zero = 0
+placeAfter kind m (suc k) = placeBehind kind m (placeAfter kind m k)
+
+-- the same of a word's bits, from a place on
+abbrev pub isSet : ℕ → ℕ → Bool
+isSet w i = eqb (bit w i) 1
+
+unfoldable pub nextBit : ℕ → ℕ → ℕ
+nextBit w from = pick (leb 32 from) 32 (firstFrom (isSet w) from (32 - from))
