@@ -1,12 +1,29 @@
-// Takes stored messages through the check, the parts of their places, the kopecks and the date, and writes what the calls answer.
+// Takes stored messages through the check, the parts of their places, the kopecks, the date and `to_sheet`, stored sheets through `to_message`,
+// each there and back, and writes what the calls answer.
+ghost use Prim.Native.Nat.{_≤_};
+ghost use Rattle.checks.specs.Records.{most};
+
 mod answers;
-mod records;
+mod entries;
+mod returns;
+mod written;
 
 use answers::answer;
+use entries::Form;
+use entries::record_at;
 use libc::STDIN_FILENO;
 use libc::STDOUT_FILENO;
-use records::Form;
-use records::record_at;
+use written::tell_message;
+
+fn answer_record(kind: u32, room: usize, m: &[u8])
+    requires { ⌜ room ≤ most kind ⌝ }
+{
+    if kind == 0 {
+        tell_message(room, m);
+        return;
+    }
+    answer(kind, room, m);
+}
 
 // Up to the first record of wrong form.
 fn go_through(list: &[u8]) {
@@ -22,7 +39,7 @@ fn go_through(list: &[u8]) {
             io::write_all(STDOUT_FILENO, b"a record of wrong form\n");
             return;
         };
-        answer(kind, room, &list[start..end]);
+        answer_record(kind, room, &list[start..end]);
         at = end + 1;
     }
 }

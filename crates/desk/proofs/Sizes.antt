@@ -1,4 +1,4 @@
--- The answers of the calls on a message fit one word. Assumes nothing.
+-- The answers of the calls fit one word (K4). Assumes nothing.
 use Prim.Native.Nat.{ℕ, zero, suc, _+_, _-_, _^_, _<_, _≤_}
 use mathlib.Core.Path.{_≡_, refl, sym, ap, _∙_, subst}
 use mathlib.Core.Bool.{Bool, true, false}
@@ -12,12 +12,16 @@ use Rattle.base.specs.Choice.{pick}
 use Rattle.base.specs.Bytes.{between}
 use Rattle.base.specs.Quoted.{bytes}
 use Rattle.base.specs.Rules.{then, first}
-use Rattle.base.specs.Calls.{short}
+use Rattle.base.specs.Calls.{short, outcome}
+use Rattle.base.specs.declared.Outcome.{Outcome}
+use Rattle.base.specs.declared.Outcome.the-variants.{Done, Refused}
 use Rattle.base.specs.declared.Verdict.{Verdict}
 use Rattle.base.specs.declared.Verdict.the-variants.{Fine, Broken}
 use Rattle.base.proofs.ByteLaws.{Bytes}
 use Rattle.base.proofs.RuleLaws.{first-last}
+use Rattle.alphabets.proofs.Outcomes.{Small}
 use Rattle.fields.specs.Field.{fields}
+use Rattle.fields.specs.Frame.{limit}
 use Rattle.fields.specs.Places.{listed}
 use Rattle.fields.proofs.PlaceLaws.{listed-length}
 use Rattle.types.proofs.TableLaws.{few-places}
@@ -40,7 +44,44 @@ use Rattle.judge.proofs.SmallLaws.{verdict-small}
 use Rattle.message.specs.declared.Checked.{Checked}
 use Rattle.message.specs.Calls.{checkedBy, Checks, spanBy, spanOf, partOf, contentOf, paid, amountBy, amountOf, dayBy, dayOf, Inside}
 use Rattle.message.proofs.PartLaws.{inside-clean}
-use Rattle.desk.specs.Sizes.{SmallCheck, SmallSpan, SmallAmount, SmallDay}
+use Rattle.writer.specs.Sheet.{MessageTo}
+use Rattle.written.proofs.SizeLaws.{refused-small, written-small}
+use Rattle.sheets.specs.Gather.{sheetOf}
+use Rattle.sheets.specs.Calls.{SheetTo}
+use Rattle.trips.proofs.Theorems.{sheet-size}
+use Rattle.desk.specs.Sizes.{Fits, SmallOutcome, SmallCheck, SmallSpan, SmallAmount, SmallDay}
+
+-- ---- refusals of messages and texts
+fits : (n p : ℕ) → (n ≤ 18) × (p ≤ 10000) → Fits n p
+fits n p h = (omega (arith, h .0), omega (arith, h .1))
+
+pub text-small : (o : Outcome) → Small o → SmallOutcome o
+text-small (Done n) h = omega arith
+text-small (Refused n p) h = fits n p (omega (arith, h .0), h .1)
+
+-- ---- the message for a sheet
+pub message-small : (s out : List ℕ) (r : Outcome) (after : List ℕ) → MessageTo s out r after → SmallOutcome r
+message-small s out (Done n) after g = omega (arith, written-small s out after n g)
+message-small s out (Refused n p) after g = let h = refused-small s out after n p g in (h .0, omega (arith, h .1))
+
+-- ---- the sheet of a message: 17 stands only behind an accepted one, whose sheet is within the limit
+room-small : (t out : List ℕ) → length t ≤ limit → SmallOutcome (outcome (short t out) (length t))
+unfolding short
+room-small t out h = go (ltb (length out) (length t))
+  where
+    go : (q : Bool) → SmallOutcome (outcome (pick q (Broken 17 (length t)) Fine) (length t))
+    go true = fits 17 (length t) (omega arith, h)
+    go false = omega (arith, h)
+
+pub sheet-small : (kind : ℕ) (m out : List ℕ) (r : Outcome) (after : List ℕ) → SheetTo kind m out r after → SmallOutcome r
+unfolding SheetTo verdictOf
+sheet-small kind m out r after g =
+    subst SmallOutcome (sym (g .answers ∙ ap (λ (v : Verdict). outcome v (length (sheetOf kind m))) (first-last (messageRules kind m) (short (sheetOf kind m) out))))
+    (go (first (messageRules kind m)) refl (verdict-small kind m))
+  where
+    go : (v : Verdict) → verdictOf kind m ≡ v → verdicts.Small 10000 v → SmallOutcome (outcome (then v (short (sheetOf kind m) out)) (length (sheetOf kind m)))
+    go Fine e s = room-small (sheetOf kind m) out (sheet-size kind m e)
+    go (Broken n p) e s = fits n p s
 
 -- ---- the check
 fine-small : (kind : ℕ) (m list : List ℕ) → verdictOf kind m ≡ Fine → SmallCheck (checkedBy (short (listed 5 (fields m)) list) (length (fields m)) (wordOf kind m))
@@ -59,7 +100,7 @@ check-small kind m list r after g =
   where
     go : (v : Verdict) → verdictOf kind m ≡ v → verdicts.Small 10000 v → SmallCheck (checkedBy (then v (short (listed 5 (fields m)) list)) (length (fields m)) (wordOf kind m))
     go Fine e s = fine-small kind m list e
-    go (Broken n p) e s = s
+    go (Broken n p) e s = fits n p s
 
 -- ---- the part of a place
 inside-small : (m : List ℕ) (s : Span) → length m ≤ 10000 → Inside m s → SmallSpan s
@@ -81,7 +122,7 @@ amount-small kind m = go (verdictOf kind m) (verdict-small kind m)
   where
     go : (v : Verdict) → verdicts.Small 10000 v → SmallAmount (amountBy v (kopecksOf (paid kind m)))
     go Fine s = tt
-    go (Broken n p) s = s
+    go (Broken n p) s = fits n p s
 
 pub day-small : (kind : ℕ) (m : List ℕ) → SmallDay (dayOf kind m)
 unfolding dayOf
@@ -89,7 +130,7 @@ day-small kind m = go (verdictOf kind m) (verdict-small kind m)
   where
     go : (v : Verdict) → verdicts.Small 10000 v → SmallDay (dayBy v (dateOf (paid kind m)))
     go Fine s = tt
-    go (Broken n p) s = s
+    go (Broken n p) s = fits n p s
 
 -- parts of bytes are bytes
 take-bytes : (n : ℕ) (s : List ℕ) → Bytes s → Bytes (take n s)

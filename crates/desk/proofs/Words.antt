@@ -1,7 +1,7 @@
 -- Words that stand for answers: each stands for one (K4, K9). Assumes nothing.
-use Prim.Native.Nat.{ℕ, zero, suc, _+_, _*_, _/_, _%_, _^_, _<_, _≤_}
+use Prim.Native.Nat.{ℕ, zero, suc, _<_}
 use mathlib.Core.Path.{_≡_, refl, sym, ap, _∙_}
-use mathlib.Core.Bool.{Bool, true, false, not}
+use mathlib.Core.Bool.{not}
 use mathlib.Core.List.{List}
 use mathlib.Core.Logic.{_↔_}
 use native.Mathlib.Omega.{arith}
@@ -9,7 +9,7 @@ use lib.Dec.{eqb}
 use borrow.Author.Tests.{ne-eqb}
 use Rattle.base.specs.declared.Outcome.{Outcome}
 use Rattle.base.specs.declared.Outcome.the-variants.{Done, Refused}
-use Rattle.alphabets.proofs.Outcomes.{Small, read-one, write-one, read-small, write-small}
+use Rattle.alphabets.proofs.Outcomes.{read-one, write-one, read-small, write-small}
 use Rattle.base.specs.declared.Verdict.{Verdict}
 use Rattle.base.specs.declared.Verdict.the-variants.{Fine, Broken}
 use Rattle.base.proofs.ByteLaws.{Bytes}
@@ -20,17 +20,19 @@ use Rattle.message.specs.declared.Checked.{Checked}
 use Rattle.message.specs.declared.Checked.the-variants as checked
 use Rattle.message.specs.Calls.{paid, amountBy, amountOf, daySplit, dayBy, dayOf}
 use Rattle.message.proofs.Theorems.{checks-one}
+use Rattle.written.proofs.Theorems.{message-one}
+use Rattle.sheets.proofs.Theorems.{sheet-one}
 use Rattle.desk.specs.Answer.{word, checkedWord, amountWord, dayWord, isOn}
-use Rattle.desk.specs.Exports.{ReadWord, WrittenWord, CheckWord}
-use Rattle.desk.specs.Sizes.{SmallCheck}
-use Rattle.desk.proofs.Sizes.{check-small, kopecks-fit, date-fits}
+use Rattle.desk.specs.Exports.{WordOf, ReadWord, WrittenWord, CheckWord, MessageWord, SheetWord}
+use Rattle.desk.specs.Sizes.{SmallOutcome, SmallCheck}
+use Rattle.desk.proofs.Sizes.{text-small, message-small, sheet-small, check-small, kopecks-fit, date-fits}
 
 pub on-is : (sign : ℕ) → not (eqb sign 0) ≡ isOn sign
 on-is zero = refl
 on-is (suc n) = rw (ne-eqb (suc n) 0 (omega arith))
 
 -- a small answer is told by its word
-pub word-one : (o p : Outcome) → Small o → Small p → word o ≡ word p → o ≡ p
+pub word-one : (o p : Outcome) → SmallOutcome o → SmallOutcome p → word o ≡ word p → o ≡ p
 word-one (Done n) (Done m) a b e = ap Done e
 word-one (Done n) (Refused k p) a b e = absurd (omega arith)
 word-one (Refused k p) (Done n) a b e = absurd (omega arith)
@@ -44,41 +46,52 @@ word-one (Refused k p) (Refused j q) a b e =
     ap (λ (n : ℕ). Refused n p) f ∙ ap (Refused j) g
 
 -- below 2^63 exactly if accepted
-pub below-iff : (o : Outcome) → Small o → (word o < 9223372036854775808) ↔ ((n : ℕ) × (o ≡ Done n))
+pub below-iff : (o : Outcome) → SmallOutcome o → (word o < 9223372036854775808) ↔ ((n : ℕ) × (o ≡ Done n))
 below-iff (Done n) a = ((λ h. (n, refl)), (λ h. omega arith))
 below-iff (Refused k p) a = ((λ h. absurd (omega arith)), (λ h. absurd (apart (h .0) (h .1))))
   where
     apart : (n : ℕ) → Refused k p ≡ Done n → ⊥
     apart n e = let z : _≡_ {A = ℕ} 0 1 = cc in omega arith
 
--- any two outcomes of an export are equal, the room counted
-pub read-word-one : (sign : ℕ) (bank out : List ℕ) (r q : ℕ) (a b : List ℕ) → ReadWord sign bank out r a → ReadWord sign bank out q b → (r ≡ q) × (a ≡ b)
-read-word-one sign bank out r q a b m n =
-    let e = read-one (isOn sign) bank out (m .answer) (n .answer) a b (m .call) (n .call) in
-    (m .value ∙ ap word (e .0) ∙ sym (n .value), e .1)
+-- ---- exports over a call that lends room
+module _ {A : Type 0} {w : A → ℕ} {Call : A → List ℕ → Type 0} where
+  -- any two outcomes are equal, the room counted, where those of the call are
+  pub one-word : {r q : ℕ} {a b : List ℕ} → ((x y : A) (c d : List ℕ) → Call x c → Call y d → (x ≡ y) × (c ≡ d)) → WordOf w Call r a → WordOf w Call q b → (r ≡ q) × (a ≡ b)
+  one-word {a = a} {b = b} one m n = let e = one (m .answer) (n .answer) a b (m .call) (n .call) in (m .value ∙ ap w (e .0) ∙ sym (n .value), e .1)
 
-pub write-word-one : (sign : ℕ) (text out : List ℕ) (r q : ℕ) (a b : List ℕ) → WrittenWord sign text out r a → WrittenWord sign text out q b → (r ≡ q) × (a ≡ b)
-write-word-one sign text out r q a b m n =
-    let e = write-one (isOn sign) text out (m .answer) (n .answer) a b (m .call) (n .call) in
-    (m .value ∙ ap word (e .0) ∙ sym (n .value), e .1)
+  -- number and place fit, where every answer of the call is small
+  pub word-fits : {r : ℕ} {a : List ℕ} (Small : A → Type 0) → ((x : A) (c : List ℕ) → Call x c → Small x) → (m : WordOf w Call r a) → Small (m .answer)
+  word-fits {a = a} Small small m = small (m .answer) a (m .call)
 
-pub check-word-one : (kind : ℕ) (m list : List ℕ) (r q : ℕ) (a b : List ℕ) → CheckWord kind m list r a → CheckWord kind m list q b → (r ≡ q) × (a ≡ b)
-check-word-one kind m list r q a b x y =
-    let e = checks-one (x .call) (y .call) in
-    (x .value ∙ ap checkedWord (e .0) ∙ sym (y .value), e .1)
+pub read-word-one : (sign : ℕ) (bank out : List ℕ) {r q : ℕ} {a b : List ℕ} → ReadWord sign bank out r a → ReadWord sign bank out q b → (r ≡ q) × (a ≡ b)
+read-word-one sign bank out = one-word (read-one (isOn sign) bank out)
 
--- number and place fit
-pub read-fits : (sign : ℕ) (bank out : List ℕ) (r : ℕ) (a : List ℕ) (m : ReadWord sign bank out r a) → Small (m .answer)
-read-fits sign bank out r a m = read-small (isOn sign) bank out (m .answer) a (m .call)
+pub write-word-one : (sign : ℕ) (text out : List ℕ) {r q : ℕ} {a b : List ℕ} → WrittenWord sign text out r a → WrittenWord sign text out q b → (r ≡ q) × (a ≡ b)
+write-word-one sign text out = one-word (write-one (isOn sign) text out)
 
-pub write-fits : (sign : ℕ) (text out : List ℕ) (r : ℕ) (a : List ℕ) (m : WrittenWord sign text out r a) → Small (m .answer)
-write-fits sign text out r a m = write-small (isOn sign) text out (m .answer) a (m .call)
+pub check-word-one : (kind : ℕ) (m list : List ℕ) {r q : ℕ} {a b : List ℕ} → CheckWord kind m list r a → CheckWord kind m list q b → (r ≡ q) × (a ≡ b)
+check-word-one kind m list = one-word (λ x y a b c d. checks-one c d)
 
-pub small-refused : (k p : ℕ) → Small (Refused k p) → (k ≤ 18) × (p ≤ 10000)
-small-refused k p s = let a = s .0 in (omega arith, s .1)
+pub message-word-one : (s out : List ℕ) {r q : ℕ} {a b : List ℕ} → MessageWord s out r a → MessageWord s out q b → (r ≡ q) × (a ≡ b)
+message-word-one s out = one-word (λ x y a b c d. message-one s out c d)
 
-pub check-fits : (kind : ℕ) (m list : List ℕ) (r : ℕ) (a : List ℕ) (x : CheckWord kind m list r a) → SmallCheck (x .answer)
-check-fits kind m list r a x = check-small kind m list (x .answer) a (x .call)
+pub sheet-word-one : (kind : ℕ) (m out : List ℕ) {r q : ℕ} {a b : List ℕ} → SheetWord kind m out r a → SheetWord kind m out q b → (r ≡ q) × (a ≡ b)
+sheet-word-one kind m out = one-word (λ x y a b c d. sheet-one kind m out c d)
+
+pub read-fits : (sign : ℕ) (bank out : List ℕ) {r : ℕ} {a : List ℕ} (m : ReadWord sign bank out r a) → SmallOutcome (m .answer)
+read-fits sign bank out = word-fits SmallOutcome (λ x a c. text-small x (read-small (isOn sign) bank out x a c))
+
+pub write-fits : (sign : ℕ) (text out : List ℕ) {r : ℕ} {a : List ℕ} (m : WrittenWord sign text out r a) → SmallOutcome (m .answer)
+write-fits sign text out = word-fits SmallOutcome (λ x a c. text-small x (write-small (isOn sign) text out x a c))
+
+pub check-fits : (kind : ℕ) (m list : List ℕ) {r : ℕ} {a : List ℕ} (x : CheckWord kind m list r a) → SmallCheck (x .answer)
+check-fits kind m list = word-fits SmallCheck (check-small kind m list)
+
+pub message-fits : (s out : List ℕ) {r : ℕ} {a : List ℕ} (m : MessageWord s out r a) → SmallOutcome (m .answer)
+message-fits s out = word-fits SmallOutcome (message-small s out)
+
+pub sheet-fits : (kind : ℕ) (m out : List ℕ) {r : ℕ} {a : List ℕ} (x : SheetWord kind m out r a) → SmallOutcome (x .answer)
+sheet-fits kind m out = word-fits SmallOutcome (sheet-small kind m out)
 
 -- a check's answer is told by its word, too
 pub checked-one : (c d : Checked) → SmallCheck c → SmallCheck d → checkedWord c ≡ checkedWord d → c ≡ d

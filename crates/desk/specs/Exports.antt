@@ -2,23 +2,29 @@
 use Prim.Native.Nat.{ℕ}
 use mathlib.Core.Path.{_≡_}
 use mathlib.Core.List.{List}
-use Rattle.base.specs.declared.Outcome.{Outcome}
 use Rattle.alphabets.specs.Text.{ReadTo, WrittenTo}
-use Rattle.message.specs.declared.Checked.{Checked}
 use Rattle.message.specs.Calls.{Checks}
+use Rattle.writer.specs.Sheet.{MessageTo}
+use Rattle.sheets.specs.Calls.{SheetTo}
 use Rattle.desk.specs.Answer.{word, checkedWord, isOn}
 
-pub record ReadWord (sign : ℕ) (bank out : List ℕ) (r : ℕ) (after : List ℕ) : Type 0 where
-  pub answer : Outcome
-  pub call : ReadTo (isOn sign) bank out answer after
-  pub value : r ≡ word answer
+-- the number returned is the word of the call's answer, and the lent room is as the call leaves it
+pub record WordOf {A : Type 0} (wordFor : A → ℕ) (Call : A → List ℕ → Type 0) (r : ℕ) (after : List ℕ) : Type 0 where
+  pub answer : A
+  pub call : Call answer after
+  pub value : r ≡ wordFor answer
 
-pub record WrittenWord (sign : ℕ) (text out : List ℕ) (r : ℕ) (after : List ℕ) : Type 0 where
-  pub answer : Outcome
-  pub call : WrittenTo (isOn sign) text out answer after
-  pub value : r ≡ word answer
+abbrev pub ReadWord : ℕ → List ℕ → List ℕ → ℕ → List ℕ → Type 0
+ReadWord sign bank out = WordOf word (ReadTo (isOn sign) bank out)
 
-pub record CheckWord (kind : ℕ) (message list : List ℕ) (r : ℕ) (after : List ℕ) : Type 0 where
-  pub answer : Checked
-  pub call : Checks kind message list answer after
-  pub value : r ≡ checkedWord answer
+abbrev pub WrittenWord : ℕ → List ℕ → List ℕ → ℕ → List ℕ → Type 0
+WrittenWord sign text out = WordOf word (WrittenTo (isOn sign) text out)
+
+abbrev pub CheckWord : ℕ → List ℕ → List ℕ → ℕ → List ℕ → Type 0
+CheckWord kind message list = WordOf checkedWord (Checks kind message list)
+
+abbrev pub MessageWord : List ℕ → List ℕ → ℕ → List ℕ → Type 0
+MessageWord sheet out = WordOf word (MessageTo sheet out)
+
+abbrev pub SheetWord : ℕ → List ℕ → List ℕ → ℕ → List ℕ → Type 0
+SheetWord kind message out = WordOf word (SheetTo kind message out)

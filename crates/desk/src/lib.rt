@@ -1,11 +1,9 @@
 // The exports for C and Rust. A slice passes as a pointer and a length.
 ghost use mathlib.Core.Path.{_≡_};
-ghost use Prim.Native.Nat.{_≤_, _<_};
-ghost use Rattle.alphabets.proofs.Outcomes.{Small};
 ghost use Rattle.message.specs.Calls.{spanOf, amountOf, dayOf};
 ghost use Rattle.desk.specs.Answer.{refusedWord, word, checkedWord, spanWord, amountWord, dayWord, isOn};
-ghost use Rattle.desk.specs.Exports.{ReadWord, WrittenWord, CheckWord};
-ghost use Rattle.desk.specs.Sizes.{SmallCheck, SmallSpan, SmallAmount, SmallDay};
+ghost use Rattle.desk.specs.Exports.{ReadWord, WrittenWord, CheckWord, MessageWord, SheetWord};
+ghost use Rattle.desk.specs.Sizes.{Fits, SmallOutcome, SmallCheck, SmallSpan, SmallAmount, SmallDay};
 use base::Outcome;
 use listing::Span;
 use message::Amount;
@@ -19,7 +17,7 @@ fn is_on(sign: u32) -> bool
 }
 
 fn refused(number: u32, place: usize) -> u64
-    requires { ⌜ (number ≤ 18) × (place ≤ 10000) ⌝ }
+    requires { ⌜ Fits number place ⌝ }
     ensures { λ r. ⌜ r ≡ refusedWord number place ⌝ }
 {
     9223372036854775808 + number as u64 * 4294967296 + place as u64
@@ -27,7 +25,7 @@ fn refused(number: u32, place: usize) -> u64
 
 // The answer as one number.
 fn word_of(o: Outcome) -> u64
-    requires { ⌜ Small o ⌝ }
+    requires { ⌜ SmallOutcome o ⌝ }
     ensures { λ r. ⌜ r ≡ word o ⌝ }
 {
     match o {
@@ -124,4 +122,22 @@ pub extern "C" fn desk_date(kind: u32, message: &[u8]) -> u64
 {
     let d = message::calls::date(kind, message);
     day_of(d)
+}
+
+// A clerk's sheet as a message.
+#[no_mangle]
+pub extern "C" fn desk_to_message(sheet: &[u8], out: &mut [u8]) -> u64
+    ensures { λ r. ⌜ MessageWord (now (sheet .entry)) (now (out .entry)) r (now (out .exit)) ⌝ }
+{
+    let o = writer::calls::to_message(sheet, out);
+    word_of(o)
+}
+
+// A message as a clerk's sheet.
+#[no_mangle]
+pub extern "C" fn desk_to_sheet(kind: u32, message: &[u8], out: &mut [u8]) -> u64
+    ensures { λ r. ⌜ SheetWord kind (now (message .entry)) (now (out .entry)) r (now (out .exit)) ⌝ }
+{
+    let o = sheets::calls::to_sheet(kind, message, out);
+    word_of(o)
 }

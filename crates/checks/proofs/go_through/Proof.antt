@@ -3,7 +3,7 @@ use Prim.Native.Nat.{_≤_, _-_}
 use native.Mathlib.Omega.{arith}
 use borrow.Author.Needs.{needs}
 use lib.ListN.{length}
-use Rattle.checks.specs.declared.records.Form.the-variants.{Right}
+use Rattle.checks.specs.declared.entries.Form.the-variants.{Right}
 use Rattle.checks.specs.Records.{Within}
 use Rattle.checks.proofs.go_through.Statement.{statement}
 use Rattle.checks.proofs.go_through.Tie as tie
@@ -39,17 +39,17 @@ write-all-requires c κs = search needs
 returns : tie.Need-returns Inv-loop μ-loop
 returns c = tt
 
-sub-answer : tie.Need-sub-answer Inv-loop μ-loop
-sub-answer c = let w = here (c .before) in omega arith
+sub-answer-record : tie.Need-sub-answer-record Inv-loop μ-loop
+sub-answer-record c = let w = here (c .before) in omega arith
 
-part-answer-start : tie.Need-part-answer-start Inv-loop μ-loop
-part-answer-start c = let w = here (c .before) in omega arith
+part-answer-record-start : tie.Need-part-answer-record-start Inv-loop μ-loop
+part-answer-record-start c = let w = here (c .before) in omega arith
 
-part-answer-end : tie.Need-part-answer-end Inv-loop μ-loop
-part-answer-end c = let w = here (c .before) in omega arith
+part-answer-record-end : tie.Need-part-answer-record-end Inv-loop μ-loop
+part-answer-record-end c = let w = here (c .before) in omega arith
 
-answer-requires : tie.Need-answer-requires Inv-loop μ-loop
-answer-requires c κs = here (c .before .before) .0
+answer-record-requires : tie.Need-answer-record-requires Inv-loop μ-loop
+answer-record-requires c κs = here (c .before .before) .0
 
 add-at : tie.Need-add-at Inv-loop μ-loop
 add-at c = let w = here (c .before .before .before) in omega arith
@@ -76,10 +76,10 @@ go-through-spec =
     slice-aggregate-write-all
     write-all-requires
     returns
-    sub-answer
-    part-answer-start
-    part-answer-end
-    answer-requires
+    sub-answer-record
+    part-answer-record-start
+    part-answer-record-end
+    answer-record-requires
     add-at
     loop-less
     loop-again

@@ -3,6 +3,7 @@ use mathlib.Core.Bool.{Bool}
 use Rattle.alphabets.proofs.Outcomes.{write-small}
 use Rattle.alphabets.specs.Text.{WrittenTo}
 use Rattle.desk.specs.Answer.{isOn}
+use Rattle.desk.proofs.Sizes.{text-small}
 use borrow.Author.Needs.{needs}
 use Rattle.desk.proofs.desk_write_text.Statement.{statement}
 use Rattle.desk.proofs.desk_write_text.Tie as tie
@@ -18,7 +19,7 @@ write-text-requires : tie.Need-write-text-requires
 write-text-requires c κs = search needs
 
 word-of-requires : tie.Need-word-of-requires
-word-of-requires c κs = write-small _ _ _ _ _ (call (c .before .before))
+word-of-requires c κs = text-small (c .before .before .write-text .result) (write-small _ _ _ _ _ (call (c .before .before)))
 
 same-length : tie.Need-same-length
 same-length c = search needs

@@ -1,7 +1,6 @@
 use mathlib.Core.Path.{subst, sym, ap, _∙_}
-use Rattle.alphabets.proofs.Outcomes.{Small}
 use Rattle.desk.specs.Answer.{word}
-use Rattle.desk.proofs.Words.{small-refused}
+use Rattle.desk.specs.Sizes.{SmallOutcome}
 use borrow.Author.Needs.{needs}
 use Rattle.desk.proofs.word_of.Statement.{statement}
 use Rattle.desk.proofs.word_of.Tie as tie
@@ -19,7 +18,7 @@ enum-known-o-2 c = search needs
 
 -- src/lib.rt:33:47
 refused-requires : tie.Need-refused-requires
-refused-requires c κs = small-refused _ _ (subst Small (c .before .o2 .given .1) (c .before .before .before .pre))
+refused-requires c κs = subst SmallOutcome (c .before .o2 .given .1) (c .before .before .before .pre)
 
 -- src/lib.rt:27:1
 returns : tie.Need-returns

@@ -15,6 +15,9 @@ tell-kopecks-requires c κs = search needs
 tell-date-requires : tie.Need-tell-date-requires
 tell-date-requires c κs = search needs
 
+tell-sheet-requires : tie.Need-tell-sheet-requires
+tell-sheet-requires c κs = search needs
+
 returns : tie.Need-returns
 returns c = search needs
 
@@ -26,4 +29,5 @@ answer-spec =
     tell-parts-requires
     tell-kopecks-requires
     tell-date-requires
+    tell-sheet-requires
     returns)

@@ -1,9 +1,10 @@
-// The records of the list: a line with the type, the numbers of room and the bytes of the message, then the message, then LF.
+// The records of the list: a line with the type, the units of room and the bytes of the message, then the message, then LF. Type 0 is a sheet.
 ghost use Prim.Native.Nat.{_≤_};
 ghost use mathlib.Core.Path.{_≡_};
 ghost use lib.ListN.{length};
-ghost use Rattle.checks.specs.Records.{Behind, Within};
+ghost use Rattle.checks.specs.Records.{Behind, Within, most};
 use crate::answers::ROOM;
+use crate::written::SHEET_ROOM;
 
 // A number, and the place behind the byte that ends it.
 pub(crate) enum Count {
@@ -62,12 +63,21 @@ fn number(list: &[u8], from: usize, end: u8) -> Count
     Count::Wrong
 }
 
+fn most_room(kind: u32) -> usize
+    ensures { λ r. ⌜ r ≡ most kind ⌝ }
+{
+    if kind == 0 {
+        return SHEET_ROOM;
+    }
+    ROOM
+}
+
 pub(crate) fn record_at(list: &[u8], at: usize) -> Form
     requires { ⌜ at ≤ length (now list) ⌝ }
     ensures { λ r. ⌜ Within at (length (now (list .entry))) r ⌝ }
 {
     let Count::Of {
-        value: kind,
+        value: word,
         next: second,
     } = number(list, at, b' ')
     else {
@@ -87,10 +97,11 @@ pub(crate) fn record_at(list: &[u8], at: usize) -> Form
     else {
         return Form::Wrong;
     };
-    if kind > 4294967295 {
+    if word > 4294967295 {
         return Form::Wrong;
     }
-    if room > ROOM {
+    let kind = word as u32;
+    if room > most_room(kind) {
         return Form::Wrong;
     }
     if list.len() - start <= size {
@@ -101,7 +112,7 @@ pub(crate) fn record_at(list: &[u8], at: usize) -> Form
         return Form::Wrong;
     }
     Form::Right {
-        kind: kind as u32,
+        kind,
         room,
         start,
         end,

@@ -1,10 +1,10 @@
--- `checks::records::number` meets its contract: each turn takes a byte, and ten digits fit. Assumes nothing.
+-- `checks::entries::number` meets its contract: each turn takes a byte, and ten digits fit. Assumes nothing.
 use Prim.Native.Nat.{_≤_, _-_}
 use native.Mathlib.Omega.{arith}
 use borrow.Author.Needs.{needs}
 use lib.ListN.{length}
-use Rattle.checks.proofs.records.number.Statement.{statement}
-use Rattle.checks.proofs.records.number.Tie as tie
+use Rattle.checks.proofs.entries.number.Statement.{statement}
+use Rattle.checks.proofs.entries.number.Tie as tie
 
 abbrev Inv-loop : tie.InvT-loop
 Inv-loop list from end value₀ at₀ value at = (from ≤ at) × (at ≤ length list) × (value ≤ 9999999999)

@@ -1,14 +1,14 @@
--- `checks::records::record_at` meets its contract: each number stands behind the one before. Assumes nothing.
+-- `checks::entries::record_at` meets its contract: each number stands behind the one before. Assumes nothing.
 use native.Mathlib.Omega.{arith}
 use borrow.Author.Needs.{needs}
-use Rattle.checks.proofs.records.record_at.Statement.{statement}
-use Rattle.checks.proofs.records.record_at.Tie as tie
+use Rattle.checks.proofs.entries.record_at.Statement.{statement}
+use Rattle.checks.proofs.entries.record_at.Tie as tie
 
 number-requires : tie.Need-number-requires
 number-requires c κs = search needs
 
-enum-known-kind : tie.Need-enum-known-kind
-enum-known-kind c = search needs
+enum-known-word : tie.Need-enum-known-word
+enum-known-word c = search needs
 
 enum-told : tie.Need-enum-told
 enum-told c = search needs
@@ -17,7 +17,7 @@ returns : tie.Need-returns
 returns c = search needs
 
 number-requires-2 : tie.Need-number-requires-2
-number-requires-2 c κs = let k = c .before in (rw (k .kind .given .1) at (k .before .before .number .ensures)) .1
+number-requires-2 c κs = let k = c .before in (rw (k .word .given .1) at (k .before .before .number .ensures)) .1
 
 enum-known-room : tie.Need-enum-known-room
 enum-known-room c = search needs
@@ -43,11 +43,17 @@ returns-3 c = search needs
 returns-4 : tie.Need-returns-4
 returns-4 c = search needs
 
+cast-kind : tie.Need-cast-kind
+cast-kind c = search needs
+
+most-room-requires : tie.Need-most-room-requires
+most-room-requires c κs = search needs
+
 returns-5 : tie.Need-returns-5
 returns-5 c = search needs
 
 sub-if3 : tie.Need-sub-if3
-sub-if3 c = let s = c .before .before .before in omega (arith, (rw (s .size .given .1) at (s .before .before .number3 .ensures)) .1)
+sub-if3 c = let s = c .before .before .before .before in omega (arith, (rw (s .size .given .1) at (s .before .before .number3 .ensures)) .1)
 
 returns-6 : tie.Need-returns-6
 returns-6 c = search needs
@@ -61,18 +67,15 @@ shared-slice-read-if4 c = search needs
 returns-7 : tie.Need-returns-7
 returns-7 c = search needs
 
-cast-t18 : tie.Need-cast-t18
-cast-t18 c = search needs
-
 returns-8 : tie.Need-returns-8
-returns-8 c = let s = c .before .before .before .before .before .before in let r = s .before .before .before .before in let k = r .before .before .before .before in let x = rw (k .kind .given .1) at (k .before .before .number .ensures) in let y = rw (r .room .given .1) at (r .before .before .number2 .ensures) in let z = rw (s .size .given .1) at (s .before .before .number3 .ensures) in (omega arith, omega (arith, x .0, y .0, z .0), omega arith, omega arith)
+returns-8 c = let s = c .before .before .before .before .before .before .before in let r = s .before .before .before .before in let k = r .before .before .before .before in let x = rw (k .word .given .1) at (k .before .before .number .ensures) in let y = rw (r .room .given .1) at (r .before .before .number2 .ensures) in let z = rw (s .size .given .1) at (s .before .before .number3 .ensures) in (omega arith, omega (arith, x .0, y .0, z .0), omega arith, omega arith)
 
 pub record-at-spec : {M : Type 1} → statement M
 record-at-spec =
     tie.close
     (tie.spec
     number-requires
-    enum-known-kind
+    enum-known-word
     enum-told
     returns
     number-requires-2
@@ -84,11 +87,12 @@ record-at-spec =
     enum-told-3
     returns-3
     returns-4
+    cast-kind
+    most-room-requires
     returns-5
     sub-if3
     returns-6
     add-end
     shared-slice-read-if4
     returns-7
-    cast-t18
     returns-8)
