@@ -3,6 +3,7 @@
 //! An answer below 2^63 is accepted; else it is 2^63 + number * 2^32 + place.
 
 pub mod check;
+pub mod sheet;
 pub mod text;
 
 use crate::plain::Refusal;

@@ -2,6 +2,8 @@
 
 pub mod checks;
 pub mod texts;
+pub mod tomessage;
+pub mod tosheet;
 
 use crate::plain::Refusal;
 use crate::random::Random;
@@ -41,9 +43,13 @@ impl Seen {
 
 /// Prints what went wrong with its input, and ends the run.
 pub fn stop(what: &str, input: &[u8]) -> ! {
+    tell(what, input);
+    exit(1)
+}
+
+pub fn tell(what: &str, input: &[u8]) {
     println!("{what}");
     println!("input ({} bytes): {}", input.len(), hex(input));
-    exit(1)
 }
 
 fn hex(bytes: &[u8]) -> String {

@@ -1,11 +1,15 @@
-//! Stored messages, for a program to go through.
+//! Stored messages and sheets, for a program to go through.
 //!
-//! A record is a line with the type, the numbers of room and the bytes of the
-//! message, then the message itself, then LF.
+//! A record is a line with the type, the units of room and the bytes of the
+//! message, then the message itself, then LF. Type 0 stands for a sheet.
 
 pub mod checks;
 
-/// A message, the type it is given as, and how long a list is lent for it.
+/// The type of a record that holds a sheet.
+pub const SHEET: u32 = 0;
+
+/// A message, the type it is given as, and how long a list is lent for it; or
+/// a sheet, and how many bytes are lent.
 pub struct Record {
     pub kind: u32,
     pub room: usize,

@@ -9,6 +9,7 @@ mod list;
 mod messages;
 mod plain;
 mod random;
+mod sheets;
 mod signs;
 mod speed;
 mod streams;
@@ -16,10 +17,11 @@ mod streams;
 use std::env;
 use std::process::exit;
 
-const USAGE: &str = "bench differ texts|checks [N] [SEED]
-bench speed texts|checks
+const USAGE: &str = "bench differ texts|checks|tosheet|tomessage [N] [SEED]
+bench speed texts|checks|tosheet|tomessage
 bench list checks > LIST
-bench expect checks < LIST > OUTPUT";
+bench expect checks < LIST > OUTPUT
+bench expect tosheet|tomessage < INPUT > OUTPUT";
 
 fn main() {
     let words: Vec<String> = env::args().skip(1).collect();
@@ -27,10 +29,16 @@ fn main() {
     match words[..] {
         ["differ", "texts", ref rest @ ..] => differ::texts::run(count(rest), seed(rest)),
         ["differ", "checks", ref rest @ ..] => differ::checks::run(count(rest), seed(rest)),
+        ["differ", "tosheet", ref rest @ ..] => differ::tosheet::run(count(rest), seed(rest)),
+        ["differ", "tomessage", ref rest @ ..] => differ::tomessage::run(count(rest), seed(rest)),
         ["speed", "texts"] => speed::texts::run(),
         ["speed", "checks"] => speed::checks::run(),
+        ["speed", "tosheet"] => speed::tosheet::run(),
+        ["speed", "tomessage"] => speed::tomessage::run(),
         ["list", "checks"] => list::checks::run(),
         ["expect", "checks"] => expect::checks::run(),
+        ["expect", "tosheet"] => expect::tosheet::run(),
+        ["expect", "tomessage"] => expect::tomessage::run(),
         _ => usage(),
     }
 }

@@ -49,3 +49,17 @@ pub fn closed_bank_signs(random: &mut Random, count: usize) -> Vec<u8> {
     }
     text
 }
+
+/// A desk text as it is spelt in this source; `→` stands for a tab, `¶` for LF.
+pub fn desk(signs: &str) -> Vec<u8> {
+    let byte = |sign: char| match sign {
+        '→' => b'\t',
+        '¶' => b'\n',
+        'Ё' => 0xA8,
+        'ё' => 0xB8,
+        '№' => 0xB9,
+        'А'..='я' => 0xC0 + (sign as u32 - 'А' as u32) as u8,
+        _ => u8::try_from(sign).expect("a sign of the desk"),
+    };
+    signs.chars().map(byte).collect()
+}

@@ -2,6 +2,8 @@
 
 pub mod checks;
 pub mod texts;
+pub mod tomessage;
+pub mod tosheet;
 
 use std::hint::black_box;
 use std::time::{Duration, Instant};

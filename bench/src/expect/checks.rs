@@ -1,19 +1,68 @@
-//! What the calls of the check answer for stored messages, in four lines each:
-//! the number of fields, the presence word and the list; start and end of the
-//! content at each place; the kopecks; the date. A refusal stands in its call's
-//! line.
+//! What the calls answer for stored messages, in five lines each: the number of
+//! fields, the presence word and the list; start and end of the content at each
+//! place; the kopecks; the date; the bytes of the sheet, and what writing that
+//! comes to. A refusal stands in its call's line. For a sheet: the number of
+//! bytes, the message and whether it reads back, or the refusal.
 
 use super::refused;
-use crate::list::{read, Record};
+use crate::list::{read, Record, SHEET};
 use crate::plain::check::{check, content, date, kopecks};
+use crate::plain::read::to_sheet;
 use crate::plain::types::MOST_FIELDS;
+use crate::plain::write::{to_message, SHEET_LIMIT};
 use crate::plain::Refusal;
 use crate::streams::{input, output};
 
 pub fn run() {
-    let records = read(&input()).expect("a list of messages");
-    let lines: String = records.iter().map(lines).collect();
-    output(lines.as_bytes());
+    let records = read(&input()).expect("a list of messages and sheets");
+    let lines: Vec<u8> = records.iter().flat_map(answers).collect();
+    output(&lines);
+}
+
+fn answers(record: &Record) -> Vec<u8> {
+    match record.kind {
+        SHEET => written(record).unwrap_or_else(|refusal| format!("{}\n", refused(refusal)).into()),
+        _ => lines(record).into_bytes(),
+    }
+}
+
+fn written(record: &Record) -> Result<Vec<u8>, Refusal> {
+    let mut room = vec![0; record.room];
+    let units = to_message(&record.message, &mut room)?;
+    let back = back(kind_of(&record.message), &room[..units], &record.message);
+    let lines = [format!("{units}\n"), format!("\nback\t{back}\n")];
+    Ok([lines[0].as_bytes(), &room[..units], lines[1].as_bytes()].concat())
+}
+
+/// The type of a sheet that was written, by the first digit.
+fn kind_of(sheet: &[u8]) -> u32 {
+    match sheet.get(3) {
+        Some(b'1') => 103,
+        _ => 202,
+    }
+}
+
+/// Whether the message reads as this sheet.
+fn back(kind: u32, m: &[u8], sheet: &[u8]) -> String {
+    let word = |again: Vec<u8>| if again == sheet { "same" } else { "other" }.to_string();
+    or_refused(filled(|room| to_sheet(kind, m, room)).map(word))
+}
+
+/// What a call puts into room for the longest sheet or message.
+fn filled(call: impl Fn(&mut [u8]) -> Result<usize, Refusal>) -> Result<Vec<u8>, Refusal> {
+    let mut room = vec![0; SHEET_LIMIT];
+    let units = call(&mut room)?;
+    room.truncate(units);
+    Ok(room)
+}
+
+/// The bytes of the sheet, then those of the message written for it and whether
+/// that reads as the same sheet.
+fn sheet(kind: u32, m: &[u8]) -> Result<String, Refusal> {
+    let sheet = filled(|room| to_sheet(kind, m, room))?;
+    let again = filled(|room| to_message(&sheet, room));
+    let told = again.map(|m| format!("again\t{}\t{}", m.len(), back(kind, &m, &sheet)));
+    Ok(format!("{}\t{}", sheet.len(), or_refused(told)))
 }
 
 fn lines(record: &Record) -> String {
@@ -23,11 +72,12 @@ fn lines(record: &Record) -> String {
     let kopecks = kopecks(*kind, message).map(|kopecks| kopecks.to_string());
     let date = date(*kind, message).map(day);
     format!(
-        "{}\nparts\t{}\nkopecks\t{}\ndate\t{}\n",
+        "{}\nparts\t{}\nkopecks\t{}\ndate\t{}\nsheet\t{}\n",
         or_refused(fields(record)),
         joined(parts),
         or_refused(kopecks),
         or_refused(date),
+        or_refused(sheet(*kind, message)),
     )
 }
 

@@ -1,14 +1,16 @@
 //! Messages for the check: right ones, and for each number such as it is given
 //! for, at its several places, among them what looks like a fault and is none.
+//! Then sheets in the same way.
 
 mod contents;
 mod faults;
 mod frame;
 mod orders;
 mod readings;
+mod sheets;
 mod values;
 
-use super::{write, Record};
+use super::{write, Record, SHEET};
 use crate::cases::{self, Case};
 use crate::messages::{self, Field, Message};
 use crate::plain::types::{places, Place, MOST_FIELDS};
@@ -39,6 +41,7 @@ fn records() -> Vec<Record> {
     faults::add(&mut records);
     rooms(&mut records);
     damaged(&mut random, &mut records);
+    sheets::add(&mut random, &mut records);
     records
 }
 
@@ -159,16 +162,21 @@ fn place_of(kind: u32, tag: &str) -> (usize, usize) {
     (place, which)
 }
 
-/// A message that is right, but for this content perhaps: with all fields if
-/// the tag's is optional, else with the mandatory ones.
-fn with(kind: u32, sign: bool, tag: &str, content: &str) -> Message {
+/// A right message with this tag: with all fields if the tag's is optional,
+/// else with the mandatory ones.
+fn holding(kind: u32, sign: bool, tag: &str) -> Message {
     let (place, which) = place_of(kind, tag);
     let word = if forms(kind)[place].mandatory {
         mandatory(kind)
     } else {
         u32::MAX
     };
-    let mut message = short(kind, word, which, sign);
+    short(kind, word, which, sign)
+}
+
+/// A message that is right, but for this content perhaps.
+fn with(kind: u32, sign: bool, tag: &str, content: &str) -> Message {
+    let mut message = holding(kind, sign, tag);
     set(&mut message, tag, content);
     message
 }
@@ -228,7 +236,7 @@ fn damaged(random: &mut Random, records: &mut Vec<Record>) {
             _ => cases::spoilt_contents(random),
         };
         let Case { kind, bytes, .. } = case;
-        if bytes.len() < 2_000 {
+        if bytes.len() < 2_000 && kind != SHEET {
             let room = random.below(MOST_ROOM + 1);
             records.push(Record {
                 kind,
@@ -251,7 +259,11 @@ mod tests {
         let list = write(&records());
         assert!(list.len() <= 1_048_576, "{} bytes", list.len());
         let again = read(&list).expect("the form");
-        assert!(again.iter().all(|record| record.room <= MOST_ROOM));
+        let most = |record: &Record| match record.kind {
+            SHEET => sheets::MOST_ROOM,
+            _ => MOST_ROOM,
+        };
+        assert!(again.iter().all(|record| record.room <= most(record)));
         assert!(write(&again) == list);
         assert!(read(&list[..list.len() - 1]).is_none());
     }
@@ -266,8 +278,8 @@ mod tests {
     #[test]
     fn every_number_is_given_at_several_places() {
         let mut places: BTreeMap<u32, Vec<usize>> = BTreeMap::new();
-        for record in records() {
-            let (number, place) = refusal(&record);
+        for record in records().iter().filter(|record| record.kind != SHEET) {
+            let (number, place) = refusal(record);
             places.entry(number).or_default().push(place);
         }
         for (number, places) in &mut places {

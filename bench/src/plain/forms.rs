@@ -341,19 +341,25 @@ pub fn digits(text: &[u8]) -> bool {
 pub struct DetailsText {
     bytes: [u8; 200],
     length: usize,
+    /// The VO code's five digits.
+    pub code: [u8; 5],
     /// How far from the details' first byte the text's first byte stands.
     pub offset: usize,
 }
 
 impl DetailsText {
     pub fn of(layout: &Layout, lines: &[&[u8]], sign: bool) -> DetailsText {
+        let code_start = layout.first_mark.len() + 3 + sign as usize;
         let text_start = layout.first_mark.len() + vo_code_length(sign);
         let first = lines[0];
         let mut text = DetailsText {
             bytes: [0; 200],
             length: 0,
+            code: [0; 5],
             offset: text_start,
         };
+        text.code
+            .copy_from_slice(&first[code_start..code_start + 5]);
         if first.len() == text_start {
             // The code ends its line: behind CR LF and the next line's mark.
             text.offset += 2 + layout.later_mark.len();

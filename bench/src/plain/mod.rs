@@ -3,10 +3,12 @@
 pub mod check;
 pub mod forms;
 pub mod frame;
+pub mod read;
 #[cfg(test)]
 mod tests;
 pub mod text;
 pub mod types;
+pub mod write;
 
 /// Why a call was refused: the number a clerk sees, and the place it speaks of.
 #[derive(Clone, Copy, Debug, PartialEq, Eq)]

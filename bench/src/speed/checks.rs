@@ -53,7 +53,7 @@ fn refused_at_length() {
 }
 
 /// A 103 of 10,000 bytes whose beneficiary is one long run of lines of 33.
-fn long_field() -> Message {
+pub fn long_field() -> Message {
     let mut message = messages::longest(&mut Random::new(1), 103, false);
     let found = message.fields.iter().position(|field| field.tag == "59");
     let beneficiary = found.expect("a mandatory field");
@@ -69,7 +69,7 @@ fn long_field() -> Message {
 }
 
 /// The message with one part replaced by another.
-fn edited(m: &[u8], from: &[u8], to: &[u8]) -> Vec<u8> {
+pub fn edited(m: &[u8], from: &[u8], to: &[u8]) -> Vec<u8> {
     let place = m.windows(from.len()).position(|part| part == from);
     let (before, rest) = m.split_at(place.expect("a part of the message"));
     [before, to, &rest[from.len()..]].concat()

@@ -20,8 +20,8 @@ pub fn add(random: &mut Random, records: &mut Vec<Record>) {
 fn types(records: &mut Vec<Record>) {
     let right = full(103, false).bytes();
     for kind in [
-        0,
         1,
+        100,
         102,
         104,
         201,

@@ -23,6 +23,7 @@ pub fn add(records: &mut Vec<Record>) {
     }
     each_letter(records);
     details(records);
+    crowded(records);
     several(records);
 }
 
@@ -103,6 +104,21 @@ const TEXTS: &[&str] = &[
     "|'A'", "A|W", "A|'", "A|''", "'|'", "'A|B'", "'A|B", "A'|'B", "A|B|'C", "A|B|C'", "'A|B|C'",
     "'|A|B'", "'/'", "'-'", "''-", "':'", "INN7", "-", "/", "'W'", "b", "'b'", "'|''|'",
 ];
+
+/// Lines of dashes behind apostrophes that stand for nothing. Written anew no
+/// line of 70 may begin with one: the first fits, the others are 16. In a 202
+/// all fit.
+fn crowded(records: &mut Vec<Record>) {
+    let line = format!("|''{}", "-".repeat(31));
+    for count in 1..=3 {
+        let rest = line.repeat(count);
+        let message = with(103, true, "70", &format!("'(VO10100)'~24{rest}"));
+        records.push(record(103, message.bytes()));
+        let marked = rest.replace('|', "|//");
+        let message = with(202, true, "72", &format!("/NZP/'(VO10100)'~19{marked}"));
+        records.push(record(202, message.bytes()));
+    }
+}
 
 /// More than one text without a reading: the earliest is named.
 fn several(records: &mut Vec<Record>) {
