@@ -2,7 +2,7 @@
 use Prim.Native.Nat.{ℕ, _+_, _*_, _/_, _%_, _≤_, _<_}
 use mathlib.Core.Path.{_≡_, refl, sym, ap, _∙_}
 use mathlib.Core.Bool.{Bool, true, false, not, _&&_, _||_, and-false, true≢false}
-use mathlib.Core.List.{List, [], _∷_, _++_, tail, append-assoc}
+use mathlib.Core.List.{List, [], _∷_, tail}
 use native.Mathlib.Omega.{arith}
 use native.Mathlib.Nat.{add-zero}
 use lib.Dec.{eqb, eqb·suc-zero}
@@ -172,29 +172,3 @@ bad-start-at f (x ∷ l) = rw (eqb·suc-zero (length l)) (go (eqb x 45) (eqb x 5
     go true b = refl
     go false true = refl
     go false false = refl
-
--- ---- the tag of a line may be read off all that stands behind: a CR is no byte of a tag
-tagged-rest : (l r : List ℕ) → tagged (l ++ 13 ∷ r) ≡ tagged l
-unfolding tagged digit capital
-tagged-rest [] r = refl
-tagged-rest (o ∷ []) r = refl
-tagged-rest (o ∷ a ∷ []) r = refl
-tagged-rest (o ∷ a ∷ b ∷ []) r = refl
-tagged-rest (o ∷ a ∷ b ∷ c ∷ []) r = refl
-tagged-rest (o ∷ a ∷ b ∷ c ∷ d ∷ l) r = refl
-
-pub packed-rest : (l r : List ℕ) → packed (l ++ 13 ∷ r) ≡ packed l
-packed-rest l r = go (tagged l) refl
-  where
-    go : (b : Bool) → tagged l ≡ b → packed (l ++ 13 ∷ r) ≡ packed l
-    go false e = packed-not (l ++ 13 ∷ r) (tagged-rest l r ∙ e) ∙ sym (packed-not l e)
-    go true e =
-        let h = headed l e in
-        let w : Headed (l ++ 13 ∷ r) =
-        record {
-          tag = h .tag;
-          rest = h .rest ++ 13 ∷ r;
-          is = ap (λ (k : List ℕ). k ++ 13 ∷ r) (h .is) ∙ ap (λ (k : List ℕ). 58 ∷ k) (append-assoc (h .tag) (58 ∷ h .rest) (13 ∷ r));
-          shape = h .shape;
-        } in
-        packed-tag w ∙ sym (packed-tag h)

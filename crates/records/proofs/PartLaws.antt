@@ -1,23 +1,20 @@
 -- One part, byte by byte: a part that goes on, digits, a tag as one number, two bytes. Assumes nothing.
-use Prim.Native.Nat.{ℕ, zero, suc, _+_, _*_, _-_, _<_, _≤_}
-use mathlib.Core.Path.{_≡_, refl, sym, ap, ap₂, _∙_}
+use Prim.Native.Nat.{ℕ, _+_, _*_, _-_, _<_, _≤_}
+use mathlib.Core.Path.{_≡_, refl, sym, ap, _∙_}
 use mathlib.Core.Bool.{Bool, true, false, not, _&&_}
 use mathlib.Core.List.{List, [], _∷_}
 use native.Mathlib.Omega.{arith}
 use native.Mathlib.Numerals.{add-one}
 use lib.Dec.{eqb}
-use lib.ListN.{length, getD, drop, drop-of-length-le, List·getD-eq-default}
+use lib.ListN.{length, getD, drop, drop-of-length-le}
 use lib.Seq.{drop-cons}
-use borrow.Author.Tests.{eq-eqb, ne-eqb, eqb-true}
+use borrow.Author.Tests.{eq-eqb, ne-eqb}
 use Rattle.base.specs.Choice.{pick, all}
 use Rattle.base.specs.Bytes.{byte, digit, capital, same}
-use Rattle.base.proofs.Bools.{left, right}
-use Rattle.base.proofs.ByteLaws.{digit-range}
 use Rattle.fields.specs.Shapes.{shaped, pack, unpack, goesOn}
 use Rattle.fields.proofs.PackLaws.{unpack-pack}
-use Rattle.roles.specs.Rule14.{isInn}
 use Rattle.records.specs.Found.{tagNumber}
-use Rattle.records.specs.Rule19.{digits, number}
+use Rattle.records.specs.Rule19.{digits}
 
 -- ---- tests joined by and
 and-false : (a : Bool) → false ≡ (a && false)
@@ -142,42 +139,3 @@ module _ (t : List ℕ) (a : digit (byte t 0) ≡ true) (b : digit (byte t 1) �
 pub tag-unpack : (t : List ℕ) → shaped t ≡ true → unpack (tagNumber t) ≡ t
 unfolding tagNumber
 tag-unpack t e = ap (λ (b : Bool). unpack (pick b (pack t) 0)) e ∙ unpack-pack t e
-
--- ---- three digits are their number's
-digits-three : (p : List ℕ) → digits 3 p ≡ true → length p ≡ 3
-unfolding digits
-digits-three p e = eqb-true (length p) 3 (left (eqb (length p) 3) (all digit p) e)
-
-digits-range : (p : List ℕ) (k : ℕ) → digits 3 p ≡ true → k < length p → (48 ≤ byte p k) × (byte p k ≤ 57)
-unfolding digits
-digits-range p k e h = digit-range (byte p k) (go p k (right (eqb (length p) 3) (all digit p) e) h)
-  where
-    go : (p : List ℕ) (k : ℕ) → all digit p ≡ true → k < length p → digit (byte p k) ≡ true
-    go [] k a h = absurd (omega arith)
-    go (x ∷ p) zero a h = left (digit x) (all digit p) a
-    go (x ∷ p) (suc k) a h = go p k (right (digit x) (all digit p) a) (omega arith)
-
-pub number-one : (p q : List ℕ) → digits 3 p ≡ true → digits 3 q ≡ true → number p ≡ number q → p ≡ q
-number-one p q d e n = go p q (digits-three p d) (digits-three q e) (λ k h. digits-range p k d h) (λ k h. digits-range q k e h) n
-  where
-    go : (p q : List ℕ) → length p ≡ 3 → length q ≡ 3 → ((k : ℕ) → k < length p → (48 ≤ byte p k) × (byte p k ≤ 57)) → ((k : ℕ) → k < length q → (48 ≤ byte q k) × (byte q k ≤ 57)) → number p ≡ number q → p ≡ q
-    go [] q h i f g n = absurd (omega arith)
-    go (a ∷ []) q h i f g n = absurd (omega arith)
-    go (a ∷ b ∷ []) q h i f g n = absurd (omega arith)
-    go (a ∷ b ∷ c ∷ w ∷ p) q h i f g n = absurd (omega arith)
-    go (a ∷ b ∷ c ∷ []) [] h i f g n = absurd (omega arith)
-    go (a ∷ b ∷ c ∷ []) (x ∷ []) h i f g n = absurd (omega arith)
-    go (a ∷ b ∷ c ∷ []) (x ∷ y ∷ []) h i f g n = absurd (omega arith)
-    go (a ∷ b ∷ c ∷ []) (x ∷ y ∷ z ∷ w ∷ q) h i f g n = absurd (omega arith)
-    go (a ∷ b ∷ c ∷ []) (x ∷ y ∷ z ∷ []) h i f g n =
-        let fa = f 0 (omega arith) in
-        let fb = f 1 (omega arith) in
-        let fc = f 2 (omega arith) in
-        let gx = g 0 (omega arith) in
-        let gy = g 1 (omega arith) in
-        let gz = g 2 (omega arith) in
-        let m : (a - 48) * 100 + (b - 48) * 10 + (c - 48) ≡ (x - 48) * 100 + (y - 48) * 10 + (z - 48) = n in
-        let u : a ≡ x = omega (arith, fa .0, fa .1, fb .0, fb .1, fc .0, fc .1, gx .0, gx .1, gy .0, gy .1, gz .0, gz .1, m) in
-        let v : b ≡ y = omega (arith, fa .0, fa .1, fb .0, fb .1, fc .0, fc .1, gx .0, gx .1, gy .0, gy .1, gz .0, gz .1, m) in
-        let o : c ≡ z = omega (arith, fa .0, fa .1, fb .0, fb .1, fc .0, fc .1, gx .0, gx .1, gy .0, gy .1, gz .0, gz .1, m) in
-        ap (λ (k : ℕ). k ∷ b ∷ c ∷ []) u ∙ ap₂ (λ (k j : ℕ). x ∷ k ∷ j ∷ []) v o

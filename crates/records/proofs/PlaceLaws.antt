@@ -6,9 +6,9 @@ use native.Mathlib.Omega.{arith}
 use lib.ListN.{length, take, drop, length-append, drop-of-length-le}
 use lib.Seq.{drop-at, drop-drop}
 use Rattle.records.specs.Record.{Record, tabbed, line, sheet, pieces, front, recordOf}
-use Rattle.records.specs.Places.{sizeOf, nextOf, partsFrom}
+use Rattle.records.specs.Places.{sizeOf, nextOf}
 use Rattle.records.specs.Found.{pieceSize, piecesAt}
-use Rattle.records.proofs.PieceLaws.{at-from, pieces-at, end-within, more-at, piece-length}
+use Rattle.records.proofs.PieceLaws.{at-from, end-within, more-at, piece-length}
 use Rattle.records.proofs.SheetLaws.{line-record}
 
 -- ---- records in a sheet
@@ -59,10 +59,3 @@ unfolding pieces
 front-end s =
     let z : length s ≤ length s = omega arith in
     ap (λ (ls : List (List ℕ)). map recordOf (front ls)) (at-from 10 s (length s) z ∙ ap (pieces 10) (drop-of-length-le s {i = length s} z))
-
--- the part from i to e, and the next at e + 1
-pub parts-at : (l : List ℕ) (i e : ℕ) → i ≤ length l → e ≡ i + pieceSize 9 (drop i l) → partsFrom i (piecesAt 9 l i) ≡ i ∷ partsFrom (e + 1) (piecesAt 9 l (e + 1))
-parts-at l i e h q =
-    let n = piece-length l i e (omega arith) (end-within 9 l i e h q) in
-    let z : i + length (take (e - i) (drop i l)) + 1 ≡ e + 1 = omega (arith, n) in
-    ap (partsFrom i) (pieces-at 9 l i e h q) ∙ ap (λ (k : ℕ). i ∷ partsFrom k (piecesAt 9 l (e + 1))) z

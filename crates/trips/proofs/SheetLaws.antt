@@ -42,10 +42,10 @@ use Rattle.records.proofs.PieceLaws.{some-piece}
 use Rattle.records.proofs.PlaceLaws.{size-sheet}
 use Rattle.records.proofs.SheetLaws.{records-sheet, rest-sheet}
 use Rattle.records.proofs.RuleLaws.{sound-fine, named-size}
-use Rattle.writer.specs.Spread.{contentLines, fieldFor, spread}
+use Rattle.writer.specs.Spread.{fieldFor, spread}
 use Rattle.writer.specs.Sheet.{someCrowded, rule15, rule16, fieldsOf, messageFor, sheetRules}
 use Rattle.written.specs.Sentences.{Every}
-use Rattle.written.proofs.BuiltLaws.{plain-lines, shape-20}
+use Rattle.written.proofs.BuiltLaws.{shape-20}
 use Rattle.written.proofs.ReadyLaws.{speaking, roomy, rule15-fine, rule16-fine}
 use Rattle.sheets.specs.Gather.{partFor, contentParts, recordFor, gather, typeRecord, recordsOf, sheetOf}
 use Rattle.trips.specs.Again.{fieldAgain}
@@ -101,14 +101,6 @@ parts-20 kind s ls = ap (λ (sh : Shape). contentParts s sh ls) (shape-20 kind s
 
 sign-gather : (kind : ℕ) (s : Bool) (fs : List Field) → signOf (map (recordFor kind s) fs) ≡ signOf fs
 sign-gather kind s fs = sign-kept (recordFor kind s) (λ (t : List ℕ). contentParts s (shapeOf kind t)) (λ t ls. refl) (parts-20 kind s) fs
-
--- so a message read and written again has its sign
-lines-20 : (kind : ℕ) (s : Bool) (ls : List (List ℕ)) → contentLines s (shapeOf kind (bytes "20")) (contentParts s (shapeOf kind (bytes "20")) ls) ≡ ls
-lines-20 kind s ls = ap₂ (λ (sh : Shape) (k : List (List ℕ)). contentLines s sh k) (shape-20 kind s) (parts-20 kind s ls) ∙ plain-lines kind s ls
-
-pub sign-again : (kind : ℕ) (s : Bool) (fs : List Field) → signOf (map (fieldAgain kind s) fs) ≡ signOf fs
-sign-again kind s fs =
-    sign-kept (fieldAgain kind s) (λ (t : List ℕ) (ls : List (List ℕ)). contentLines s (shapeOf kind t) (contentParts s (shapeOf kind t) ls)) (λ t ls. refl) (lines-20 kind s) fs
 
 front-final : (ls : List (List ℕ)) → (ls ≡ [] → ⊥) → map recordOf ls ≡ map recordOf (front ls) ++ recordOf (final ls) ∷ []
 front-final [] n = absurd (n refl)
