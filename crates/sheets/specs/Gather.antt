@@ -23,7 +23,7 @@ partFor s (copy l) = l
 partFor s (name l) = textOf (reading s l)
 partFor s (taxName l) = textOf (reading s l)
 
--- the digits of the VO code behind `mark` bytes: they stand behind `(VO`, with the sign behind one apostrophe more
+-- the digits of the VO code at the front: they stand behind `(VO`, with the sign behind one apostrophe more
 abbrev pub codeDigits : Bool → List ℕ → List ℕ
 codeDigits true l = take 5 (drop 4 l)
 codeDigits false l = take 5 (drop 3 l)
