@@ -1,37 +1,58 @@
-//! The archive's exports, and safe wrappers that answer as the plain build does.
-//!
-//! An answer below 2^63 is accepted; else it is 2^63 + number * 2^32 + place.
-
-pub mod check;
-pub mod sheet;
-pub mod text;
+//! The archive's calls by the safe wrappers of `link/rust`, answering as the plain build does.
 
 use crate::plain::Refusal;
+use rimpelsloot::{Answer, Kind};
 
-const REFUSED: u64 = 1 << 63;
-
-/// Takes an answer of the archive apart.
-fn answer(word: u64) -> Result<u64, Refusal> {
-    if word < REFUSED {
-        return Ok(word);
+fn kind_of(number: u32) -> Kind {
+    match number {
+        103 => Kind::Mt103,
+        202 => Kind::Mt202,
+        other => Kind::Other(other),
     }
-    Err(Refusal {
-        number: ((word - REFUSED) >> 32) as u32,
-        place: (word & 0xFFFF_FFFF) as usize,
+}
+
+fn plainly<T>(answer: Answer<T>) -> Result<T, Refusal> {
+    answer.ok().map_err(|refusal| Refusal {
+        number: refusal.number,
+        place: refusal.place,
     })
 }
 
-/// Takes fields + word * 2^16 apart; a word that is too wide becomes one that
-/// no message has.
-fn fields_and_word(value: u64) -> (usize, u32) {
-    let word = u32::try_from(value >> 16).unwrap_or(u32::MAX);
-    ((value & 0xFFFF) as usize, word)
+pub fn read_text(sign: bool, bank: &[u8], out: &mut [u8]) -> Result<usize, Refusal> {
+    plainly(rimpelsloot::read_text(sign, bank, out))
 }
 
-/// Takes start * 2^32 + length apart; 0 stands for none, as no content starts
-/// at the message's first byte.
-fn part(value: u64) -> Option<(usize, usize)> {
-    let start = (value >> 32) as usize;
-    let length = (value & 0xFFFF_FFFF) as usize;
-    (value != 0).then_some((start, start + length))
+pub fn write_text(sign: bool, desk: &[u8], out: &mut [u8]) -> Result<usize, Refusal> {
+    plainly(rimpelsloot::write_text(sign, desk, out))
+}
+
+/// The number of fields and the presence word.
+pub fn check(kind: u32, m: &[u8], list: &mut [u32]) -> Result<(usize, u32), Refusal> {
+    let checked = plainly(rimpelsloot::check(kind_of(kind), m, list))?;
+    Ok((checked.fields, checked.present))
+}
+
+/// Start and end of the content at a place.
+pub fn content(kind: u32, m: &[u8], place: u32) -> Option<(usize, usize)> {
+    let part = rimpelsloot::content(kind_of(kind), m, place);
+    let start = part.as_ptr() as usize - m.as_ptr() as usize;
+    (start != 0).then_some((start, start + part.len()))
+}
+
+pub fn kopecks(kind: u32, m: &[u8]) -> Result<u64, Refusal> {
+    plainly(rimpelsloot::kopecks(kind_of(kind), m))
+}
+
+/// Year * 10000 + month * 100 + day.
+pub fn date(kind: u32, m: &[u8]) -> Result<u64, Refusal> {
+    let day = plainly(rimpelsloot::date(kind_of(kind), m))?;
+    Ok(u64::from(day.year * 10_000 + day.month * 100 + day.day))
+}
+
+pub fn to_sheet(kind: u32, m: &[u8], out: &mut [u8]) -> Result<usize, Refusal> {
+    plainly(rimpelsloot::to_sheet(kind_of(kind), m, out))
+}
+
+pub fn to_message(sheet: &[u8], out: &mut [u8]) -> Result<usize, Refusal> {
+    plainly(rimpelsloot::to_message(sheet, out))
 }

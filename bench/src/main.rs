@@ -19,8 +19,8 @@ use std::process::exit;
 
 const USAGE: &str = "bench differ texts|checks|tosheet|tomessage [N] [SEED]
 bench speed texts|checks|tosheet|tomessage
-bench list checks > LIST
-bench expect checks < LIST > OUTPUT
+bench list checks|writes > LIST
+bench expect checks|returns|writes < LIST > OUTPUT
 bench expect tosheet|tomessage < INPUT > OUTPUT";
 
 fn main() {
@@ -35,8 +35,10 @@ fn main() {
         ["speed", "checks"] => speed::checks::run(),
         ["speed", "tosheet"] => speed::tosheet::run(),
         ["speed", "tomessage"] => speed::tomessage::run(),
-        ["list", "checks"] => list::checks::run(),
-        ["expect", "checks"] => expect::checks::run(),
+        ["list", "checks"] => list::checks::run_messages(),
+        ["list", "writes"] => list::checks::run_sheets(),
+        ["expect", "checks" | "writes"] => expect::checks::run(),
+        ["expect", "returns"] => expect::checks::run_returns(),
         ["expect", "tosheet"] => expect::tosheet::run(),
         ["expect", "tomessage"] => expect::tomessage::run(),
         _ => usage(),

@@ -1,20 +1,25 @@
 #!/usr/bin/env python3
 """Makes the stored list of texts: python3 make_list.py > stdin
 
-One record a line, ended by LF, parts separated by one tab:
+A record is a line of words with one space between, then the raw bytes of the
+input and LF, then those of the expected text and LF:
 
-    NAME  WAY  SIGN  INPUT  EXPECTED  [ROOM]
+    NAME WAY SIGN ROOM NUMBER PLACE LENGTH TEXT INPUT
 
 NAME      letters, digits, '-', '_', '.'; a '*' at its end marks a text that
           was restored by hand from the scan of paper 000 or 001 (signs lost,
           doubled, of wrong shape, or turned apostrophes).
 WAY       w: a desk text is written; r: a bank text is read.
 SIGN      + with the sign, - without it.
-INPUT     bytes: pairs of hex digits, or NNNNxHH.. for the pairs NNNN times;
-          pieces are joined by ','; '.' alone is the empty text.
-EXPECTED  bytes in the same form, or !NUMBER@PLACE for a refusal.
-ROOM      the bytes lent, in decimal; without this part 10000 are lent,
-          which is always enough.
+ROOM      the bytes lent; 10000 are always enough.
+NUMBER    0 where a text is expected, and PLACE is its length; else the number
+          and the place of the refusal.
+LENGTH    the bytes of the input.
+TEXT      how many raw bytes the expected text has, 0 with a refusal.
+INPUT     how many raw bytes the input has.
+
+A long text of one piece again and again has the raw bytes of one piece only:
+they go on from the first up to its length.
 
 Names:  row-, mark-   the table and the shared marks
         000-, 001-, 002-   texts printed in the trade's papers:
@@ -134,39 +139,11 @@ records = []
 names = set()
 
 
-def pieces(text):
-    """The bytes in the list's own notation."""
-    out, plain, i = [], "", 0
-    while i < len(text):
-        gain, unit, count = 0, 1, 1
-        for size in range(1, 25):
-            part = text[i:i + size]
-            if len(part) < size:
-                break
-            n = 1
-            while text[i + n * size:i + (n + 1) * size] == part:
-                n += 1
-            if n >= 4 and (n - 1) * size - 4 > gain:
-                gain, unit, count = (n - 1) * size - 4, size, n
-        if gain > 4:
-            if plain:
-                out.append(plain)
-                plain = ""
-            out.append("%dx%s" % (count, text[i:i + unit].hex().upper()))
-            i += unit * count
-        else:
-            plain += "%02X" % text[i]
-            i += 1
-    if plain:
-        out.append(plain)
-    return ",".join(out) or "."
-
-
-def bytes_of(notation):
-    text = b""
-    for piece in notation.replace(".", "").split(","):
-        count, x, unit = piece.rpartition("x")
-        text += bytes.fromhex(unit) * int(count or 1)
+def raw(text):
+    """One piece of a long text that repeats it, else all of the text."""
+    for size in range(1, 25):
+        if len(text) > 300 and text == (text[:size] * len(text))[:len(text)]:
+            return text[:size]
     return text
 
 
@@ -186,15 +163,13 @@ def add(name, way, sign, text, expected=None, room=None):
     assert expected is None or expected == got, (name, expected, got)
     assert name not in names, name
     names.add(name)
-    parts = [name, way, sign, pieces(text),
-             "!%d@%d" % got if isinstance(got, tuple) else pieces(got)]
-    if room is not None:
-        parts.append(str(room))
-    assert bytes_of(parts[3]) == text
-    assert isinstance(got, tuple) or bytes_of(parts[4]) == got
-    line = "\t".join(parts)
-    assert len(line) < 400, (name, len(line))
-    records.append(line)
+    done = isinstance(got, bytes)
+    number, place = (0, len(got)) if done else got
+    parts = [raw(text), raw(got) if done else b""]
+    words = [name, way, sign, ROOM if room is None else room, number, place,
+             len(text), len(parts[1]), len(parts[0])]
+    records.append(b"".join(part + b"\n" for part in
+                            [" ".join(map(str, words)).encode()] + parts))
     return got
 
 
@@ -693,4 +668,4 @@ for k in range(200):
     if isinstance(desk, bytes):
         add("any-r-%d-back" % k, "w", "+", desk)
 
-sys.stdout.write("".join(line + "\n" for line in records))
+sys.stdout.buffer.write(b"".join(records))

@@ -1,7 +1,7 @@
 //! The check of whole messages, contents, kopecks and dates by both builds.
 
 use super::{some_room, stop, Lent, Seen};
-use crate::calls::check as proved;
+use crate::calls as proved;
 use crate::cases::{self, Case};
 use crate::plain::{check as plain, Refusal};
 use crate::random::Random;

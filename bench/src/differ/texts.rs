@@ -1,7 +1,7 @@
 //! Texts alone: reading and writing by both builds, and round trips.
 
 use super::{some_room, stop, Lent, Seen};
-use crate::calls::text as proved;
+use crate::calls as proved;
 use crate::plain::{text as plain, Refusal};
 use crate::random::Random;
 use crate::signs::{closed_bank_signs, LATIN, NEAR, READABLE, RUSSIAN, SHARED};

@@ -1,7 +1,7 @@
 //! Sheets to messages by both builds; what is written reads back as the sheet.
 
 use super::{some_room, stop, Lent, Seen};
-use crate::calls::sheet as proved;
+use crate::calls as proved;
 use crate::plain::{write as plain, Refusal};
 use crate::random::Random;
 use crate::sheets::some_sheet;

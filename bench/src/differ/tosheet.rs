@@ -1,7 +1,7 @@
 //! Messages to sheets by both builds, and the way back.
 
 use super::{some_room, stop, tell, Lent, Seen};
-use crate::calls::sheet as proved;
+use crate::calls as proved;
 use crate::cases::{self, Case};
 use crate::plain::{read as plain, Refusal};
 use crate::random::Random;

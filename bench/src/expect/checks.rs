@@ -1,8 +1,8 @@
-//! What the calls answer for stored messages, in five lines each: the number of
+//! What the calls answer for stored messages, in four lines each: the number of
 //! fields, the presence word and the list; start and end of the content at each
-//! place; the kopecks; the date; the bytes of the sheet, and what writing that
-//! comes to. A refusal stands in its call's line. For a sheet: the number of
-//! bytes, the message and whether it reads back, or the refusal.
+//! place; the kopecks; the date. And in one line: the bytes of the sheet, and what
+//! writing that comes to. A refusal stands in its call's line. For a sheet: the
+//! number of bytes, the message and whether it reads back, or the refusal.
 
 use super::refused;
 use crate::list::{read, Record, SHEET};
@@ -14,6 +14,18 @@ use crate::plain::Refusal;
 use crate::streams::{input, output};
 
 pub fn run() {
+    told(answers);
+}
+
+/// The sheets of stored messages, and what comes back.
+pub fn run_returns() {
+    told(|record| {
+        let sheet = sheet(record.kind, &record.message);
+        format!("sheet\t{}\n", or_refused(sheet)).into_bytes()
+    });
+}
+
+fn told(answers: impl Fn(&Record) -> Vec<u8>) {
     let records = read(&input()).expect("a list of messages and sheets");
     let lines: Vec<u8> = records.iter().flat_map(answers).collect();
     output(&lines);
@@ -72,12 +84,11 @@ fn lines(record: &Record) -> String {
     let kopecks = kopecks(*kind, message).map(|kopecks| kopecks.to_string());
     let date = date(*kind, message).map(day);
     format!(
-        "{}\nparts\t{}\nkopecks\t{}\ndate\t{}\nsheet\t{}\n",
+        "{}\nparts\t{}\nkopecks\t{}\ndate\t{}\n",
         or_refused(fields(record)),
         joined(parts),
         or_refused(kopecks),
         or_refused(date),
-        or_refused(sheet(*kind, message)),
     )
 }
 

@@ -1,6 +1,6 @@
 //! Messages for the check: right ones, and for each number such as it is given
 //! for, at its several places, among them what looks like a fault and is none.
-//! Then sheets in the same way.
+//! Then sheets for the writer in the same way.
 
 mod contents;
 mod faults;
@@ -24,8 +24,20 @@ const AMPLE: usize = 3 * MOST_FIELDS;
 /// The longest list that is lent.
 const MOST_ROOM: usize = 64;
 
-pub fn run() {
-    output(&write(&records()));
+/// The messages, for the program `checks`.
+pub fn run_messages() {
+    output_those(|record| record.kind != SHEET);
+}
+
+/// The sheets, for the program `writes`.
+pub fn run_sheets() {
+    output_those(|record| record.kind == SHEET);
+}
+
+fn output_those(wanted: impl Fn(&Record) -> bool) {
+    let mut records = records();
+    records.retain(wanted);
+    output(&write(&records));
 }
 
 fn records() -> Vec<Record> {

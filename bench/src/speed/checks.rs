@@ -1,7 +1,7 @@
 //! The check of whole messages and the values of 32A, timed.
 
 use super::{heading, side_by_side};
-use crate::calls::check as proved;
+use crate::calls as proved;
 use crate::messages::{self, Message};
 use crate::plain::check as plain;
 use crate::random::Random;

@@ -1,7 +1,7 @@
 //! Texts alone: reading and writing, timed.
 
 use super::{heading, side_by_side};
-use crate::calls::text as proved;
+use crate::calls as proved;
 use crate::plain::text as plain;
 use std::hint::black_box;
 

@@ -2,7 +2,7 @@
 
 use super::checks::edited;
 use super::{heading, side_by_side};
-use crate::calls::sheet as proved;
+use crate::calls as proved;
 use crate::messages;
 use crate::plain::{read, write as plain};
 use crate::random::Random;

@@ -2,7 +2,7 @@
 
 use super::checks::{edited, long_field};
 use super::{heading, side_by_side};
-use crate::calls::sheet as proved;
+use crate::calls as proved;
 use crate::messages;
 use crate::plain::read as plain;
 use crate::random::Random;

@@ -1,15 +1,13 @@
 -- What is written reads back. Assumes nothing.
-use Prim.Native.Nat.{ℕ, zero, suc, _<_, _≤_}
-use mathlib.Core.Path.{_≡_, refl, sym, ap, _∙_, subst}
+use Prim.Native.Nat.{ℕ, zero, suc}
+use mathlib.Core.Path.{_≡_, refl}
 use mathlib.Core.List.{List, [], _∷_}
-use mathlib.Core.Bool.{Bool, true, false, not}
+use mathlib.Core.Bool.{Bool, true, false}
 use native.Mathlib.Omega.{arith}
-use lib.Dec.{eqb}
 use borrow.Author.Tests.{ne-eqb}
-use Rattle.base.specs.Choice.{pick}
 use Rattle.alphabets.specs.Grid.{Kind, unwritable, russian, latin, common, kind, spell, allowed, sign}
-use Rattle.base.specs.Calls.{Answer, said, stuck}
-use Rattle.alphabets.specs.Bank.{past, after, reads}
+use Rattle.base.specs.Calls.{said}
+use Rattle.alphabets.specs.Bank.{after, reads}
 use Rattle.alphabets.specs.Best.{latinNext, sideFor, cross, best, Spot, nowhere, at, behind, spotAfter, bad}
 use Rattle.alphabets.proofs.GridLaws.{Back, write-read}
 

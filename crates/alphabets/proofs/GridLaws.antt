@@ -1,19 +1,18 @@
 -- The table's rules, each a test computed at all 256 entries, and carried to every number: what is written reads back, what is read is what was written.
 -- Assumes nothing.
-use Prim.Native.Nat.{ℕ, zero, suc, _<_, _≤_}
-use mathlib.Core.Path.{_≡_, refl, sym, ap, _∙_, subst}
-use mathlib.Core.List.{List, [], _∷_}
-use mathlib.Core.Bool.{Bool, true, false, not, _&&_, _||_, true≢false, false≢true}
+use Prim.Native.Nat.{ℕ, _<_, _≤_}
+use mathlib.Core.Path.{_≡_, sym, ap, _∙_}
+use mathlib.Core.List.{List}
+use mathlib.Core.Bool.{Bool, true, false, not, _&&_, _||_, false≢true}
 use native.Mathlib.Decide.{decLt}
 use native.Mathlib.Omega.{arith}
-use lib.Dec.{T, leb, eqb, eqb→eq}
-use lib.ListN.{length, getD, List·getD-eq-default}
+use lib.Dec.{T, eqb, eqb→eq}
+use lib.ListN.{getD, List·getD-eq-default}
 use borrow.Author.Tests.{ne-eqb}
-use Rattle.base.specs.Choice.{pick}
 use Rattle.base.specs.Bytes.{letter, shared, isIn, marks, digit, capital}
 use Rattle.base.proofs.ByteLaws.{big-letter, big-shared}
 use Rattle.base.proofs.Table.{every, at, and-left, and-right, implied, otherwise, is-true, refuted}
-use Rattle.alphabets.specs.Grid.{grid, Kind, unwritable, russian, latin, common, kind, spell, allowed, place, sign}
+use Rattle.alphabets.specs.Grid.{grid, unwritable, russian, kind, spell, allowed, sign}
 
 -- a sign that can be written on side s reads back there, its spelling is no apostrophe, and it is not 0
 abbrev written : Bool → ℕ → ℕ → Bool

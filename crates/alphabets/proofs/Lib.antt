@@ -1,13 +1,11 @@
 pub mod GridLaws
 pub mod Back
 pub mod Shortest
-pub mod FillLaws
-pub mod ReadLaws
-pub mod WriteLaws
-pub mod TextLaws
+pub mod CodeLaws
 pub mod Theorems
 pub mod Outcomes
 pub mod PieceLaws
 pub mod PartLaws
+pub mod TextLaws
 pub mod SpokenLaws
 pub mod PartTheorems

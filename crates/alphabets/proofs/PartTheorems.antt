@@ -5,10 +5,10 @@ use mathlib.Core.Bool.{Bool, true, false, not}
 use mathlib.Core.List.{List, [], _∷_, _++_}
 use native.Mathlib.Omega.{arith}
 use native.Mathlib.Decide.{decLt}
-use lib.Dec.{eqb, ltb, leb}
+use lib.Dec.{eqb, ltb}
 use lib.ListN.{length, getD, take, drop, length-append}
 use lib.Seq.{sets, length-sets}
-use borrow.Author.Tests.{ne-eqb, eqb-false, ltb-true, ltb-false, le-leb, lt-leb}
+use borrow.Author.Tests.{ne-eqb, eqb-false, ltb-true, ltb-false, le-leb}
 use Rattle.base.specs.Choice.{pick}
 use Rattle.base.specs.Calls.{Answer, said, stuck, textOf, placed}
 use Rattle.base.proofs.CallLaws.{not-said, one-answer}
@@ -18,35 +18,22 @@ use Rattle.alphabets.specs.Bank.{reads, reading}
 use Rattle.alphabets.specs.Best.{writing}
 use Rattle.alphabets.specs.Steps.{codes}
 use Rattle.alphabets.specs.Pieces.{Partly, got, halted, beyond, joining, partly, whole, pieceOf, floorOf, heardOf, pieceAfter, pieceIn, pieceOn}
-use Rattle.alphabets.specs.Parts.{extentOf, extent, written, fitted, spoken, pieceText}
-use Rattle.alphabets.specs.declared.parts.Extent.{Extent}
+use Rattle.alphabets.specs.Parts.{extentOf, extent, written, spoken, pieceText}
 use Rattle.alphabets.specs.declared.parts.Extent.the-variants.{Takes, Halts, Long}
 use Rattle.alphabets.specs.declared.pieces.Piece.{Piece}
 use Rattle.alphabets.specs.declared.pieces.Piece.the-variants.{Read, Stops}
 use Rattle.alphabets.proofs.Theorems.{reads-back}
 use Rattle.alphabets.proofs.Outcomes.{FirstAt, writable, unwritable-at, twice-at-most}
-use Rattle.alphabets.proofs.ReadLaws.{Heard, heard-above, heard-below}
-use Rattle.alphabets.proofs.PieceLaws.{same-floor, same-heard, piece-codes, piece-append, reads-partly}
-use Rattle.alphabets.proofs.PartLaws.{extent-long, written-long, extent-is, written-is}
+use Rattle.alphabets.proofs.CodeLaws.{Heard, heard-above, heard-below}
+use Rattle.alphabets.proofs.PieceLaws.{piece-codes, piece-append, reads-partly}
+use Rattle.alphabets.proofs.PartLaws.{takes-halts, takes-long, halts-long, extent-long, written-long, extent-is, written-is}
 use Rattle.alphabets.proofs.SpokenLaws.{read-stops, text-read, text-length}
 
 -- ---- any two outcomes that a contract allows are equal, the room counted
-pub size-one : (s : Bool) (desk : List ℕ) (r q : Extent) → r ≡ extent s desk → q ≡ extent s desk → r ≡ q
-size-one s desk r q e f = one-answer e f
-
-pub put-one : (out t : List ℕ) (at r q : ℕ) (a b : List ℕ) → (r ≡ fitted out at t) × (a ≡ placed out at t) → (q ≡ fitted out at t) × (b ≡ placed out at t) → (r ≡ q) × (a ≡ b)
-put-one out t at r q a b e f = (one-answer (e .0) (f .0), one-answer (e .1) (f .1))
+pub put-one : {A : Type 0} {r q x : A} {a b after : List ℕ} → (r ≡ x) × (a ≡ after) → (q ≡ x) × (b ≡ after) → (r ≡ q) × (a ≡ b)
+put-one e f = (one-answer (e .0) (f .0), one-answer (e .1) (f .1))
 
 -- ---- the size
-takes-halts : (n k : ℕ) → Takes n ≡ Halts k → ⊥
-takes-halts n k e = let z : _≡_ {A = ℕ} 0 1 = cc in omega arith
-
-takes-long : (n : ℕ) → Takes n ≡ Long → ⊥
-takes-long n e = let z : _≡_ {A = ℕ} 0 1 = cc in omega arith
-
-halts-long : (k : ℕ) → Halts k ≡ Long → ⊥
-halts-long k e = let z : _≡_ {A = ℕ} 0 1 = cc in omega arith
-
 -- a size told: the bank text that is put is the one that is written, it reads back, and n is its length
 pub record Written (s : Bool) (desk : List ℕ) (n : ℕ) : Type 0 where
   pub within : length desk ≤ 10000
@@ -110,13 +97,12 @@ size-long s desk e = go (decLt 10000 (length desk))
     go (no h) = absurd (by (writing s desk) (sym (extent-is s desk (omega arith)) ∙ e))
 
 -- the text put: where it fits, as many bytes as its size, in their place and nowhere else; else none
-pub put-fits : (out : List ℕ) (at : ℕ) (t : List ℕ) → at + length t ≤ length out → (fitted out at t ≡ length t) × (placed out at t ≡ take at out ++ t ++ drop (at + length t) out)
-unfolding fitted placed
-put-fits out at t h = let e : leb (at + length t) (length out) ≡ true = le-leb (at + length t) (length out) h in (rw e, rw e)
+pub put-fits : (out : List ℕ) (at : ℕ) (t : List ℕ) → at + length t ≤ length out → placed out at t ≡ take at out ++ t ++ drop (at + length t) out
+unfolding placed
+put-fits out at t h = rw (le-leb (at + length t) (length out) h)
 
-pub put-misses : (out : List ℕ) (at : ℕ) (t : List ℕ) → length out < at + length t → (fitted out at t ≡ 0) × (placed out at t ≡ out)
-unfolding fitted
-put-misses out at t h = (rw (lt-leb (at + length t) (length out) h), placed-not out at t h)
+pub put-misses : (out : List ℕ) (at : ℕ) (t : List ℕ) → length out < at + length t → placed out at t ≡ out
+put-misses out at t h = placed-not out at t h
 
 -- two texts put one behind the other are their join put at once
 pub put-behind : (out : List ℕ) (at : ℕ) (t u : List ℕ) → at + length t + length u ≤ length out → placed (placed out at t) (at + length t) u ≡ placed out at (t ++ u)
@@ -192,13 +178,13 @@ spoken-codes s (x ∷ xs) u z e = go (ltb (floorOf s) (getD codes x 0)) refl (eq
         → ((v : List ℕ) → partly s xs ≡ got v z → spoken codes s xs ≡ v) → ((v : List ℕ) → partly (not s) xs ≡ got v z → spoken codes (not s) xs ≡ v)
         → pick q (heardOf s (getD codes x 0) x ∷ spoken codes s xs) (pick r (spoken codes (not s) xs) []) ≡ u
     go true l r k e f g =
-        let w : Heard s x = heard-above s x (rw (same-floor s) at (ltb-true (floorOf s) (getD codes x 0) l)) in
+        let w : Heard s x = heard-above s x (ltb-true (floorOf s) (getD codes x 0) l) in
         let n : r ≡ false = sym k ∙ ne-eqb x 39 (w .no-mark) in
-        joined (sign s x) (heardOf s (getD codes x 0) x) (spoken codes s xs) (partly s xs) (w .is ∙ sym (same-heard s (getD codes x 0) x))
+        joined (sign s x) (heardOf s (getD codes x 0) x) (spoken codes s xs) (partly s xs) (w .is)
         (ap (λ (q : Bool). pick q (beyond (partly (not s) xs)) (joining (sign s x) (partly s xs))) (sym n) ∙ e) f
     go false l true k e f g = g u (beyond-got (partly (not s) xs) e)
     go false l false k e f g =
-        let y : sign s x ≡ 0 = heard-below s x (rw (same-floor s) at (ltb-false (floorOf s) (getD codes x 0) l)) (eqb-false x 39 k) in
+        let y : sign s x ≡ 0 = heard-below s x (ltb-false (floorOf s) (getD codes x 0) l) (eqb-false x 39 k) in
         absurd (not-got 0 u z (ap (λ (n : ℕ). joining n (partly s xs)) (sym y) ∙ e))
 
 pub text-codes : (s : Bool) (b u : List ℕ) (z : Bool) → partly s b ≡ got u z → pieceText codes s b ≡ u
@@ -212,3 +198,31 @@ text-whole b d e = go (partly false b) refl (sym (reads-partly false b) ∙ e)
     go (halted k) q f = absurd (not-said k d f)
     go (got u true) q f = absurd (not-said (length b) d f)
     go (got u false) q f = let m : u ≡ d = cc in text-codes false b u false q ∙ m
+
+-- the ways out of the call that reads one, its table lent
+module _ (t b : List ℕ) (w : t ≡ codes) where
+  known : (p : Piece) → pieceIn t false b ≡ p → pieceOf (partly false b) ≡ p
+  known p e = sym (piece-codes false b) ∙ ap (λ (c : List ℕ). pieceIn c false b) (sym w) ∙ e
+
+  pub whole-stops : (k : ℕ) → pieceIn t false b ≡ Stops k → reads false b ≡ stuck k
+  whole-stops k e = go (partly false b) refl (known (Stops k) e)
+    where
+      go : (p : Partly) → partly false b ≡ p → pieceOf p ≡ Stops k → reads false b ≡ stuck k
+      go (got u z) q f = absurd (read-stops (length u) k z (sym f))
+      go (halted j) q f = let m : j ≡ k = cc in reads-partly false b ∙ ap (whole (length b)) q ∙ ap stuck m
+
+  module _ (n : ℕ) (z : Bool) (e : pieceIn t false b ≡ Read n z) where
+    read-by : (u : List ℕ) × (partly false b ≡ got u z)
+    read-by = go (partly false b) refl (known (Read n z) e)
+      where
+        go : (p : Partly) → partly false b ≡ p → pieceOf p ≡ Read n z → (u : List ℕ) × (partly false b ≡ got u z)
+        go (halted j) q f = absurd (read-stops n j z f)
+        go (got u y) q f = (u, q ∙ ap (got u) (read-same (length u) n y z f))
+
+    pub whole-open : z ≡ true → reads false b ≡ stuck (length b)
+    whole-open o = reads-partly false b ∙ ap (whole (length b)) (read-by .1 ∙ ap (got (read-by .0)) o)
+
+    pub whole-read : z ≡ false → reads false b ≡ said (pieceText t false b)
+    whole-read o =
+        let m : partly false b ≡ got (read-by .0) false = read-by .1 ∙ ap (got (read-by .0)) o in
+        reads-partly false b ∙ ap (whole (length b)) m ∙ ap said (sym (ap (λ (c : List ℕ). pieceText c false b) w ∙ text-codes false b (read-by .0) false m))

@@ -6,9 +6,9 @@ use mathlib.Core.List.{List, [], _∷_, _++_, tail}
 use native.Mathlib.Omega.{arith}
 use native.Mathlib.Numerals.{add-one}
 use lib.Dec.{eqb, ltb}
-use lib.ListN.{length, getD, drop, drop-of-length-le, length-append}
+use lib.ListN.{length, getD, drop, drop-of-length-le}
 use lib.Seq.{drop-cons, drop-drop}
-use borrow.Author.Tests.{lt-ltb, le-ltb, eq-eqb, ne-eqb, eqb-true, eqb-false, ltb-true, ltb-false}
+use borrow.Author.Tests.{lt-ltb, le-ltb, eq-eqb, ne-eqb, eqb-false, ltb-true, ltb-false}
 use Rattle.base.specs.Choice.{pick}
 use Rattle.base.specs.Calls.{Answer, said, stuck}
 use Rattle.base.proofs.CallLaws.{not-said}
@@ -20,8 +20,8 @@ use Rattle.alphabets.specs.Pieces.{Partly, got, halted, beyond, joining,
 use Rattle.alphabets.specs.declared.pieces.Piece.{Piece}
 use Rattle.alphabets.specs.declared.pieces.Piece.the-variants.{Read, Stops}
 use Rattle.alphabets.specs.declared.pieces.Sign.{Sign}
-use Rattle.runs.proofs.RunLaws.{Ended, ended, run-more, run-stop}
-use Rattle.alphabets.proofs.ReadLaws.{floor, heard, Heard, heard-above, heard-below}
+use Rattle.runs.proofs.RunLaws.{Ended, ended}
+use Rattle.alphabets.proofs.CodeLaws.{Heard, heard-above, heard-below}
 
 -- ---- pieces and whole texts
 whole-beyond : (n : ℕ) (p : Partly) → past (whole n p) ≡ whole (suc n) (beyond p)
@@ -83,16 +83,6 @@ partly-append s (x ∷ a) b = go (eqb x 39) (partly-append (not s) a b) (partly-
     go false e f = ap (joining (sign s x)) f ∙ going-joining (length a) (sign s x) (partly s a) (λ z. partly z b)
 
 -- ---- the table of codes
-pub same-floor : (s : Bool) → floorOf s ≡ floor s
-unfolding floorOf
-same-floor true = refl
-same-floor false = refl
-
-pub same-heard : (s : Bool) (v x : ℕ) → heardOf s v x ≡ heard s v x
-unfolding heardOf
-same-heard true v x = refl
-same-heard false v x = refl
-
 after-joining : (y : ℕ) (p : Partly) → (y ≡ 0 → ⊥) → pieceAfter 1 1 (pieceOf p) ≡ pieceOf (joining y p)
 after-joining zero p h = absurd (h refl)
 after-joining (suc y) (got t s) h = let e : 1 + length t ≡ suc (length t) = omega arith in ap (λ (n : ℕ). Read n s) e
@@ -112,14 +102,14 @@ piece-codes s (x ∷ xs) = go (ltb (floorOf s) (getD codes x 0)) refl (eqb x 39)
         → pick q (pieceAfter 1 1 (pieceIn codes s xs)) (pick r (pieceAfter 1 0 (pieceIn codes (not s) xs)) (Stops 0))
         ≡ pieceOf (pick (eqb x 39) (beyond (partly (not s) xs)) (joining (sign s x) (partly s xs)))
     go true e r z a b =
-        let w : Heard s x = heard-above s x (rw (same-floor s) at (ltb-true (floorOf s) (getD codes x 0) e)) in
+        let w : Heard s x = heard-above s x (ltb-true (floorOf s) (getD codes x 0) e) in
         ap (pieceAfter 1 1) a ∙ after-joining (sign s x) (partly s xs) (w .live)
         ∙ ap (λ (q : Bool). pieceOf (pick q (beyond (partly (not s) xs)) (joining (sign s x) (partly s xs)))) (sym (ne-eqb x 39 (w .no-mark)))
     go false e true z a b =
         ap (pieceAfter 1 0) b ∙ after-beyond (partly (not s) xs)
         ∙ ap (λ (q : Bool). pieceOf (pick q (beyond (partly (not s) xs)) (joining (sign s x) (partly s xs)))) (sym z)
     go false e false z a b =
-        let y : sign s x ≡ 0 = heard-below s x (rw (same-floor s) at (ltb-false (floorOf s) (getD codes x 0) e)) (eqb-false x 39 z) in
+        let y : sign s x ≡ 0 = heard-below s x (ltb-false (floorOf s) (getD codes x 0) e) (eqb-false x 39 z) in
         ap (λ (n : ℕ). pieceOf (joining n (partly s xs))) (sym y)
         ∙ ap (λ (q : Bool). pieceOf (pick q (beyond (partly (not s) xs)) (joining (sign s x) (partly s xs)))) (sym z)
 
@@ -279,16 +269,16 @@ next-sign s (x ∷ xs) d e = go (ltb (floorOf s) (getD codes x 0)) refl (eqb x 3
         → (reads (not s) xs ≡ said d → Next xs d (signIn codes (not s) xs))
         → Next (x ∷ xs) d (pick q (record { value = heardOf s (getD codes x 0) x; next = 1; latin = s }) (pick r (signAfter 1 (signIn codes (not s) xs)) (record { value = 0; next = 0; latin = s })))
     go true l r z e h =
-        let w : Heard s x = heard-above s x (rw (same-floor s) at (ltb-true (floorOf s) (getD codes x 0) l)) in
+        let w : Heard s x = heard-above s x (ltb-true (floorOf s) (getD codes x 0) l) in
         let n : r ≡ false = sym z ∙ ne-eqb x 39 (w .no-mark) in
         let v = after-was (sign s x) (reads s xs) d (ap (λ (q : Bool). pick q (past (reads (not s) xs)) (after (sign s x) (reads s xs))) (sym n) ∙ e) in
-        record { first = same-heard s (getD codes x 0) x ∙ sym (w .is) ∙ v .0; rest = v .1 }
+        record { first = sym (w .is) ∙ v .0; rest = v .1 }
     go false l true z e h =
         let w : Next xs d (signIn codes (not s) xs) = h (past-was (reads (not s) xs) d e) in
         let n : 1 + signIn codes (not s) xs .next ≡ suc (signIn codes (not s) xs .next) = omega arith in
         record { first = w .first; rest = ap (λ (k : ℕ). reads (signIn codes (not s) xs .latin) (drop k (x ∷ xs))) n ∙ w .rest }
     go false l false z e h =
-        let y : sign s x ≡ 0 = heard-below s x (rw (same-floor s) at (ltb-false (floorOf s) (getD codes x 0) l)) (eqb-false x 39 z) in
+        let y : sign s x ≡ 0 = heard-below s x (ltb-false (floorOf s) (getD codes x 0) l) (eqb-false x 39 z) in
         absurd (not-said 0 d (ap (λ (n : ℕ). after n (reads s xs)) (sym y) ∙ e))
 
 tail-at : (d : List ℕ) (j : ℕ) → getD (tail d) j 0 ≡ getD d (suc j) 0

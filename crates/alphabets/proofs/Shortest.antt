@@ -1,7 +1,7 @@
 -- No bank text that reads as a desk text is shorter than the one written, and of those as short none has fewer characters between apostrophes, and none but it as few.
 -- Assumes nothing.
 use Prim.Native.Nat.{ℕ, zero, suc, _<_, _≤_}
-use mathlib.Core.Path.{_≡_, refl, sym, ap, _∙_, subst}
+use mathlib.Core.Path.{_≡_, refl, ap, _∙_}
 use mathlib.Core.List.{List, [], _∷_}
 use mathlib.Core.Bool.{Bool, true, false, not, false≢true, true≢false}
 use native.Mathlib.Omega.{arith}

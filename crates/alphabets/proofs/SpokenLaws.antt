@@ -1,25 +1,25 @@
 -- What a piece of a bank text stands for: run by run, piece behind piece, and by the alphabets. Assumes nothing.
 use Prim.Native.Nat.{ℕ, suc, _+_, _-_, _<_, _≤_}
 use mathlib.Core.Path.{_≡_, refl, sym, ap, _∙_, subst}
-use mathlib.Core.Bool.{Bool, true, false, not, true≢false, false≢true}
+use mathlib.Core.Bool.{Bool, true, false, not}
 use mathlib.Core.List.{List, [], _∷_, _++_}
 use native.Mathlib.Omega.{arith}
 use native.Mathlib.Numerals.{add-one}
 use lib.Dec.{eqb, ltb, leb}
-use lib.ListN.{length, getD, drop, take, drop-of-length-le, length-append}
+use lib.ListN.{length, getD, drop, drop-of-length-le, length-append}
 use lib.Seq.{drop-cons, drop-drop, length-take-le, sets, length-sets}
-use borrow.Author.Tests.{le-ltb, eq-eqb, ne-eqb}
+use borrow.Author.Tests.{lt-ltb, le-ltb, eq-eqb, ne-eqb}
 use Rattle.base.specs.Choice.{pick}
 use Rattle.base.specs.Calls.{placed}
 use Rattle.base.proofs.Room.{sets-append, placed-fits}
 use Rattle.runs.specs.Runs.{run, through}
 use Rattle.alphabets.specs.Steps.{spokenRun}
 use Rattle.alphabets.specs.Pieces.{whole, floorOf, heardOf, pieceAfter, pieceIn}
-use Rattle.alphabets.specs.Parts.{fitted, spoken, unlessStops, pieceText}
+use Rattle.alphabets.specs.Parts.{spoken, unlessStops, pieceText}
 use Rattle.alphabets.specs.declared.pieces.Piece.{Piece}
 use Rattle.alphabets.specs.declared.pieces.Piece.the-variants.{Read, Stops}
 use Rattle.runs.proofs.RunLaws.{Ended, ended, through-length, Putting, putting-start, putting-end}
-use Rattle.alphabets.proofs.PartLaws.{none-room, none-count, miss-room, miss-count, fit-within, fit-count}
+use Rattle.alphabets.proofs.PartLaws.{none-room, miss-room, fit-within}
 
 -- ---- a run at the front
 module _ (t : List ℕ) (x : ℕ) (xs : List ℕ) where
@@ -158,43 +158,48 @@ module _ (t : List ℕ) (s : Bool) (b : List ℕ) where
 
     -- ---- the ways out of the call
     module _ (out : List ℕ) (at : ℕ) (q : Bool) (f : q ≡ leb (at + n) (length out)) where
-      pub piece-not : q ≡ false → (0 ≡ fitted out at (pieceText t s b)) × (out ≡ placed out at (pieceText t s b))
-      piece-not g = (miss-count out at (pieceText t s b) n text-length q f g, miss-room out at (pieceText t s b) n text-length q f g)
+      pub piece-not : q ≡ false → out ≡ placed out at (pieceText t s b)
+      piece-not g = miss-room out at (pieceText t s b) n text-length q f g
 
       pub piece-room : q ≡ true → at + length (spoken t s b) ≤ length out
       piece-room g = omega (arith, fit-within out at n q f g, counted t s b n z e)
 
-      pub piece-put : (after : List ℕ) → q ≡ true → after ≡ sets out at (spoken t s b) → (n ≡ fitted out at (pieceText t s b)) × (after ≡ placed out at (pieceText t s b))
-      piece-put after g w =
-          (fit-count out at (pieceText t s b) n text-length q f g, w ∙ sym (placed-fits out at (spoken t s b) (piece-room g)) ∙ ap (placed out at) (sym text-read))
+      pub piece-put : (after : List ℕ) → q ≡ true → after ≡ sets out at (spoken t s b) → after ≡ placed out at (pieceText t s b)
+      piece-put after g w = w ∙ sym (placed-fits out at (spoken t s b) (piece-room g)) ∙ ap (placed out at) (sym text-read)
 
-  pub piece-none : (k : ℕ) (out : List ℕ) (at : ℕ) → pieceIn t s b ≡ Stops k → (0 ≡ fitted out at (pieceText t s b)) × (out ≡ placed out at (pieceText t s b))
-  piece-none k out at e = (none-count out at (pieceText t s b) (text-stops k e), none-room out at (pieceText t s b) (text-stops k e))
+  pub piece-none : (k : ℕ) (out : List ℕ) (at : ℕ) → pieceIn t s b ≡ Stops k → out ≡ placed out at (pieceText t s b)
+  piece-none k out at e = none-room out at (pieceText t s b) (text-stops k e)
 
 -- ---- a run put by its side
+module _ (t part : List ℕ) (i : ℕ) where
+  pub latin-length : length (spokenRun t true (drop i part)) ≡ run t 0 (drop i part)
+  unfolding floorOf
+  latin-length = run-length t true (drop i part)
+
+  pub latin-more : i < length part → 0 < getD t (getD part i 0) 0 → spokenRun t true (drop i part) ≡ getD part i 0 ∷ spokenRun t true (drop (i + 1) part)
+  unfolding floorOf heardOf
+  latin-more h g = rw (add-one, drop-cons part i 0) (run-above t (getD part i 0) (drop (suc i) part) true (lt-ltb 0 (getD t (getD part i 0) 0) g))
+
+  pub latin-stop : i < length part → getD t (getD part i 0) 0 ≡ 0 → spokenRun t true (drop i part) ≡ []
+  unfolding floorOf
+  latin-stop h g = rw (drop-cons part i 0) (run-below t (getD part i 0) (drop (suc i) part) true (le-ltb 0 (getD t (getD part i 0) 0) (omega arith)))
+
+  pub latin-end : length part ≤ i → spokenRun t true (drop i part) ≡ []
+  latin-end h = ap (spokenRun t true) (drop-of-length-le part h) ∙ run-empty t true
+
 module _ (t part out : List ℕ) (i n : ℕ) where
+  pub latin-room : (s : Bool) → s ≡ true → n + length (spokenRun t s (drop i part)) ≤ length out → n + length (spokenRun t true (drop i part)) ≤ length out
+  latin-room s e h = rw e at h
+
   pub russian-room : (s : Bool) → s ≡ false → n + length (spokenRun t s (drop i part)) ≤ length out → n + length (through t 1 (drop i part)) ≤ length out
   unfolding spokenRun
-  russian-room true e h = absurd (true≢false e)
-  russian-room false e h = h
+  russian-room s e h = rw e at h
 
-  pub run-russian : (s : Bool) (k : ℕ) (after : List ℕ) → s ≡ false → k ≡ i + run t 1 (drop i part) → after ≡ sets out n (through t 1 (drop i part))
-      → (k ≡ i + run t (floorOf s) (drop i part)) × (after ≡ sets out n (spokenRun t s (drop i part)))
-  unfolding spokenRun floorOf
-  run-russian true k after e f g = absurd (true≢false e)
-  run-russian false k after e f g = (f, g)
-
-  module _ (k : ℕ) (f : k ≡ i + run t 0 (drop i part)) where
-    latin-part : take (k - i) (drop i part) ≡ spokenRun t true (drop i part)
-    unfolding spokenRun
-    latin-part = let z : k - i ≡ run t 0 (drop i part) = omega arith in ap (λ (j : ℕ). take j (drop i part)) z
-
-    pub latin-room : (s : Bool) → s ≡ true → n + length (spokenRun t s (drop i part)) ≤ length out → n + length (take (k - i) (drop i part)) ≤ length out
-    latin-room false e h = absurd (false≢true e)
-    latin-room true e h = omega (arith, ap length latin-part)
-
-    pub run-latin : (s : Bool) (after : List ℕ) → s ≡ true → n + length (spokenRun t s (drop i part)) ≤ length out → after ≡ placed out n (take (k - i) (drop i part))
-        → (k ≡ i + run t (floorOf s) (drop i part)) × (after ≡ sets out n (spokenRun t s (drop i part)))
+  module _ (s : Bool) (k : ℕ) (after : List ℕ) where
+    pub run-latin : s ≡ true → (k ≡ i + run t 0 (drop i part)) × (after ≡ sets out n (spokenRun t true (drop i part))) → (k ≡ i + run t (floorOf s) (drop i part)) × (after ≡ sets out n (spokenRun t s (drop i part)))
     unfolding floorOf
-    run-latin false after e h g = absurd (false≢true e)
-    run-latin true after e h g = (f, g ∙ placed-fits out n (take (k - i) (drop i part)) (latin-room true e h) ∙ ap (sets out n) latin-part)
+    run-latin e w = rw (e) w
+
+    pub run-russian : s ≡ false → (k ≡ i + run t 1 (drop i part)) × (after ≡ sets out n (through t 1 (drop i part))) → (k ≡ i + run t (floorOf s) (drop i part)) × (after ≡ sets out n (spokenRun t s (drop i part)))
+    unfolding floorOf spokenRun
+    run-russian e w = rw (e) w

@@ -4,55 +4,59 @@ use mathlib.Core.Path.{_≡_, refl, sym, ap, _∙_}
 use mathlib.Core.Bool.{Bool, true, false}
 use mathlib.Core.List.{List, [], _∷_}
 use native.Mathlib.Omega.{arith}
+use native.Mathlib.Decide.{decLt}
 use lib.Dec.{eqb, ltb}
 use lib.ListN.{length, getD}
 use borrow.Author.Tests.{lt-ltb, le-ltb, ltb-true, ltb-false}
 use Rattle.base.specs.Choice.{pick}
 use Rattle.base.specs.Bytes.{xset, classes, outside, lead}
 use Rattle.base.specs.Rules.{first}
-use Rattle.base.specs.Calls.{Answer, said, stuck, textOf, stopped, short, over, Gives}
+use Rattle.base.specs.Calls.{Answer, said, stuck, textOf, stopped, short, placed, Gives}
 use Rattle.base.specs.declared.Verdict.{Verdict}
-use Rattle.base.specs.declared.Verdict.the-variants.{Broken}
+use Rattle.base.specs.declared.Outcome.{Outcome}
 use Rattle.base.specs.declared.Outcome.the-variants.{Done, Refused}
 use Rattle.base.proofs.ByteLaws.{Bytes, class-at}
-use Rattle.base.proofs.CallLaws.{gives-refused, gives-done, is-long, is-short, not-short}
+use Rattle.base.proofs.CallLaws.{gives-refused, gives-done, gives-past, is-long, not-long, is-short, not-short}
+use Rattle.base.proofs.Room.{placed-not}
 use Rattle.alphabets.specs.Bank.{after, plainly}
+use Rattle.alphabets.specs.Parts.{extentOf}
+use Rattle.alphabets.specs.Text.{textRules, endingOf}
+use Rattle.alphabets.specs.declared.parts.Extent.{Extent}
+use Rattle.alphabets.specs.declared.parts.Extent.the-variants.{Takes, Halts}
 use Rattle.alphabets.proofs.Theorems.{no-xset-zero}
-use Rattle.alphabets.specs.Text.{textRules}
-use Rattle.alphabets.specs.Steps.{sizeOf, Fits}
-use Rattle.alphabets.specs.declared.Size.the-variants.{Units, Bad}
+use Rattle.alphabets.proofs.PartLaws.{placed-none, placed-behind}
 
-pub units-bad : (n k : ℕ) → Units n ≡ Bad k → ⊥
-units-bad n k e = let z : _≡_ {A = ℕ} 0 1 = cc in omega arith
+-- ---- the answer of a call, by the size of its text and the room
+module _ (number room : ℕ) (z : Extent) where
+  pub ending-halts : (k : ℕ) → z ≡ Halts k → Refused number k ≡ endingOf number z room
+  ending-halts k e = rw e
 
--- ---- the ways out of a call whose text was measured
-module _ (number : ℕ) (out : List ℕ) where
-  abbrev pub tailRules : Answer → List Verdict
-  tailRules a = stopped number a ∷ short (textOf a) out ∷ []
+  module _ (n : ℕ) (e : z ≡ Takes n) where
+    pub ending-short : room < n → Refused 17 n ≡ endingOf number z room
+    ending-short h = rw (e, lt-ltb room n h)
 
-  pub stops : (a : Answer) (k : ℕ) → Bad k ≡ sizeOf a → Gives (tailRules a) (textOf a) out (Refused number k) out
-  stops (said t) k e = absurd (units-bad (length t) k (sym e))
-  stops (stuck j) k e = let q : k ≡ j = cc in gives-refused (tailRules (stuck j)) [] out number k (ap (Broken number) (sym q))
+    pub ending-done : n ≤ room → Done n ≡ endingOf number z room
+    ending-done h = rw (e, le-ltb room n h)
 
-  pub no-room : (a : Answer) (n : ℕ) → Units n ≡ sizeOf a → length out < n → Gives (tailRules a) (textOf a) out (Refused 17 n) out
-  no-room (stuck j) n e h = absurd (units-bad n j e)
-  no-room (said t) n e h =
-      let q : n ≡ length t = cc in
-      gives-refused (tailRules (said t)) t out 17 n (ap (λ (v : Verdict). first (v ∷ [])) (is-short t out (omega arith)) ∙ ap (Broken 17) (sym q))
+gives-ending : (number : ℕ) (a : Answer) (out after : List ℕ) (z : Extent) (r : Outcome) → z ≡ extentOf a → after ≡ placed out 0 (textOf a) → r ≡ endingOf number z (length out) → Gives (stopped number a ∷ short (textOf a) out ∷ []) (textOf a) out r after
+gives-ending number (stuck k) out after z r e f g = rw (g ∙ ap (λ (y : Extent). endingOf number y (length out)) e, f ∙ placed-none out 0) (gives-refused (stopped number (stuck k) ∷ short [] out ∷ []) [] out number k refl)
+gives-ending number (said t) out after z r e f g = go (decLt (length out) (length t))
+  where
+    rules : List Verdict
+    rules = stopped number (said t) ∷ short t out ∷ []
 
-  pub fine : (a : Answer) (n : ℕ) (after : List ℕ) → Units n ≡ sizeOf a → n ≤ length out → after ≡ over (textOf a) out → Gives (tailRules a) (textOf a) out (Done n) after
-  fine (stuck j) n after e h l = absurd (units-bad n j e)
-  fine (said t) n after e h l =
-      let q : n ≡ length t = cc in
-      rw (q, l) (gives-done (tailRules (said t)) t out (ap (λ (v : Verdict). first (v ∷ [])) (not-short t out (omega arith))))
+    go : Dec (length out < length t) → Gives rules t out r after
+    go (yes h) = rw (g ∙ sym (ending-short number (length out) z (length t) e h), f ∙ placed-not out 0 t (omega arith)) (gives-refused rules t out 17 (length t) (ap (λ (v : Verdict). first (v ∷ [])) (is-short t out h)))
+    go (no h) =
+        let l : length t ≤ length out = omega arith in
+        rw (g ∙ sym (ending-done number (length out) z (length t) e l), f ∙ sym (placed-behind out 0 t (omega arith))) (gives-done rules t out (ap (λ (v : Verdict). first (v ∷ [])) (not-short t out l)))
 
-pub room-for : (a : Answer) (n room : ℕ) → Units n ≡ sizeOf a → n ≤ room → Fits a room
-room-for (said t) n room e h = let q : n ≡ length t = cc in omega arith
-room-for (stuck j) n room e h = units-bad n j e
+module _ (limit number : ℕ) (input : List ℕ) (a : Answer) (out : List ℕ) where
+  pub too-long : limit < length input → Gives (textRules limit number input a out) (textOf a) out (Refused 1 limit) out
+  too-long h = gives-refused (textRules limit number input a out) (textOf a) out 1 limit (rw (is-long limit input h))
 
--- the limit, in front of them
-pub too-long : (limit number : ℕ) (input : List ℕ) (a : Answer) (out : List ℕ) → limit < length input → Gives (textRules limit number input a out) (textOf a) out (Refused 1 limit) out
-too-long limit number input a out h = gives-refused (textRules limit number input a out) (textOf a) out 1 limit (rw (is-long limit input h))
+  pub answered : (after : List ℕ) (z : Extent) (r : Outcome) → length input ≤ limit → (z ≡ extentOf a) × (after ≡ placed out 0 (textOf a)) → r ≡ endingOf number z (length out) → Gives (textRules limit number input a out) (textOf a) out r after
+  answered after z r h w g = gives-past (not-long limit input h) (gives-ending number a out after z r (w .0) (w .1) g)
 
 -- ---- texts without the sign
 -- the text stops where the table of classes stops
@@ -78,13 +82,8 @@ plain-lead (x ∷ xs) b = go (xset x) refl (lead classes xs) (plain-lead xs (λ 
     go false e n ih = rw (class-of, e, lt-ltb 0 (suc (length xs)) (omega arith))
 
 module _ (s : List ℕ) (b : Bytes s) (k : ℕ) (e : k ≡ lead classes s) where
-  pub plain-stops : k < length s → Bad k ≡ sizeOf (plainly s)
-  plain-stops h =
-      let q : plainly s ≡ stuck (lead classes s) = plain-lead s b ∙ rw (lt-ltb (lead classes s) (length s) (omega arith)) in
-      ap Bad e ∙ sym (ap sizeOf q)
+  pub plain-stuck : k < length s → plainly s ≡ stuck k
+  plain-stuck h = plain-lead s b ∙ rw (sym e, lt-ltb k (length s) h)
 
-  plain-whole : length s ≤ k → plainly s ≡ said s
-  plain-whole h = plain-lead s b ∙ rw (le-ltb (lead classes s) (length s) (omega arith))
-
-  pub plain-units : length s ≤ k → Units (length s) ≡ sizeOf (plainly s)
-  plain-units h = sym (ap sizeOf (plain-whole h))
+  pub plain-said : length s ≤ k → plainly s ≡ said s
+  plain-said h = plain-lead s b ∙ rw (sym e, le-ltb k (length s) h)

@@ -1,5 +1,5 @@
 -- What is promised of a text (D3, T4-T11), over the definitions that the contracts cite. Assumes nothing.
-use Prim.Native.Nat.{ℕ, zero, suc, _<_, _≤_}
+use Prim.Native.Nat.{ℕ, zero, suc, _≤_}
 use mathlib.Core.Path.{_≡_, refl, sym, ap, _∙_}
 use mathlib.Core.List.{List, [], _∷_}
 use mathlib.Core.Logic.{_↔_}
@@ -13,19 +13,19 @@ use Rattle.base.proofs.CallLaws.{not-said}
 use Rattle.alphabets.specs.Grid.{Kind, unwritable, russian, latin, common, kind, allowed}
 use Rattle.alphabets.specs.Bank.{after, reads, plainly, reading, inner}
 use Rattle.alphabets.specs.Best.{best, Spot, nowhere, at, spotAfter, bad, orStuck, writes, writing}
-use Rattle.alphabets.proofs.Back.{never, reads-best}
+use Rattle.alphabets.proofs.Back.{reads-best}
 use Rattle.alphabets.proofs.Shortest.{Beats, shorter, fewer, same, beats, Came, turned, signed, came}
 
 -- ---- with the sign
-record Written (d t : List ℕ) : Type 0 where
-  whole : bad d ≡ nowhere
-  is : t ≡ best false d
+pub record Written (d t : List ℕ) : Type 0 where
+  pub whole : bad d ≡ nowhere
+  pub is : t ≡ best false d
 
 written-by : (p : Spot) (d t : List ℕ) → bad d ≡ p → orStuck p (best false d) ≡ said t → Written d t
 written-by nowhere d t b e = record { whole = b; is = cc }
 written-by (at k) d t b e = absurd (not-said k t e)
 
-written : (d t : List ℕ) → writes d ≡ said t → Written d t
+pub written : (d t : List ℕ) → writes d ≡ said t → Written d t
 unfolding writes
 written d t e = written-by (bad d) d t refl e
 

@@ -1,5 +1,5 @@
 -- The bank text that is written for a desk text (T10). That it is the one that D3 asks for is proved in proofs/Theorems.antt. Assumes nothing.
-use Prim.Native.Nat.{ℕ, zero, suc}
+use Prim.Native.Nat.{ℕ, suc}
 use mathlib.Core.List.{List, [], _∷_}
 use mathlib.Core.Bool.{Bool, true, false}
 use Rattle.base.specs.Calls.{Answer, said, stuck}

@@ -1,5 +1,5 @@
 -- The table: from a desk sign (a byte of windows-1251) to the bank letter that stands for it, 0 where it has none (T2, T9). Assumes nothing.
-use Prim.Native.Nat.{ℕ, zero, suc}
+use Prim.Native.Nat.{ℕ, suc}
 use mathlib.Core.List.{List, [], _∷_}
 use mathlib.Core.Bool.{Bool, true, false, not, _||_}
 use lib.Dec.{eqb}

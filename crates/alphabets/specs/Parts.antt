@@ -1,8 +1,8 @@
 -- A text inside larger room: how long the bank text for a desk text is, and what is put from a place on for it and for a piece of a bank text (T4-T7, T10, T11, K6). Assumes nothing.
-use Prim.Native.Nat.{ℕ, _+_}
+use Prim.Native.Nat.{ℕ}
 use mathlib.Core.List.{List, [], _∷_}
 use mathlib.Core.Bool.{Bool, not}
-use lib.Dec.{eqb, ltb, leb}
+use lib.Dec.{eqb, ltb}
 use lib.ListN.{length, getD}
 use Rattle.base.specs.Choice.{pick}
 use Rattle.base.specs.Calls.{Answer, said, stuck, textOf}
@@ -13,6 +13,7 @@ use Rattle.alphabets.specs.declared.pieces.Piece.the-variants.{Read, Sto
 use Rattle.alphabets.specs.declared.parts.Extent.{Extent}
 use Rattle.alphabets.specs.declared.parts.Extent.the-variants.{Takes, Halts, Long}
 
+-- how long a text is, or where it stops
 abbrev pub extentOf : Answer → Extent
 extentOf (said t) = Takes (length t)
 extentOf (stuck k) = Halts k
@@ -24,10 +25,6 @@ extent sign desk = pick (ltb 10000 (length desk)) Long (extentOf (writing sign d
 -- the bank text that is put for a desk text, none where there is none or the desk text is too long
 unfoldable pub written : Bool → List ℕ → List ℕ
 written sign desk = pick (ltb 10000 (length desk)) [] (textOf (writing sign desk))
-
--- how many units of t are put into the room from n on: all that `placed` puts, or none
-unfoldable pub fitted : List ℕ → ℕ → List ℕ → ℕ
-fitted out n t = pick (leb (n + length t) (length out)) (length t) 0
 
 -- what a piece of a bank text stands for by a table, as far as it reads
 unfoldable pub spoken : List ℕ → Bool → List ℕ → List ℕ

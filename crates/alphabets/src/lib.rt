@@ -1,36 +1,34 @@
-// Two alphabets: a bank text read, and a desk text written as the shortest bank text.
-mod grid;
+// Two alphabets: what a bank text says, whole and in pieces. A desk text is written in the crate `spelling`.
+mod codes;
 pub mod parts;
 pub mod pieces;
-mod reading;
-mod writing;
 
 ghost use mathlib.Core.Path.{_≡_};
-ghost use Rattle.alphabets.specs.Text.{textRules, ReadTo, WrittenTo};
-ghost use Rattle.alphabets.specs.Bank.{plainly};
-ghost use Rattle.alphabets.specs.Steps.{endingOf};
-ghost use Rattle.base.specs.Calls.{Gives, textOf, stopped, short};
-ghost use mathlib.Core.List.{[], _∷_};
+ghost use mathlib.Core.Bool.{false};
+ghost use Rattle.base.specs.Calls.{textOf, placed};
+ghost use Rattle.alphabets.specs.Bank.{reads};
+ghost use Rattle.alphabets.specs.Parts.{extentOf};
+ghost use Rattle.alphabets.specs.Text.{ReadTo, endingOf};
 use base::Outcome;
+use parts::Extent;
+use parts::fill_piece;
+use parts::fits;
 use parts::put_plain;
-use parts::put_text;
+use pieces::Piece;
 use pieces::back_table;
-use reading::fill;
-use reading::measure;
+use pieces::read_piece;
 
-// How many units a text takes, or the place where it stops.
-pub(crate) enum Size {
-    Units(usize),
-    Bad(usize),
-}
-
-// A call's answer, by the size of its text and the room.
-fn ending(number: u32, size: Size, room: usize) -> Outcome
+// A call's answer, by how long its text is, or where it stops, and the room.
+pub fn ending(number: u32, size: Extent, room: usize) -> Outcome
     ensures { λ r. ⌜ r ≡ endingOf number size room ⌝ }
 {
     match size {
-        Size::Bad(k) => Outcome::Refused { number, place: k },
-        Size::Units(n) => {
+        Extent::Halts(k) => Outcome::Refused { number, place: k },
+        Extent::Long => Outcome::Refused {
+            number: 1,
+            place: 10000,
+        },
+        Extent::Takes(n) => {
             if room < n {
                 return Outcome::Refused {
                     number: 17,
@@ -42,13 +40,24 @@ fn ending(number: u32, size: Size, room: usize) -> Outcome
     }
 }
 
-// A text without the sign: its own bytes, all of the x set.
-fn copy_text(number: u32, text: &[u8], out: &mut [u8]) -> Outcome
-    ensures { λ r. ⌜ Gives (stopped number (plainly (now (text .entry))) ∷ short (textOf (plainly (now (text .entry)))) (now (out .entry)) ∷ []) (textOf (plainly (now (text .entry)))) (now (out .entry)) r (now (out .exit)) ⌝ }
+// A whole bank text is a piece from the Russian side on that does not end on the Latin one.
+fn put_whole(bank: &[u8], out: &mut [u8]) -> Extent
+    ensures { λ r. ⌜ (r ≡ extentOf (reads false (now (bank .entry)))) × (now (out .exit) ≡ placed (now (out .entry)) 0 (textOf (reads false (now (bank .entry))))) ⌝ }
 {
-    let room = out.len();
-    let size = put_plain(text, out, 0);
-    ending(number, size, room)
+    let back = back_table();
+    match read_piece(&back, false, bank) {
+        Piece::Stops(k) => Extent::Halts(k),
+        Piece::Read { units, latin } => {
+            if latin {
+                return Extent::Halts(bank.len());
+            }
+            if !fits(out.len(), 0, units) {
+                return Extent::Takes(units);
+            }
+            fill_piece(&back, false, bank, out, 0);
+            Extent::Takes(units)
+        }
+    }
 }
 
 // What a bank text says.
@@ -61,39 +70,11 @@ pub fn read_text(sign: bool, bank: &[u8], out: &mut [u8]) -> Outcome
             place: 10000,
         };
     }
-    if !sign {
-        return copy_text(14, bank, out);
-    }
-    let back = back_table();
-    match measure(&back, bank) {
-        Size::Bad(k) => Outcome::Refused {
-            number: 14,
-            place: k,
-        },
-        Size::Units(n) => {
-            if out.len() < n {
-                return Outcome::Refused {
-                    number: 17,
-                    place: n,
-                };
-            }
-            fill(&back, bank, out);
-            Outcome::Done(n)
-        }
-    }
-}
-
-// The shortest bank text for a desk text.
-pub fn write_text(sign: bool, desk: &[u8], out: &mut [u8]) -> Outcome
-    ensures { λ r. ⌜ WrittenTo sign (now (desk .entry)) (now (out .entry)) r (now (out .exit)) ⌝ }
-{
-    if desk.len() > 5000 {
-        return Outcome::Refused {
-            number: 1,
-            place: 5000,
-        };
-    }
     let room = out.len();
-    let size = put_text(sign, desk, out, 0);
-    ending(15, size, room)
+    if sign {
+        let said = put_whole(bank, out);
+        return ending(14, said, room);
+    }
+    let plain = put_plain(bank, out, 0);
+    ending(14, plain, room)
 }

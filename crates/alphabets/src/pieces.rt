@@ -3,7 +3,7 @@ ghost use mathlib.Core.Path.{_≡_};
 ghost use mathlib.Core.Bool.{false};
 ghost use Rattle.alphabets.specs.Steps.{codes};
 ghost use Rattle.alphabets.specs.Pieces.{floorOf, heardOf, pieceIn, signFrom, signsFrom};
-use super::grid::BACK;
+use super::codes::BACK;
 use runs::run_of;
 use runs::value;
 

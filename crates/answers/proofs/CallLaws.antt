@@ -17,10 +17,13 @@ use Rattle.base.specs.declared.Outcome.{Outcome}
 use Rattle.base.specs.declared.Outcome.the-variants.{Done, Refused}
 use Rattle.base.proofs.CallLaws.{accepted, refused, not-short}
 use Rattle.fields.specs.Frame.{limit}
-use Rattle.writer.specs.Sheet.{messageFor, writeRules, MessageTo}
-use Rattle.answers.specs.Line.{shown}
-use Rattle.answers.specs.Programs.{messageAnswer, Puts, MessageAnswered}
-use Rattle.answers.specs.Steps.{Held, shownOf, roomless}
+use Rattle.drafts.specs.Sheet.{messageFor}
+use Rattle.writer.specs.Sheet.{writeRules, MessageTo}
+use Rattle.refusals.specs.Line.{shown}
+use Rattle.answers.specs.Programs.{messageAnswer, MessageAnswered}
+use Rattle.refusals.specs.Shown.{Puts}
+use Rattle.answers.specs.Steps.{roomless}
+use Rattle.refusals.specs.Shown.{shownOf}
 use Rattle.answers.proofs.VerdictLaws.{fine-verdict, other-verdict, short-verdict}
 
 -- ---- any call: its answer is held, and shown as its first broken rule or its text
@@ -30,10 +33,6 @@ module _ (rules : List Verdict) (t old m : List ℕ) where
       let a = accepted rules t old n m g in
       let c = a .count in
       (omega (arith, ap length (a .filled), length-append t (drop (length t) old)), ap₂ (λ (k : ℕ) (l : List ℕ). take k l) (a .count) (a .filled) ∙ take-append-seam t (drop (length t) old))
-
-  pub held : {a : Outcome} → Gives rules t old a m → Held a m
-  held {a = Done n} g = done-held g .0
-  held {a = Refused n p} g = tt
 
   pub shown-is : {a : Outcome} → Gives rules t old a m → shownOf a m ≡ shown (first rules) t
   shown-is {a = Done n} g = done-held g .1 ∙ ap (λ (v : Verdict). shown v t) (sym (accepted rules t old n m g .clean))
@@ -50,28 +49,12 @@ puts-done t out after r h g =
 pub puts-front : (t out after : List ℕ) (r : Outcome) (k : ℕ) → Puts t out r after → r ≡ Done k → (k ≤ length after) × (take k after ≡ t)
 puts-front t out after r k g e = done-held (short t out ∷ []) t out after (subst (λ (q : Outcome). Gives (short t out ∷ []) t out q after) e g)
 
--- ---- an answer known by its form
-pub held-done : (a : Outcome) (m : List ℕ) {n : ℕ} → a ≡ Done n → Held a m → n ≤ length m
-held-done a m {n} e h = subst (λ (x : Outcome). Held x m) e h
-
-pub shown-by : {a b : Outcome} (m out : List ℕ) {after : List ℕ} {r : Outcome} → a ≡ b → Puts (shownOf b m) out r after → Puts (shownOf a m) out r after
-shown-by m out {after} {r} e h = subst (λ (x : Outcome). Puts (shownOf x m) out r after) (sym e) h
-
 -- ---- a refusal that is not 17 is left as it is
 pub kept : (a : Outcome) (n p : ℕ) → a ≡ Refused n p → (n ≡ 17 → ⊥) → Refused n p ≡ roomless a
 kept a n p e h = sym (ap roomless e ∙ ap (λ (b : Bool). pick b (Refused 1 0) (Refused n p)) (ne-eqb n 17 h))
 
 -- ---- the call on a sheet
 module _ (s old m : List ℕ) (l : length old ≡ limit) where
-  pub message-held : (a : Outcome) → MessageTo s old a m → Held (roomless a) m
-  unfolding MessageTo
-  message-held (Done n) g = held (writeRules s old) (messageFor s) old m g
-  message-held (Refused n p) g = go (eqb n 17)
-    where
-      go : (b : Bool) → Held (pick b (Refused 1 0) (Refused n p)) m
-      go true = tt
-      go false = tt
-
   pub message-shown : (a : Outcome) → MessageTo s old a m → shownOf (roomless a) m ≡ messageAnswer s
   unfolding MessageTo messageAnswer
   message-shown (Done n) g = done-held (writeRules s old) (messageFor s) old m g .1 ∙ ap (λ (v : Verdict). shown v (messageFor s)) (sym (fine-verdict s old (accepted (writeRules s old) (messageFor s) old n m g .clean)))
@@ -82,9 +65,6 @@ module _ (s old m : List ℕ) (l : length old ≡ limit) where
       go false e f = ap (λ (v : Verdict). shown v (messageFor s)) (sym (other-verdict s old n p (eqb-false n 17 e) f))
 
   module _ (a : Outcome) {b : Outcome} (g : MessageTo s old a m) (e : b ≡ roomless a) where
-    pub answer-held : Held b m
-    answer-held = subst (λ (x : Outcome). Held x m) (sym e) (message-held a g)
-
     pub answered : {out after : List ℕ} {r : Outcome} → Puts (shownOf b m) out r after → MessageAnswered s out r after
     unfolding MessageAnswered
     answered {out} {after} {r} h = subst (λ (t : List ℕ). Puts t out r after) (ap (λ (x : Outcome). shownOf x m) e ∙ message-shown a g) h

@@ -1,5 +1,3 @@
-pub mod DigitLaws
-pub mod LineLaws
 pub mod VerdictLaws
 pub mod PlaceLaws
 pub mod CallLaws

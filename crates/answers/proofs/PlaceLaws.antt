@@ -19,7 +19,7 @@ use Rattle.records.specs.Places.{sizeOf}
 use Rattle.records.specs.Sentences.{BadAt, unbegun, untyped, wrong, unended}
 use Rattle.records.proofs.SheetLaws.{sheet-rest}
 use Rattle.records.proofs.PlaceLaws.{size-sheet, widthOf, size-tabbed}
-use Rattle.writer.specs.Spread.{coded, castParts}
+use Rattle.lines.specs.Spread.{coded, castParts}
 use Rattle.written.specs.Sentences as why
 use Rattle.written.specs.Sentences.{partsSize, StuckPart, StuckAt, Reason}
 use Rattle.answers.specs.Programs.{messageVerdict}

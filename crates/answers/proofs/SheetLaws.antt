@@ -27,10 +27,12 @@ use Rattle.records.specs.Rule19.{number}
 use Rattle.sheets.specs.Gather.{sheetOf}
 use Rattle.sheets.specs.Calls.{readRules, SheetTo}
 use Rattle.trips.proofs.Theorems.{sheet-size}
-use Rattle.answers.specs.Line.{refusalLine, shown}
-use Rattle.answers.specs.Programs.{Puts, namesType, messageIn, typeRule, sheetVerdict, sheetAnswer, SheetAnswered}
-use Rattle.answers.specs.Steps.{Held, shownOf, ReadsNamed}
-use Rattle.answers.proofs.CallLaws.{held, shown-is, puts-done, puts-front}
+use Rattle.refusals.specs.Line.{refusalLine, shown}
+use Rattle.answers.specs.Programs.{namesType, messageIn, typeRule, sheetVerdict, sheetAnswer, SheetAnswered, inputRead}
+use Rattle.refusals.specs.Shown.{Puts}
+use Rattle.answers.specs.Steps.{ReadsNamed}
+use Rattle.refusals.specs.Shown.{shownOf}
+use Rattle.answers.proofs.CallLaws.{shown-is, puts-done, puts-front}
 use Rattle.answers.proofs.Theorems.{line-fits}
 
 -- any two outcomes are equal, lent units counted
@@ -60,9 +62,6 @@ room-last i m l = first-last (typeRule i ∷ messageRules (number i) (messageIn 
         (omega (arith, sheet-size (number i) (messageIn i) (then-clean (typeRule i) (first (messageRules (number i) (messageIn i))) e .1)))
 
 module _ (i old m : List ℕ) (l : length old ≡ limit) (a : Outcome) (g : ReadsNamed i old a m) where
-  pub sheet-held : Held a m
-  sheet-held = held _ _ old m g
-
   pub sheet-answered : {out after : List ℕ} {r : Outcome} → Puts (shownOf a m) out r after → SheetAnswered i out r after
   unfolding SheetAnswered sheetAnswer
   sheet-answered {out} {after} {r} h =
@@ -115,8 +114,16 @@ same-front [] (suc n) k h = refl
 same-front (x ∷ i) (suc n) zero h = refl
 same-front (x ∷ i) (suc n) (suc k) h = same-front i n k (omega arith)
 
-pub sheet-answer-read : (i : List ℕ) → sheetAnswer (take (limit + 5) i) ≡ sheetAnswer i
-unfolding sheetAnswer namesType
+module _ (i j : List ℕ) (a : byte j 0 ≡ byte i 0) (b : byte j 1 ≡ byte i 1) (c : byte j 2 ≡ byte i 2) where
+  number-same : number j ≡ number i
+  number-same = rw (a, b, c) refl
+
+  type-same : byte j 3 ≡ byte i 3 → namesType j ≡ namesType i
+  unfolding namesType
+  type-same d = rw (a, b, c, d) refl
+
+pub sheet-answer-read : (i : List ℕ) → sheetAnswer (take inputRead i) ≡ sheetAnswer i
+unfolding sheetAnswer
 sheet-answer-read i = go (decLt (limit + 5) (length i))
   where
     j : List ℕ
@@ -126,10 +133,10 @@ sheet-answer-read i = go (decLt (limit + 5) (length i))
     same k h = same-front i (limit + 5) k h
 
     kinds : number j ≡ number i
-    kinds = rw (same 0 (omega arith), same 1 (omega arith), same 2 (omega arith)) refl
+    kinds = number-same i j (same 0 (omega arith)) (same 1 (omega arith)) (same 2 (omega arith))
 
     types : namesType j ≡ namesType i
-    types = rw (same 0 (omega arith), same 1 (omega arith), same 2 (omega arith), same 3 (omega arith)) refl
+    types = type-same i j (same 0 (omega arith)) (same 1 (omega arith)) (same 2 (omega arith)) (same 3 (omega arith))
 
     go : Dec (limit + 5 < length i) → sheetAnswer j ≡ sheetAnswer i
     go (no h) = ap sheetAnswer (take-all (limit + 5) i (omega arith))

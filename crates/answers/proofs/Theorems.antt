@@ -27,11 +27,12 @@ use Rattle.fields.proofs.TagLaws.{upto-at, past-at}
 use Rattle.judge.specs.Message.{messageRules, verdictOf}
 use Rattle.records.specs.Rule19.{sheetType}
 use Rattle.values.specs.Number.{number}
-use Rattle.writer.specs.Sheet.{sheetRules, ownRule, messageFor, writeRules, MessageTo}
+use Rattle.drafts.specs.Sheet.{sheetRules, messageFor}
+use Rattle.writer.specs.Sheet.{ownRule, writeRules, MessageTo}
 use Rattle.written.proofs.OwnLaws.{own-fine}
-use Rattle.answers.specs.Line.{decimal, refusalLine, shown}
-use Rattle.answers.specs.Programs.{messageVerdict, messageAnswer, MessageAnswered}
-use Rattle.answers.proofs.DigitLaws.{decimal-value, decimal-digits, size-most}
+use Rattle.refusals.specs.Line.{decimal, refusalLine, shown}
+use Rattle.answers.specs.Programs.{messageVerdict, messageAnswer, MessageAnswered, sheetRead}
+use Rattle.refusals.proofs.DigitLaws.{decimal-value, decimal-digits, size-most}
 use Rattle.answers.proofs.VerdictLaws.{over-limit, room-verdict, fine-verdict}
 use Rattle.answers.proofs.PlaceLaws.{refusal-within}
 use Rattle.answers.proofs.CallLaws.{done-held, puts-done, puts-front}
@@ -151,7 +152,7 @@ answer-over s h = ap (λ (v : Verdict). shown v (messageFor s)) (over-limit s h)
 pub answer-cut : (s t : List ℕ) → limit < length s → messageAnswer (s ++ t) ≡ messageAnswer s
 answer-cut s t h = answer-over (s ++ t) (omega (arith, length-append s t)) ∙ sym (answer-over s h)
 
-pub answer-read : (s : List ℕ) → messageAnswer (take (limit + 1) s) ≡ messageAnswer s
+pub answer-read : (s : List ℕ) → messageAnswer (take sheetRead s) ≡ messageAnswer s
 answer-read s = go (decLt limit (length s))
   where
     go : Dec (limit < length s) → messageAnswer (take (limit + 1) s) ≡ messageAnswer s

@@ -2,7 +2,7 @@
 -- message's own 1 (O2, N1, N17). Assumes nothing.
 use Prim.Native.Nat.{ℕ, _<_, _≤_}
 use mathlib.Core.Path.{_≡_, refl, sym, ap, _∙_}
-use mathlib.Core.List.{List, [], _∷_, _++_}
+use mathlib.Core.List.{List, [], _∷_}
 use mathlib.Core.Logic.{inl, inr}
 use native.Mathlib.Omega.{arith}
 use native.Mathlib.Decide.{decLt}
@@ -16,20 +16,16 @@ use Rattle.base.proofs.CallLaws.{is-long, is-short, not-short, short-within}
 use Rattle.fields.specs.Frame.{limit}
 use Rattle.types.specs.Walk.{rule18}
 use Rattle.records.specs.Rule19.{sheetType}
-use Rattle.writer.specs.Sheet.{messageFor, sheetRules, atStart, ownRule, writeRules}
+use Rattle.drafts.specs.Sheet.{messageFor, sheetRules}
+use Rattle.writer.specs.Sheet.{ownRule, atStart, writeRules}
 use Rattle.written.specs.Sentences as why
 use Rattle.written.specs.Sentences.{Reason}
-use Rattle.writer.proofs.CallLaws.{long-verdict}
+use Rattle.writer.proofs.CallLaws.{long-verdict, first-append}
 use Rattle.written.proofs.Theorems.{refusal-reason}
 use Rattle.answers.specs.Programs.{messageVerdict}
 
 same-number : {m n p q : ℕ} → Broken m p ≡ Broken n q → m ≡ n
 same-number e = cc
-
-first-append : (us vs : List Verdict) → first (us ++ vs) ≡ then (first us) (first vs)
-first-append [] vs = refl
-first-append (Fine ∷ us) vs = first-append us vs
-first-append (Broken n p ∷ us) vs = refl
 
 -- 17 comes only with too little room
 no-room : {s out : List ℕ} {n p : ℕ} → Reason s out p n → n ≡ 17 → length (messageFor s) ≤ length out → ⊥

@@ -1,4 +1,3 @@
-pub mod Line
 pub mod Programs
 pub mod Steps
 pub mod Cases

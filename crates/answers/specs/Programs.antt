@@ -1,5 +1,5 @@
 -- The whole output of a program for its whole input (R1-R3, O1, O2). Assumes nothing.
-use Prim.Native.Nat.{ℕ}
+use Prim.Native.Nat.{ℕ, _+_}
 use mathlib.Core.Bool.{Bool, _&&_}
 use mathlib.Core.List.{List, [], _∷_, _++_}
 use lib.Dec.{eqb}
@@ -7,15 +7,17 @@ use lib.ListN.{drop}
 use Rattle.base.specs.Choice.{pick}
 use Rattle.base.specs.Bytes.{byte, digit}
 use Rattle.base.specs.Rules.{first}
-use Rattle.base.specs.Calls.{short, Gives}
 use Rattle.base.specs.declared.Verdict.{Verdict}
 use Rattle.base.specs.declared.Verdict.the-variants.{Fine, Broken}
 use Rattle.base.specs.declared.Outcome.{Outcome}
+use Rattle.fields.specs.Frame.{limit}
 use Rattle.judge.specs.Message.{messageRules}
 use Rattle.records.specs.Rule19.{number}
-use Rattle.writer.specs.Sheet.{sheetRules, ownRule, messageFor}
+use Rattle.drafts.specs.Sheet.{sheetRules, messageFor}
+use Rattle.writer.specs.Sheet.{ownRule}
 use Rattle.sheets.specs.Gather.{sheetOf}
-use Rattle.answers.specs.Line.{shown}
+use Rattle.refusals.specs.Line.{shown}
+use Rattle.refusals.specs.Shown.{Puts}
 
 -- the order of writing without 17: a program has room enough
 abbrev pub messageVerdict : List ℕ → Verdict
@@ -24,10 +26,6 @@ messageVerdict s = first (sheetRules s ++ ownRule s ∷ [])
 -- `tomessage`: the message for the sheet, or its refusal
 unfoldable pub messageAnswer : List ℕ → List ℕ
 messageAnswer s = shown (messageVerdict s) (messageFor s)
-
--- a text put into the room lent, refused only by 17
-abbrev pub Puts : List ℕ → List ℕ → Outcome → List ℕ → Type 0
-Puts t out r after = Gives (short t out ∷ []) t out r after
 
 unfoldable pub MessageAnswered : List ℕ → List ℕ → Outcome → List ℕ → Type 0
 MessageAnswered s out r after = Puts (messageAnswer s) out r after
@@ -52,3 +50,10 @@ sheetAnswer i = shown (sheetVerdict i) (sheetOf (number i) (messageIn i))
 
 unfoldable pub SheetAnswered : List ℕ → List ℕ → Outcome → List ℕ → Type 0
 SheetAnswered i out r after = Puts (sheetAnswer i) out r after
+
+-- as many bytes of its input as a program reads: one more than a sheet, or the type and a message, can have
+abbrev pub sheetRead : ℕ
+sheetRead = limit + 1
+
+abbrev pub inputRead : ℕ
+inputRead = limit + 5

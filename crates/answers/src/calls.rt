@@ -4,10 +4,10 @@ ghost use mathlib.Core.Bool.{true};
 ghost use Rattle.records.specs.Rule19.{number};
 ghost use Rattle.answers.specs.Programs.{MessageAnswered, SheetAnswered, namesType};
 ghost use Rattle.answers.specs.Steps.{roomless, ReadsNamed};
-use super::line::put_shown;
 use base::Outcome;
 use base::bytes::is_digit;
 use base::bytes::wide;
+use refusals::put_shown;
 use sheets::calls::to_sheet;
 use writer::calls::to_message;
 

@@ -1,3 +1,3 @@
 // Whole answers of the programs: the output, or the line of the refusal.
 pub mod calls;
-mod line;
+pub mod rooms;

@@ -1,15 +1,15 @@
 -- Bytes of a range, texts that are the same, the table of classes, and the loop to the first byte outside the x set. Assumes nothing.
-use Prim.Native.Nat.{ℕ, suc, _+_, _<_, _≤_}
+use Prim.Native.Nat.{ℕ, suc, _+_, _-_, _<_, _≤_}
 use mathlib.Core.Path.{_≡_, refl, sym, ap, ap₂, _∙_}
-use mathlib.Core.Bool.{Bool, true, false, false≢true}
+use mathlib.Core.Bool.{Bool, true, false, _&&_, false≢true}
 use mathlib.Core.List.{List, [], _∷_}
 use native.Mathlib.Omega.{arith}
 use native.Mathlib.Numerals.{add-one}
 use lib.Dec.{T, eqb, leb, leb→le}
-use lib.ListN.{length, getD, drop, drop-of-length-le}
-use lib.Seq.{drop-cons}
+use lib.ListN.{length, getD, take, drop, drop-of-length-le, length-drop}
+use lib.Seq.{drop-cons, take-all}
 use borrow.Author.Tests.{eq-eqb, ne-eqb, eqb-true, lt-leb, le-leb, leb-true}
-use Rattle.base.specs.Bytes.{byte, begins, isIn, digit, capital, letter, marks, shared, xset, outside, classes, lead, same}
+use Rattle.base.specs.Bytes.{byte, begins, isIn, digit, capital, letter, marks, shared, outside, classes, lead, same}
 use Rattle.base.proofs.Bools.{left, right, both}
 use Rattle.base.proofs.Table.{every, and-left, and-right, values-at}
 
@@ -43,6 +43,38 @@ pub same-refl : (s : List ℕ) → same s s ≡ true
 unfolding same
 same-refl [] = refl
 same-refl (x ∷ s) = both (eq-eqb x x refl) (same-refl s)
+
+-- the loop over both: a byte that is the same, one that is not, the end, and texts that differ in length
+module _ (a b : List ℕ) (i : ℕ) (h : i < length a) (l : i < length b) where
+  pub same-on : getD a i 0 ≡ getD b i 0 → same (drop i a) (drop i b) ≡ same (drop (i + 1) a) (drop (i + 1) b)
+  unfolding same
+  same-on e = rw (add-one, drop-cons a i 0, drop-cons b i 0, eq-eqb (getD a i 0) (getD b i 0) e)
+
+  pub same-stop : (getD a i 0 ≡ getD b i 0 → ⊥) → same (drop i a) (drop i b) ≡ false
+  unfolding same
+  same-stop e = rw (drop-cons a i 0, drop-cons b i 0, ne-eqb (getD a i 0) (getD b i 0) e)
+
+pub same-end : (a b : List ℕ) (i : ℕ) → length a ≤ i → length b ≤ i → same (drop i a) (drop i b) ≡ true
+unfolding same
+same-end a b i h l = rw (drop-of-length-le a h, drop-of-length-le b l)
+
+pub same-not : (a b : List ℕ) → (length a ≡ length b → ⊥) → same a b ≡ false
+unfolding same
+same-not [] [] h = absurd (h refl)
+same-not [] (y ∷ b) h = refl
+same-not (x ∷ a) [] h = refl
+same-not (x ∷ a) (y ∷ b) h = go (eqb x y) (same-not a b (λ e. h (ap suc e)))
+  where
+    go : (t : Bool) → same a b ≡ false → (t && same a b) ≡ false
+    go true e = e
+    go false e = refl
+
+-- ---- a part past the end, and one up to the end
+pub past-end : (s : List ℕ) (n : ℕ) → length s < n → take 0 s ≡ drop n s
+past-end s n h = sym (drop-of-length-le s {i = n} (omega arith))
+
+pub past-in : (s : List ℕ) (n : ℕ) → take (length s - n) (drop n s) ≡ drop n s
+past-in s n = take-all (length s - n) (drop n s) (omega (arith, length-drop n s))
 
 -- ---- a loop that passes over the front
 module _ (t s : List ℕ) (i : ℕ) (h : i < length s) where
@@ -87,10 +119,6 @@ big-letter x h = simp (le-leb 65 x (omega arith), lt-leb x 90 (omega arith), le-
 pub big-shared : (x : ℕ) → 256 ≤ x → shared x ≡ false
 unfolding shared digit marks
 big-shared x h = simp (le-leb 48 x (omega arith), lt-leb x 57 (omega arith)) (not-in x marks 0 tt h)
-
-pub big-xset : (x : ℕ) → 256 ≤ x → xset x ≡ false
-unfolding xset
-big-xset x h = simp (big-letter x h, big-shared x h, ne-eqb x 39 (omega arith))
 
 -- ---- the table of classes
 pub class-at : (x : ℕ) → x < 256 → getD classes x 0 ≡ outside x

@@ -5,4 +5,5 @@ pub mod RuleLaws
 pub mod Room
 pub mod CallLaws
 pub mod ByteLaws
+pub mod MarkLaws
 pub mod BitLaws

@@ -1,8 +1,8 @@
 // Bytes looked at, looked through, and put into lent room.
 ghost use mathlib.Core.Path.{_≡_};
 ghost use Prim.Native.Nat.{_+_, _≤_, _<_};
-ghost use lib.ListN.{length, drop, getD};
-ghost use Rattle.base.specs.Bytes.{digit, capital, lead};
+ghost use lib.ListN.{length, take, drop, getD};
+ghost use Rattle.base.specs.Bytes.{digit, capital, lead, same};
 ghost use Rattle.base.specs.Calls.{placed};
 
 pub fn wide(x: u8) -> u32
@@ -90,4 +90,37 @@ pub fn put(out: &mut [u8], at: usize, part: &[u8])
         return;
     }
     copy(out, at, part);
+}
+
+// The first n bytes, or all where there are fewer.
+pub fn front(s: &[u8], n: usize) -> &[u8]
+    ensures { λ r. ⌜ now r ≡ take n (now (s .entry)) ⌝ }
+{
+    if n < s.len() { &s[..n] } else { s }
+}
+
+// What stands behind the first n bytes; nothing where there are fewer.
+pub fn past(s: &[u8], n: usize) -> &[u8]
+    ensures { λ r. ⌜ now r ≡ drop n (now (s .entry)) ⌝ }
+{
+    if s.len() < n {
+        return &s[..0];
+    }
+    &s[n..]
+}
+
+pub fn is_same(a: &[u8], b: &[u8]) -> bool
+    ensures { λ r. ⌜ r ≡ same (now (a .entry)) (now (b .entry)) ⌝ }
+{
+    if a.len() != b.len() {
+        return false;
+    }
+    let mut i = 0;
+    while i < a.len() {
+        if a[i] != b[i] {
+            return false;
+        }
+        i += 1;
+    }
+    true
 }

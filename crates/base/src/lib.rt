@@ -1,6 +1,7 @@
 // Answers, bytes and lent room: what every other crate is written with.
 pub mod bits;
 pub mod bytes;
+pub mod marks;
 pub mod xset;
 
 // The answer of a call that writes: how many units it wrote, or the number and the place that a clerk sees.

@@ -12,7 +12,7 @@ use Rattle.alphabets.specs.Grid.{grid, kind, sign}
 use Rattle.alphabets.specs.Bank.{reads, plainly}
 use Rattle.alphabets.specs.Steps.{code, codes}
 use Rattle.alphabets.specs.Pieces.{floorOf, heardOf, pieceIn}
-use Rattle.alphabets.specs.Parts.{extent, written, fitted, spoken, pieceText}
+use Rattle.alphabets.specs.Parts.{extent, written, spoken, pieceText}
 use Rattle.alphabets.specs.Best.{latinNext, best, bad, writes}
 use Rattle.alphabets.specs.Text.{ReadTo, WrittenTo}
 use Rattle.fields.specs.Field.{upto, past}
@@ -31,7 +31,7 @@ gives : {rules : List Verdict} {t out : List ℕ} {r : Outcome} {after : List �
 gives p q = record { answers = p; leaves = q }
 
 pub worked : AllHold cases
-unfolding cases placed plainly code codes floorOf heardOf pieceIn extent written fitted spoken pieceText xset isIn digit capital letter marks shared grid kind sign reads latinNext best bad writes long short ReadTo WrittenTo upto past onward leap daysIn isDay yearOf realDay kopecks dayAt kopecksOf
+unfolding cases placed plainly code codes floorOf heardOf pieceIn extent written spoken pieceText xset isIn digit capital letter marks shared grid kind sign reads latinNext best bad writes long short ReadTo WrittenTo upto past onward leap daysIn isDay yearOf realDay kopecks dayAt kopecksOf
 worked =
     (gives refl refl, gives refl refl) also (gives refl refl, gives refl refl) also (gives refl refl, gives refl refl) also (gives refl refl, gives refl refl)
     also (gives refl refl, gives refl refl) also (gives refl refl, gives refl refl) also gives refl refl also gives refl refl also gives refl refl also gives refl refl
@@ -39,7 +39,7 @@ worked =
     also (gives refl refl, gives refl refl) also (gives refl refl, gives refl refl) also (gives refl refl, gives refl refl) also (gives refl refl, gives refl refl)
     also (gives refl refl, gives refl refl) also gives refl refl also gives refl refl also gives refl refl also gives refl refl also gives refl refl
     also refl also refl also refl also refl also refl also refl
-    also (refl, refl) also (refl, refl) also (refl, refl) also (refl, refl) also (refl, refl)
+    also refl also refl also refl also refl also refl
     also refl also refl also refl also refl
     also refl also refl also refl also refl also refl also refl
     also tt

@@ -13,7 +13,7 @@ use Rattle.base.specs.Calls.{over, placed}
 use Rattle.base.specs.declared.Outcome.the-variants.{Done, Refused}
 use Rattle.alphabets.specs.Text.{ReadTo, WrittenTo}
 use Rattle.alphabets.specs.Steps.{codes}
-use Rattle.alphabets.specs.Parts.{extent, fitted, pieceText}
+use Rattle.alphabets.specs.Parts.{extent, pieceText}
 use Rattle.alphabets.specs.Parts as parts
 use Rattle.alphabets.specs.declared.parts.Extent.{Extent}
 use Rattle.alphabets.specs.declared.parts.Extent.the-variants.{Takes, Halts}
@@ -42,8 +42,8 @@ pub data Case : Type 0 where
   unwritten : String → ℕ → ℕ → Case
   -- with the sign or without it, what is written for a desk text is so long, or halts
   sized : Bool → String → Extent → Case
-  -- it is put into the room from a place on: so many bytes, and the room then
-  puts : Bool → String → String → ℕ → ℕ → String → Case
+  -- it is put into the room from a place on: the room then
+  puts : Bool → String → String → ℕ → String → Case
   -- from a side, a piece of a bank text stands for this
   hears : Bool → String → String → Case
   -- a content of 32A with this amount has so many kopecks
@@ -57,7 +57,7 @@ Holds (reads b d) = ReadTo true (bytes b) room (Done (length (bytes d))) (over (
 Holds (unread b n p) = ReadTo true (bytes b) room (Refused n p) room
 Holds (unwritten d n p) = WrittenTo true (bytes d) room (Refused n p) room
 Holds (sized s d e) = extent s (bytes d) ≡ e
-Holds (puts s d out at n after) = (fitted (bytes out) at (parts.written s (bytes d)) ≡ n) × (placed (bytes out) at (parts.written s (bytes d)) ≡ bytes after)
+Holds (puts s d out at after) = placed (bytes out) at (parts.written s (bytes d)) ≡ bytes after
 Holds (hears s b d) = pieceText codes s (bytes b) ≡ bytes d
 Holds (worth a k) = kopecksOf (bytes "240229RUB" ++ bytes a) ≡ k
 Holds (isDay d) = dayAt (bytes d) 0 ≡ true
@@ -102,11 +102,11 @@ cases =
     ∷ sized false "A'B" (Takes 3)
     ∷ sized false "AЯ" (Halts 1)
     -- inside, at the very end, one byte too far, and no text
-    ∷ puts true "A" "......" 1 3 ".'A'.."
-    ∷ puts true "A" "......" 3 3 "...'A'"
-    ∷ puts true "A" "......" 4 0 "......"
-    ∷ puts true "A'B" "......" 1 0 "......"
-    ∷ puts false "A'B" "......" 1 3 ".A'B.."
+    ∷ puts true "A" "......" 1 ".'A'.."
+    ∷ puts true "A" "......" 3 "...'A'"
+    ∷ puts true "A" "......" 4 "......"
+    ∷ puts true "A'B" "......" 1 "......"
+    ∷ puts false "A'B" "......" 1 ".A'B.."
     -- the side is carried on, and W alone has no reading on the Russian side
     ∷ hears false "P'A" "ПA"
     ∷ hears true "B'c" "BЧ"

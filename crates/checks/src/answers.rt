@@ -1,6 +1,5 @@
-// What the calls answer for a message, in five lines.
+// What the calls answer for a message, in four lines.
 ghost use Prim.Native.Nat.{_*_, _≤_};
-use crate::returns::tell_sheet;
 use libc::STDOUT_FILENO;
 use listing::Span;
 use message::Amount;
@@ -20,12 +19,12 @@ const BLANK: u32 = 77;
 // The places of the longest type, and the one behind.
 const PLACES: usize = 15;
 
-pub(crate) fn tell(n: u64, end: &[u8]) {
+fn tell(n: u64, end: &[u8]) {
     io::print_decimal(STDOUT_FILENO, n);
     io::write_all(STDOUT_FILENO, end);
 }
 
-pub(crate) fn tell_refusal(number: u32, place: usize) {
+fn tell_refusal(number: u32, place: usize) {
     io::write_all(STDOUT_FILENO, b"refused\t");
     tell(number as u64, b"\t");
     tell(place as u64, b"\n");
@@ -145,5 +144,4 @@ pub(crate) fn answer(kind: u32, room: usize, m: &[u8])
     tell_parts(kind, m);
     tell_kopecks(kind, m);
     tell_date(kind, m);
-    tell_sheet(kind, m);
 }

@@ -1,46 +1,43 @@
-// Takes stored messages through the check, the parts of their places, the kopecks, the date and `to_sheet`, stored sheets through `to_message`,
-// each there and back, and writes what the calls answer.
-ghost use Prim.Native.Nat.{_≤_};
-ghost use Rattle.checks.specs.Records.{most};
-
+// Takes stored messages through the check, the parts of their places, the kopecks and the date, and writes what the calls answer.
+// The line of a record has the type, the units of room and the bytes of the message.
 mod answers;
-mod entries;
-mod returns;
-mod written;
 
+use answers::ROOM;
 use answers::answer;
-use entries::Form;
-use entries::record_at;
 use libc::STDIN_FILENO;
 use libc::STDOUT_FILENO;
-use written::tell_message;
+use stored::cut;
+use stored::entry_at;
 
-fn answer_record(kind: u32, room: usize, m: &[u8])
-    requires { ⌜ room ≤ most kind ⌝ }
-{
-    if kind == 0 {
-        tell_message(room, m);
-        return;
+// The place behind the record, 0 where it is of wrong form.
+fn answer_record(list: &[u8], at: usize) -> usize {
+    let entry = entry_at(list, at);
+    let kind = entry.kind;
+    let room = entry.room;
+    if kind > 4294967295 {
+        return 0;
     }
-    answer(kind, room, m);
+    if room > ROOM {
+        return 0;
+    }
+    let next = entry.next;
+    if next == 0 {
+        return 0;
+    }
+    answer(kind as u32, room, cut(list, entry.start, entry.size));
+    next
 }
 
 // Up to the first record of wrong form.
 fn go_through(list: &[u8]) {
     let mut at = 0;
     while at < list.len() {
-        let Form::Right {
-            kind,
-            room,
-            start,
-            end,
-        } = record_at(list, at)
-        else {
+        let next = answer_record(list, at);
+        if next <= at {
             io::write_all(STDOUT_FILENO, b"a record of wrong form\n");
             return;
-        };
-        answer_record(kind, room, &list[start..end]);
-        at = end + 1;
+        }
+        at = next;
     }
 }
 

@@ -23,7 +23,7 @@ use Rattle.fields.proofs.ByLines.{colons-body}
 use Rattle.fields.proofs.FieldLaws.{message-fields, fields-lineable, fields-shaped, fields-dash, laid-size}
 
 -- ---- fields that stand in a message from o on
-laid-append : (ks ls : List (List ℕ)) → laid (ks ++ ls) ≡ laid ks ++ laid ls
+pub laid-append : (ks ls : List (List ℕ)) → laid (ks ++ ls) ≡ laid ks ++ laid ls
 laid-append [] ls = refl
 laid-append (k ∷ ks) ls = ap (λ (x : List ℕ). k ++ 13 ∷ 10 ∷ x) (laid-append ks ls) ∙ sym (append-assoc k (13 ∷ 10 ∷ laid ks) (laid ls))
 

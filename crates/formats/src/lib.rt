@@ -4,7 +4,6 @@ ghost use mathlib.Core.Bool.{true};
 ghost use Prim.Native.Nat.{ℕ, _+_, _-_, _≤_, _<_};
 ghost use mathlib.Core.List.{List};
 ghost use lib.ListN.{length, drop};
-ghost use Rattle.base.specs.Bytes.{digit};
 ghost use Rattle.formats.specs.Format.{sign, member, run, counted, meets, fits, formatAt};
 use base::bytes::is_capital;
 use base::bytes::is_digit;

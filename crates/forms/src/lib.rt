@@ -3,9 +3,12 @@ pub mod tables;
 
 ghost use mathlib.Core.Path.{_≡_};
 ghost use Rattle.fields.specs.Shapes.{unpack};
+ghost use Rattle.machine.specs.Lines.{linesIn};
+ghost use Rattle.machine.specs.Machine.{right};
 ghost use Rattle.forms.specs.Formats.{formats};
 ghost use Rattle.forms.specs.States.{rows};
 ghost use Rattle.forms.specs.Contents.{starts103, starts202, stateIn, stateOf};
+use machine::is_right;
 use tables::FORMATS;
 use tables::ROWS;
 
@@ -76,4 +79,11 @@ pub fn state_of(kind: u32, sign: bool, tag: u32) -> usize
         return state_202(sign, tag);
     }
     0
+}
+
+// Whether the content of a field with that tag is right, by tables of formats and rows that are lent.
+pub fn is_right_field(f: &[u8], r: &[u8], kind: u32, sign: bool, tag: u32, content: &[u8]) -> bool
+    ensures { λ v. ⌜ v ≡ right (now (f .entry)) (now (r .entry)) (stateOf kind sign (unpack tag)) (linesIn (now (content .entry))) ⌝ }
+{
+    is_right(f, r, state_of(kind, sign, tag), content)
 }

@@ -1,14 +1,14 @@
 -- Numbers and places of refusals are small, and so are the answers: each fits one word. Assumes nothing.
-use Prim.Native.Nat.{ℕ, zero, suc, _+_, _-_, _<_, _≤_}
-use mathlib.Core.Path.{_≡_, refl, sym, ap, _∙_, subst}
+use Prim.Native.Nat.{ℕ, suc, _+_, _-_, _≤_}
+use mathlib.Core.Path.{_≡_, refl, sym, ap, _∙_}
 use mathlib.Core.Bool.{Bool, true, false}
-use mathlib.Core.List.{List, [], _∷_, _++_}
+use mathlib.Core.List.{List, [], _∷_}
 use native.Mathlib.Omega.{arith}
 use lib.Dec.{eqb, leb, ltb}
-use lib.ListN.{length, length-append}
+use lib.ListN.{length}
 use Rattle.base.specs.Choice.{pick}
 use Rattle.base.specs.Bytes.{xset, begins, empty}
-use Rattle.base.specs.Rules.{then, first}
+use Rattle.base.specs.Rules.{then}
 use Rattle.base.specs.Calls.{long}
 use Rattle.base.specs.declared.Verdict.{Verdict}
 use Rattle.base.specs.declared.Verdict.the-variants.{Fine, Broken}
@@ -22,7 +22,7 @@ use Rattle.fields.proofs.FieldLaws.{laid-size, fields-dash}
 use Rattle.fields.proofs.PlaceLaws.{size-append}
 use Rattle.types.specs.Form.{Place, placesOf}
 use Rattle.types.specs.Walk.{find, skips, wrong, walk, rule18, walked}
-use Rattle.frame.specs.Frame.{frameRules, refusal}
+use Rattle.frame.specs.Frame.{refusal}
 
 -- a refusal's number is at most 18, and its place at most b
 abbrev pub Small : ℕ → Verdict → Type 0

@@ -1,9 +1,8 @@
 -- The ways out of the call `judge` and of its two halves. Assumes nothing.
 use Prim.Native.Nat.{ℕ}
-use mathlib.Core.Path.{_≡_, refl, sym, ap, ap₂, _∙_}
+use mathlib.Core.Path.{_≡_, refl, sym, ap, _∙_}
 use mathlib.Core.Bool.{Bool, true, false}
 use mathlib.Core.List.{List, [], _∷_, _++_}
-use lib.ListN.{length}
 use Rattle.base.specs.Choice.{pick}
 use Rattle.base.specs.Bytes.{begins}
 use Rattle.base.specs.Rules.{then, first}
@@ -14,26 +13,24 @@ use Rattle.fields.specs.Field.{Field, fields}
 use Rattle.fields.specs.Places.{startOf}
 use Rattle.types.specs.Sign.{signOf}
 use Rattle.types.specs.Walk.{walked}
-use Rattle.types.specs.Tables.{padded}
 use Rattle.frame.specs.declared.Frame.{Frame}
-use Rattle.frame.specs.Frame.{frameRules, refusal, wordOf, capacity, spotsOf, bare, frameBy}
-use Rattle.frame.proofs.CallLaws.{Found}
+use Rattle.frame.specs.Frame.{frameRules, refusal, bare, frameBy, frameOf}
 use Rattle.forms.specs.FieldRules.{firstWrong}
 use Rattle.forms.specs.Contents.{rightField, rule8}
 use Rattle.forms.proofs.ContentLaws.{firstOf, sign-first}
 use Rattle.values.specs.Judged.{rule9, rule10, rule11, rule12, rule13}
 use Rattle.roles.specs.Rule14.{unheard, spoken, rule14}
 use Rattle.judge.specs.declared.facts.Facts.{Facts}
-use Rattle.judge.specs.Facts.{nothingYet, factsFrom, valueRules}
-use Rattle.judge.specs.Message.{innerRules, contentRules, messageRules, verdictOf, judgedOf}
+use Rattle.judge.specs.Facts.{nothingYet, factsFrom, bothTaxed, valueRules}
+use Rattle.judge.specs.Message.{innerRules, contentRules, verdictOf, judgedOf}
 use Rattle.judge.proofs.FactLaws.{values-told}
 
 -- ---- 9 to 14
-module _ (kind : ℕ) (fs : List Field) {f : Facts} (e : f ≡ factsFrom nothingYet 5 fs) {v : Verdict} (q : v ≡ valueRules f) where
+module _ (kind : ℕ) (fs : List Field) {f : Facts} (e : f ≡ factsFrom nothingYet 5 fs) {v : Verdict} (q : v ≡ valueRules f (bothTaxed fs)) where
   inner-by : first (innerRules kind fs) ≡ then v (rule14 kind fs)
   inner-by =
       first-last (rule9 fs ∷ rule10 fs ∷ rule11 fs ∷ rule12 fs ∷ rule13 fs ∷ []) (rule14 kind fs)
-      ∙ ap (λ (u : Verdict). then u (rule14 kind fs)) (sym (q ∙ ap valueRules e ∙ values-told fs))
+      ∙ ap (λ (u : Verdict). then u (rule14 kind fs)) (sym (q ∙ ap (λ (g : Facts). valueRules g (bothTaxed fs)) e ∙ values-told fs))
 
   pub inner-refused : {n p : ℕ} → v ≡ Broken n p → Broken n p ≡ first (innerRules kind fs)
   inner-refused z = sym (inner-by ∙ ap (λ (u : Verdict). then u (rule14 kind fs)) z)
@@ -79,8 +76,12 @@ module _ (kind : ℕ) (m : List ℕ) where
   unfolding judgedOf frameBy
   broken-is e q = q ∙ sym (ap (λ (v : Verdict). frameBy v kind m) e)
 
-  pub frame-refused : {f : Frame} {n p : ℕ} → refusal kind m ≡ Broken n p → f ≡ bare (Broken n p) → f ≡ judgedOf kind m
-  frame-refused e q = broken-is (verdict-by ∙ ap (λ (v : Verdict). then v (first (contentRules kind m))) e) q
+  as-framed : {f : Frame} {v : Verdict} → f ≡ frameOf kind m → refusal kind m ≡ v → verdictOf kind m ≡ v → f ≡ judgedOf kind m
+  unfolding judgedOf frameOf
+  as-framed e q z = e ∙ ap (λ (v : Verdict). frameBy v kind m) (q ∙ sym z)
+
+  pub frame-refused : {f : Frame} {n p : ℕ} → f ≡ frameOf kind m → refusal kind m ≡ Broken n p → f ≡ judgedOf kind m
+  frame-refused e q = as-framed e q (verdict-by ∙ ap (λ (v : Verdict). then v (first (contentRules kind m))) q)
 
   module _ (c : refusal kind m ≡ Fine) {v : Verdict} (q : v ≡ first (contentRules kind m)) where
     verdict-is : verdictOf kind m ≡ v
@@ -89,7 +90,5 @@ module _ (kind : ℕ) (m : List ℕ) where
     pub judged-refused : {f : Frame} {n p : ℕ} → v ≡ Broken n p → f ≡ bare (Broken n p) → f ≡ judgedOf kind m
     judged-refused z e = broken-is (verdict-is ∙ z) e
 
-    pub judged-fine : {n w : ℕ} {spots : List ℕ} → v ≡ Fine → n ≡ length (fields m) → Found kind m spots w
-        → _≡_ {A = Frame} (record { verdict = Fine; fields = n; present = w; spots = spots }) (judgedOf kind m)
-    unfolding judgedOf frameBy
-    judged-fine {n} {w} {spots} z e f = rw (e, f .word-is, f .spots-are) (sym (ap (λ (u : Verdict). frameBy u kind m) (verdict-is ∙ z)))
+    pub judged-fine : {f : Frame} → f ≡ frameOf kind m → v ≡ Fine → f ≡ judgedOf kind m
+    judged-fine e z = as-framed e c (verdict-is ∙ z)

@@ -1,7 +1,7 @@
 -- What 9 to 13 need of the fields, found field by field, comes to those rules. Assumes nothing.
 use Prim.Native.Nat.{ℕ, zero, suc, _+_, _-_, _≤_}
 use mathlib.Core.Path.{_≡_, refl, sym, ap, ap₂, _∙_}
-use mathlib.Core.Bool.{Bool, true, false, not, _&&_, _||_, true≢false, false≢true, or-false}
+use mathlib.Core.Bool.{Bool, true, false, not, _&&_, _||_, or-false}
 use mathlib.Core.List.{List, [], _∷_}
 use native.Mathlib.Omega.{arith}
 use lib.Dec.{eqb}
@@ -19,14 +19,15 @@ use Rattle.fields.specs.Places.{startOf, nextOf}
 use Rattle.fields.specs.Shapes.{unpack}
 use Rattle.fields.proofs.PackLaws.{same-unpack}
 use Rattle.types.specs.Walk.{among}
-use Rattle.values.specs.Values.{Kind, tag, Value, placeOf, kindOf, valuesOf, contentOf, valuesIn}
-use Rattle.values.specs.Judged.{firstBad, has, noDay, foreign, apart, tagged, kppIn, is56, is57, is26T, is77B, tags56, tags57, taxWhole, rule9, rule10, rule11, rule12, rule13}
+use Rattle.values.specs.Values.{Kind, tag, partyTags, Value, placeOf, kindOf, valuesOf, contentOf, valuesIn}
+use Rattle.values.specs.Judged.{firstBad, has, noDay, foreign, apart, tagged, kppIn, is56, is57, is26T, is77B, tags56, tags57, rule9, rule10, rule11, rule12, rule13}
 use Rattle.values.specs.Answers.{faultOf, answered, kppOf}
 use Rattle.values.proofs.JudgedLaws.{Ordered, none, next}
 use Rattle.values.proofs.ValueLaws.{values-order}
 use Rattle.values.proofs.StepLaws.{first-field, first-tag, has-tag, has-kpp, kpp-payer, kpp-payee, kpp-other, rule11-by, rule13-by}
 use Rattle.judge.specs.declared.facts.Facts.{Facts}
-use Rattle.judge.specs.Facts.{orElse, within, marked, toldAs, nothingYet, noted, factsFrom, openBank, taxRule, valueRules}
+use Rattle.values.proofs.FaultLaws.{no-date, no-money, no-party, among-two, among-party}
+use Rattle.judge.specs.Facts.{orElse, within, marked, toldAs, nothingYet, noted, Idle, factsFrom, openBank, taxTag, taxed, bothTaxed, taxRule, valueRules}
 
 -- ---- places
 pub else-old : {a : ℕ} (b : ℕ) → (a ≡ 0 → ⊥) → a ≡ orElse a b
@@ -76,14 +77,42 @@ pub faults-in : (bad : Kind → Bool) (t c : List ℕ) → faultOf bad (valuesOf
 faults-in bad t c = fault-within bad (values-order t c)
 
 -- ---- one field more
-pub made : (f : Facts) (o s : ℕ) (t c : List ℕ) {d m b p u g : ℕ} {w x y : Bool}
+pub made : (f : Facts) (o s : ℕ) (t c : List ℕ) {d m b p u g : ℕ} {w : Bool}
     → d ≡ orElse (f .day) (within s (faultOf noDay (valuesOf t c))) → m ≡ orElse (f .currency) (within s (faultOf foreign (valuesOf t c)))
     → b ≡ orElse (f .bank) (marked (among t tags56) o) → w ≡ (f .through || among t tags57) → p ≡ orElse (f .party) (within s (faultOf apart (valuesOf t c)))
     → u ≡ orElse (f .purpose) (marked (same t (bytes "26T")) o) → g ≡ orElse (f .budget) (marked (same t (bytes "77B")) o)
-    → x ≡ (f .payer || has (kppIn (bytes "50K")) (valuesOf t c)) → y ≡ (f .payee || has (kppIn (bytes "59")) (valuesOf t c))
-    → _≡_ {A = Facts} (record { day = d; currency = m; bank = b; through = w; party = p; purpose = u; budget = g; payer = x; payee = y }) (noted f o s t c)
+    → _≡_ {A = Facts} (record { day = d; currency = m; bank = b; through = w; party = p; purpose = u; budget = g }) (noted f o s t c)
 unfolding noted
-made f o s t c d m b w p u g x y = rw (d, m, b, w, p, u, g, x, y)
+made f o s t c d m b w p u g = rw (d, m, b, w, p, u, g)
+
+-- none at all, by the tag's number
+else-none : (a : ℕ) → a ≡ orElse a 0
+unfolding orElse
+else-none zero = refl
+else-none (suc a) = refl
+
+no-fault : (a s : ℕ) {k : ℕ} → k ≡ 0 → a ≡ orElse a (within s k)
+unfolding within
+no-fault a s e = else-none a ∙ ap (λ (k : ℕ). orElse a (within s k)) (sym e)
+
+no-mark : (a o : ℕ) {b : Bool} → b ≡ false → a ≡ orElse a (marked b o)
+unfolding marked
+no-mark a o e = else-none a ∙ ap (λ (b : Bool). orElse a (marked b o)) (sym e)
+
+other : (n k : ℕ) → (n ≡ k → ⊥) → same (unpack n) (unpack k) ≡ false
+other n k h = same-unpack n k ∙ ne-eqb n k h
+
+two-others : (n a b : ℕ) → (n ≡ a → ⊥) → (n ≡ b → ⊥) → among (unpack n) (unpack a ∷ unpack b ∷ []) ≡ false
+two-others n a b h k = sym (among-two n a b (sym (ap₂ _||_ (ne-eqb n a h) (ne-eqb n b k))))
+
+pub idle : (n : ℕ) → (n ≡ 3290708 → ⊥) → (n ≡ 3355201 → ⊥) → (n ≡ 3486273 → ⊥) → (n ≡ 3487297 → ⊥) → (n ≡ 3487300 → ⊥) → (n ≡ 3487553 → ⊥) → (n ≡ 3487556 → ⊥) → (n ≡ 3617280 → ⊥)
+    → (n ≡ 3618626 → ⊥) → Idle (unpack n)
+idle n h26 h32 h52 h56a h56d h57a h57d h72 h77 f o s c =
+    let party : among (unpack n) partyTags ≡ false =
+    sym (among-party n (sym (ap₂ _||_ (ne-eqb n 3486273 h52) (ap₂ _||_ (ne-eqb n 3487297 h56a) (ap₂ _||_ (ne-eqb n 3487300 h56d) (ap₂ _||_ (ne-eqb n 3487553 h57a) (ne-eqb n 3487556 h57d))))))) in
+    made f o s (unpack n) c (no-fault (f .day) s (no-date n c h32 h72)) (no-fault (f .currency) s (no-money n c h32)) (no-mark (f .bank) o (two-others n 3487297 3487300 h56a h56d))
+    (sym (ap (λ (b : Bool). f .through || b) (two-others n 3487553 3487556 h57a h57d) ∙ or-false (f .through))) (no-fault (f .party) s (no-party (unpack n) c party))
+    (no-mark (f .purpose) o (other n 3290708 h26)) (no-mark (f .budget) o (other n 3618626 h77))
 
 -- ---- the fields' facts, one by one: any place, and any test
 module _ (get : Facts → ℕ) (place : ℕ → Field → ℕ) (number : ℕ) (bad : Kind → Bool)
@@ -180,14 +209,6 @@ module _ (fs : List Field) where
   unfolding nothingYet noted
   through-is = test-from (λ f. f .through) (λ g. among (tagOf g) tags57) is57 (λ f o g. refl) (has-tag tags57) nothingYet 5 fs
 
-  payer-is : factsFrom nothingYet 5 fs .payer ≡ has (kppIn (bytes "50K")) (valuesIn 5 fs)
-  unfolding nothingYet noted
-  payer-is = test-from (λ f. f .payer) (λ g. has (kppIn (bytes "50K")) (valuesOf (tagOf g) (contentOf g))) (kppIn (bytes "50K")) (λ f o g. refl) (has-kpp (bytes "50K")) nothingYet 5 fs
-
-  payee-is : factsFrom nothingYet 5 fs .payee ≡ has (kppIn (bytes "59")) (valuesIn 5 fs)
-  unfolding nothingYet noted
-  payee-is = test-from (λ f. f .payee) (λ g. has (kppIn (bytes "59")) (valuesOf (tagOf g) (contentOf g))) (kppIn (bytes "59")) (λ f o g. refl) (has-kpp (bytes "59")) nothingYet 5 fs
-
 -- ---- a place is told exactly if some value passes
 data Marks (number : ℕ) : Bool → Verdict → Type 0 where
   none-there : Marks number false Fine
@@ -223,13 +244,12 @@ module _ (fs : List Field) where
       go true = refl
       go false = refl
 
-  tax-rule : taxRule (F .purpose) (F .budget) (F .payer && F .payee) ≡ rule13 fs
+  tax-rule : taxRule (F .purpose) (F .budget) (bothTaxed fs) ≡ rule13 fs
   unfolding taxRule
   tax-rule =
-      ap₂ (λ (a b : Bool). pick a (toldAs 13 (F .budget)) (pick b (toldAs 13 (F .purpose)) (pick (F .payer && F .payee) Fine (toldAs 13 (F .purpose)))))
+      ap₂ (λ (a b : Bool). pick a (toldAs 13 (F .budget)) (pick b (toldAs 13 (F .purpose)) (pick (bothTaxed fs) Fine (toldAs 13 (F .purpose)))))
       (told-marks 13 (F .purpose) (marks 13 is26T vs) (purpose-told fs)) (told-marks 13 (F .budget) (marks 13 is77B vs) (budget-told fs))
-      ∙ ap₂ (λ (u w : Verdict). pick (not (has is26T vs)) w (pick (not (has is77B vs)) u (pick (F .payer && F .payee) Fine u))) (purpose-told fs) (budget-told fs)
-      ∙ ap₂ (λ (x y : Bool). pick (not (has is26T vs)) (firstBad 13 is77B vs) (pick (not (has is77B vs)) (firstBad 13 is26T vs) (pick (x && y) Fine (firstBad 13 is26T vs)))) (payer-is fs) (payee-is fs)
+      ∙ ap₂ (λ (u w : Verdict). pick (not (has is26T vs)) w (pick (not (has is77B vs)) u (pick (bothTaxed fs) Fine u))) (purpose-told fs) (budget-told fs)
       ∙ go (has is26T vs) (has is77B vs) (has (kppIn (bytes "50K")) vs && has (kppIn (bytes "59")) vs) (firstBad 13 is26T vs) (firstBad 13 is77B vs)
       ∙ sym (rule13-by fs)
     where
@@ -239,7 +259,7 @@ module _ (fs : List Field) where
       go false b k u w = refl
 
   -- so they come to the rules
-  pub values-told : valueRules F ≡ first (rule9 fs ∷ rule10 fs ∷ rule11 fs ∷ rule12 fs ∷ rule13 fs ∷ [])
+  pub values-told : valueRules F (bothTaxed fs) ≡ first (rule9 fs ∷ rule10 fs ∷ rule11 fs ∷ rule12 fs ∷ rule13 fs ∷ [])
   unfolding valueRules
   values-told = rw (day-told fs, currency-told fs, bank-rule, party-told fs, tax-rule)
 
@@ -277,14 +297,15 @@ module _ {p : ℕ} (b : ℕ) (w : Bool) where
 
 -- ---- a KPP, by the tag's number
 module _ (n : ℕ) (c : List ℕ) where
-  pub payer-not : (n ≡ 3485771 → ⊥) → false ≡ has (kppIn (bytes "50K")) (valuesOf (unpack n) c)
-  payer-not h = sym (kpp-other (bytes "50K") (unpack n) c (same-unpack n 3485771 ∙ ne-eqb n 3485771 h))
+  pub not-taxed : (payer : Bool) {k : ℕ} → k ≡ pick payer 3485771 3488000 → (n ≡ k → ⊥) → false ≡ has (kppIn (taxTag payer)) (valuesOf (unpack n) c)
+  not-taxed true e h = sym (kpp-other (bytes "50K") (unpack n) c (other n 3485771 (λ q. h (q ∙ sym e))))
+  not-taxed false e h = sym (kpp-other (bytes "59") (unpack n) c (other n 3488000 (λ q. h (q ∙ sym e))))
 
-  pub payee-not : (n ≡ 3488000 → ⊥) → false ≡ has (kppIn (bytes "59")) (valuesOf (unpack n) c)
-  payee-not h = sym (kpp-other (bytes "59") (unpack n) c (same-unpack n 3488000 ∙ ne-eqb n 3488000 h))
+  pub taxed-by : (payer : Bool) {k : ℕ} → k ≡ pick payer 3485771 3488000 → n ≡ k → kppOf payer c ≡ has (kppIn (taxTag payer)) (valuesOf (unpack n) c)
+  taxed-by true e h = sym (ap (λ (k : ℕ). has (kppIn (bytes "50K")) (valuesOf (unpack k) c)) (h ∙ e) ∙ kpp-payer c)
+  taxed-by false e h = sym (ap (λ (k : ℕ). has (kppIn (bytes "59")) (valuesOf (unpack k) c)) (h ∙ e) ∙ kpp-payee c)
 
-  pub payer-kpp : n ≡ 3485771 → kppOf true c ≡ has (kppIn (bytes "50K")) (valuesOf (unpack n) c)
-  payer-kpp e = sym (ap (λ (k : ℕ). has (kppIn (bytes "50K")) (valuesOf (unpack k) c)) e ∙ kpp-payer c)
-
-  pub payee-kpp : n ≡ 3488000 → kppOf false c ≡ has (kppIn (bytes "59")) (valuesOf (unpack n) c)
-  payee-kpp e = sym (ap (λ (k : ℕ). has (kppIn (bytes "59")) (valuesOf (unpack k) c)) e ∙ kpp-payee c)
+-- a field more
+pub taxed-next : (payer : Bool) (o : ℕ) (g : Field) (gs : List Field) {b : Bool} → b ≡ has (kppIn (taxTag payer)) (valuesOf (tagOf g) (contentOf g))
+    → taxed payer o (g ∷ gs) ≡ (b || taxed payer (nextOf o g) gs)
+taxed-next payer o g gs e = has-kpp (taxTag payer) o g gs ∙ ap (λ (b : Bool). b || taxed payer (nextOf o g) gs) (sym e)

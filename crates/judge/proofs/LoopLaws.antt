@@ -1,16 +1,15 @@
 -- 8, 9 to 13, and 14, field by field: a turn of each loop. Assumes nothing.
 use Prim.Native.Nat.{ℕ, _+_, _-_, _≤_}
-use mathlib.Core.Path.{_≡_, refl, sym, ap, ap₂, _∙_}
-use mathlib.Core.Bool.{Bool, true, false}
-use mathlib.Core.List.{List, [], _∷_}
+use mathlib.Core.Path.{_≡_, sym, ap, ap₂, _∙_}
+use mathlib.Core.Bool.{Bool, true, false, _||_}
+use mathlib.Core.List.{List, _∷_}
 use native.Mathlib.Omega.{arith}
 use lib.ListN.{length, take, drop}
 use Rattle.base.specs.Choice.{pick}
 use Rattle.base.specs.Bytes.{byte}
 use Rattle.base.specs.Rules.{then}
 use Rattle.base.specs.declared.Verdict.{Verdict}
-use Rattle.base.specs.declared.Verdict.the-variants.{Fine, Broken}
-use Rattle.base.proofs.RuleLaws.{fine-broken}
+use Rattle.base.specs.declared.Verdict.the-variants.{Broken}
 use Rattle.alphabets.specs.Steps.{codes}
 use Rattle.fields.specs.Field.{Field, field, fields, linesOf}
 use Rattle.fields.specs.Places.{sizeOf, startOf, nextOf}
@@ -25,8 +24,6 @@ use Rattle.forms.specs.Contents.{stateOf, rightField, rightContent}
 use Rattle.forms.proofs.ContentLaws.{content-right}
 use Rattle.roles.specs.declared.Spot.{Spot}
 use Rattle.roles.specs.declared.Spot.the-variants.{Nowhere, At}
-use Rattle.roles.specs.Speech.{Speech, speech}
-use Rattle.roles.specs.Sentences.{Within}
 use Rattle.roles.specs.Rule14.{breaks, unheard, spoken}
 use Rattle.roles.specs.Found.{brokenIn, verdictAt}
 use Rattle.roles.proofs.BreachLaws.{unheard-within, spoken-within}
@@ -34,8 +31,11 @@ use Rattle.roles.proofs.CodeLaws.{field-found, spoken-next}
 use Rattle.judge.specs.declared.parts.Part.{Part}
 use Rattle.judge.specs.declared.facts.Facts.{Facts}
 use Rattle.judge.specs.Parts.{Settled, Here}
-use Rattle.judge.specs.Facts.{noted, factsFrom}
-use Rattle.judge.proofs.PartLaws.{fieldOf, at-field, next-field, walk-end}
+use Rattle.judge.specs.Facts.{noted, factsFrom, taxTag, taxed}
+use Rattle.values.specs.Values.{valuesOf}
+use Rattle.values.specs.Judged.{has, kppIn}
+use Rattle.judge.proofs.FactLaws.{taxed-next}
+use Rattle.judge.proofs.PartLaws.{fieldOf, at-field, next-field}
 
 module _ {m spots : List ℕ} {k : ℕ} {p : Part} (h : Here m spots k p) where
   abbrev content : List ℕ
@@ -46,11 +46,11 @@ module _ {m spots : List ℕ} {k : ℕ} {p : Part} (h : Here m spots k p) where
     abbrev wrong8 : ℕ → List Field → Verdict
     wrong8 o fs = firstWrong 8 (rightField kind sign) startOf o fs
 
-    pub right-is : {f r : List ℕ} {q : ℕ} {b : Bool} → f ≡ formats → r ≡ rows → q ≡ stateOf kind sign (unpack (p .tag)) → b ≡ right f r q (linesIn content) → b ≡ rightField kind sign (fieldOf h)
+    pub right-is : {f r : List ℕ} {b : Bool} → f ≡ formats → r ≡ rows → b ≡ right f r (stateOf kind sign (unpack (p .tag))) (linesIn content) → b ≡ rightField kind sign (fieldOf h)
     unfolding rightContent
-    right-is {f} {r} {q} {b} x y z e =
-        e ∙ ap₂ (λ (u v : List ℕ). right u v q (linesIn content)) x y
-        ∙ ap₂ (λ (s : ℕ) (c : List ℕ). right formats rows s (linesIn c)) (z ∙ ap (stateOf kind sign) (h .tag-is)) (h .content-is)
+    right-is x y e =
+        e ∙ ap₂ (λ (u v : List ℕ). right u v (stateOf kind sign (unpack (p .tag))) (linesIn content)) x y
+        ∙ ap₂ (λ (t c : List ℕ). right formats rows (stateOf kind sign t) (linesIn c)) (h .tag-is) (h .content-is)
         ∙ content-right kind sign (h .tag) (h .line) (h .more) (h .no-cr)
 
     pub wrong-here : {b : Bool} → b ≡ rightField kind sign (fieldOf h) → b ≡ false → Broken 8 (p .start) ≡ wrong8 (byte spots k) (drop k (fields m))
@@ -100,3 +100,17 @@ noted-on {m} {spots} {k} {p} h f {g} e =
     let same : noted f (p .colon) (startOf (p .colon) (fieldOf h)) (h .tag) (joined (h .line ∷ h .more)) ≡ g =
     sym (e ∙ ap₂ (λ (s : ℕ) (t : List ℕ). noted f (p .colon) s t (content h)) (h .start-is) (h .tag-is) ∙ ap (noted f (p .colon) (startOf (p .colon) (fieldOf h)) (h .tag)) (h .content-is)) in
     at-field h (factsFrom f) ∙ ap (λ (x : Facts). factsFrom x (nextOf (p .colon) (fieldOf h)) (drop (k + 1) (fields m))) same ∙ next-field h (factsFrom g)
+
+-- 13: a KPP in this field, or behind it
+module _ {m spots : List ℕ} {k : ℕ} {p : Part} (h : Here m spots k p) (payer : Bool) {b : Bool} (e : b ≡ has (kppIn (taxTag payer)) (valuesOf (unpack (p .tag)) (content h))) where
+  taxed-here : taxed payer (byte spots k) (drop k (fields m)) ≡ (b || taxed payer (byte spots (k + 1)) (drop (k + 1) (fields m)))
+  taxed-here =
+      at-field h (taxed payer)
+      ∙ taxed-next payer (p .colon) (fieldOf h) (drop (k + 1) (fields m)) (e ∙ ap₂ (λ (t c : List ℕ). has (kppIn (taxTag payer)) (valuesOf t c)) (h .tag-is) (h .content-is))
+      ∙ ap (λ (x : Bool). b || x) (next-field h (taxed payer))
+
+  pub taxed-found : b ≡ true → true ≡ taxed payer (byte spots k) (drop k (fields m))
+  taxed-found q = sym (taxed-here ∙ ap (λ (x : Bool). x || taxed payer (byte spots (k + 1)) (drop (k + 1) (fields m))) q)
+
+  pub taxed-on : b ≡ false → taxed payer (byte spots k) (drop k (fields m)) ≡ taxed payer (byte spots (k + 1)) (drop (k + 1) (fields m))
+  taxed-on q = taxed-here ∙ ap (λ (x : Bool). x || taxed payer (byte spots (k + 1)) (drop (k + 1) (fields m))) q

@@ -12,13 +12,14 @@ use borrow.Author.Tests.{eq-eqb, ne-eqb}
 use Rattle.base.specs.Choice.{pick, all}
 use Rattle.base.specs.Bytes.{byte, capital, begins, without}
 use Rattle.base.proofs.Bools.{left, right}
-use Rattle.fields.specs.Field.{Field, field, closing, laid, lined, linesOf, fields}
-use Rattle.fields.specs.Places.{sizeOf, startOf, nextOf, endOf, colonsOf}
+use Rattle.base.proofs.ByteLaws.{begins-byte}
+use Rattle.fields.specs.Field.{Field, field, closing, laid, linesOf, fields}
+use Rattle.fields.specs.Places.{startOf, nextOf, endOf, colonsOf}
 use Rattle.fields.specs.Shapes.{shaped, shapedTag, follows, lineable, pack, unpack}
-use Rattle.fields.specs.ByLines.{joined, startAt}
+use Rattle.fields.specs.ByLines.{startAt}
 use Rattle.fields.proofs.TagLaws.{Shape, plain, lettered, shape-of}
 use Rattle.fields.proofs.PackLaws.{unpack-pack}
-use Rattle.fields.proofs.PlaceLaws.{Standing, start-at, field-bytes, next-standing, content-bytes, content-part, laid-joined, fields-stand}
+use Rattle.fields.proofs.PlaceLaws.{Standing, start-at, field-bytes, next-standing, content-bytes, content-part, fields-stand}
 use Rattle.forms.proofs.ContentLaws.{firstOf}
 use Rattle.frame.proofs.CallLaws.{Found, taken}
 use Rattle.listing.proofs.SpotLaws.{spot-at}
@@ -181,3 +182,28 @@ no-sign (f ∷ fs) e z = absurd (omega arith)
 
 pub sign-here : {m spots : List ℕ} {p : Part} → Here m spots 0 p → eqb (byte m (p .start)) 43 ≡ begins 43 (firstOf (fields m))
 sign-here h = h .sign-is ∙ ap (λ (fs : List Field). begins 43 (firstOf fs)) (sym (h .is))
+
+-- by the first content's place, which is known of any bytes
+module _ (m : List ℕ) {i : ℕ} (e : i ≡ startAt m 5) where
+  pub sign-past : length m ≤ i → false ≡ begins 43 (drop (startAt m 5) m)
+  sign-past h = sym (ap (λ (j : ℕ). begins 43 (drop j m)) (sym e) ∙ ap (begins 43) (drop-of-length-le m h))
+
+  pub sign-read : eqb (byte m i) 43 ≡ begins 43 (drop (startAt m 5) m)
+  sign-read = ap (λ (x : ℕ). eqb x 43) (first-byte m i) ∙ sym (begins-byte 43 (drop i m) refl) ∙ ap (λ (j : ℕ). begins 43 (drop j m)) e
+
+starts-far : (m : List ℕ) → 9 ≤ startAt m 5
+unfolding startAt
+starts-far m = go (eqb (byte m 8) 58)
+  where
+    go : (b : Bool) → 9 ≤ pick b 9 10
+    go true = omega arith
+    go false = omega arith
+
+pub signed-is : {m spots : List ℕ} → Settled m spots → begins 43 (drop (startAt m 5) m) ≡ begins 43 (firstOf (fields m))
+signed-is {m} {spots} s = go (fields m) refl
+  where
+    go : (fs : List Field) → fields m ≡ fs → begins 43 (drop (startAt m 5) m) ≡ begins 43 (firstOf (fields m))
+    go [] q =
+        let d = subst (λ (gs : List Field). Standing m (byte spots 0) gs) q (s .stand 0 (omega arith)) .dash in
+        sym (sign-past m refl (omega (arith, s .start, d, starts-far m))) ∙ ap (λ (gs : List Field). begins 43 (firstOf gs)) (sym q)
+    go (f ∷ fs) q = let n = ap length q in sym (sign-read m refl) ∙ sign-here (here s 0 (omega arith) (sym (s .start)) refl refl refl)

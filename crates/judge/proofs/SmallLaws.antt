@@ -1,8 +1,8 @@
 -- Numbers and places of a message's refusals are small: each fits one word (K4). Assumes nothing.
 use Prim.Native.Nat.{ℕ, _+_, _-_, _≤_}
-use mathlib.Core.Path.{_≡_, refl, sym, ap, _∙_, subst}
+use mathlib.Core.Path.{_≡_, refl, sym, subst}
 use mathlib.Core.Bool.{Bool, true, false, false≢true}
-use mathlib.Core.List.{List, [], _∷_, _++_}
+use mathlib.Core.List.{List, [], _∷_}
 use native.Mathlib.Omega.{arith}
 use lib.ListN.{length, length-append}
 use Rattle.base.specs.Choice.{pick, all}
@@ -28,7 +28,7 @@ use Rattle.values.proofs.JudgedLaws.{Ordered, none, next}
 use Rattle.values.proofs.ValueLaws.{in-order}
 use Rattle.roles.specs.Rule14.{unheard, spoken, rule14}
 use Rattle.roles.proofs.BreachLaws.{unheard-within, unheard-number, spoken-within}
-use Rattle.judge.specs.Message.{innerRules, contentRules, verdictOf}
+use Rattle.judge.specs.Message.{contentRules, verdictOf}
 use Rattle.judge.proofs.CallLaws.{verdict-by}
 
 -- each rule of a list is small, and so is the first that is broken

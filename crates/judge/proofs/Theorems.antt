@@ -1,12 +1,10 @@
 -- What a judged message is, said of the definitions that the call's contract cites (O1, D2a, D2b). Assumes nothing.
-use Prim.Native.Nat.{ℕ, _<_}
+use Prim.Native.Nat.{ℕ}
 use mathlib.Core.Path.{_≡_, refl, sym, ap, _∙_}
-use mathlib.Core.Bool.{Bool, true, false}
-use mathlib.Core.List.{List, [], _∷_}
+use mathlib.Core.Bool.{true}
+use mathlib.Core.List.{List}
 use mathlib.Core.Logic.{_↔_}
-use lib.ListN.{length}
 use Rattle.base.specs.Choice.{all}
-use Rattle.base.specs.Bytes.{empty}
 use Rattle.base.specs.Rules.{first}
 use Rattle.base.specs.declared.Verdict.{Verdict}
 use Rattle.base.specs.declared.Verdict.the-variants.{Fine, Broken}

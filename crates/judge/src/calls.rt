@@ -10,7 +10,7 @@ ghost use Rattle.judge.specs.Message.{innerRules, contentRules, judgedOf
 use super::contents::contents_rule;
 use super::facts::facts_of;
 use super::facts::values_rule;
-use super::parts::is_signed;
+use super::sign::is_signed;
 use super::speeches::speeches_rule;
 use alphabets::pieces::back_table;
 use base::Verdict;
@@ -26,7 +26,7 @@ fn inner_verdict(kind: u32, sign: bool, m: &[u8], spots: &[u32; SPOTS], n: usize
     requires { ⌜ Settled (now m) (now spots) × (n ≡ length (fields (now m))) × (sign ≡ signOf (fields (now m))) ⌝ }
     ensures { λ r. ⌜ r ≡ first (innerRules kind (fields (now (m .entry)))) ⌝ }
 {
-    let v = values_rule(facts_of(m, spots, n));
+    let v = values_rule(facts_of(m, spots, n), m, spots, n);
     if let Verdict::Broken { number, place } = v {
         return Verdict::Broken { number, place };
     }
@@ -42,7 +42,7 @@ fn content_verdict(kind: u32, m: &[u8], spots: &[u32; SPOTS], n: usize) -> Verdi
     requires { ⌜ Settled (now m) (now spots) × (n ≡ length (fields (now m))) × (walked kind (now m) ≡ Verdict.Fine) ⌝ }
     ensures { λ r. ⌜ r ≡ first (contentRules kind (now (m .entry))) ⌝ }
 {
-    let sign = is_signed(m, spots, n);
+    let sign = is_signed(m);
     let f = format_table();
     let r = row_table();
     let v = contents_rule(kind, sign, &f, &r, m, spots, n);
@@ -59,19 +59,16 @@ pub fn judge(kind: u32, m: &[u8]) -> Frame
     let f = frame(kind, m);
     let verdict = f.verdict;
     let n = f.fields;
-    let word = f.present;
     let spots = f.spots;
-    if let Verdict::Broken { number, place } = verdict {
-        return refused(Verdict::Broken { number, place });
+    if let Verdict::Broken {
+        number: _,
+        place: _,
+    } = verdict {
+        return f;
     }
     let v = content_verdict(kind, m, &spots, n);
     if let Verdict::Broken { number, place } = v {
         return refused(Verdict::Broken { number, place });
     }
-    Frame {
-        verdict: Verdict::Fine,
-        fields: n,
-        present: word,
-        spots,
-    }
+    f
 }

@@ -10,9 +10,8 @@ ghost use Rattle.forms.specs.Contents.{rightField};
 ghost use Rattle.judge.specs.Parts.{Settled};
 use super::parts::field_at;
 use base::Verdict;
-use forms::state_of;
+use forms::is_right_field;
 use frame::SPOTS;
-use machine::is_right;
 
 pub(crate) fn contents_rule(
     kind: u32,
@@ -31,7 +30,7 @@ pub(crate) fn contents_rule(
         let p = field_at(m, spots, k);
         let start = p.start;
         let end = p.end;
-        if !is_right(f, r, state_of(kind, sign, p.tag), &m[start..end]) {
+        if !is_right_field(f, r, kind, sign, p.tag, &m[start..end]) {
             return Verdict::Broken {
                 number: 8,
                 place: start,

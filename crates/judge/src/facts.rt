@@ -1,17 +1,14 @@
 // 9 to 13: what they need of the fields, found in one turn a field. A place is told as one more than it is, 0 for none.
 ghost use mathlib.Core.Path.{_≡_};
-ghost use mathlib.Core.Bool.{_&&_, _||_};
+ghost use mathlib.Core.Bool.{true, _||_};
 ghost use Prim.Native.Nat.{_+_, _≤_};
 ghost use lib.ListN.{length};
-ghost use Rattle.base.specs.Bytes.{same};
-ghost use Rattle.base.specs.Quoted.{bytes};
 ghost use Rattle.fields.specs.Field.{fields};
 ghost use Rattle.fields.specs.Shapes.{unpack};
-ghost use Rattle.values.specs.Values.{valuesOf};
-ghost use Rattle.values.specs.Judged.{has, kppIn};
 ghost use Rattle.judge.specs.Parts.{Settled};
-ghost use Rattle.judge.specs.Facts.{orElse, within, marked, toldAs, nothingYet, noted, factsFrom, openBank, taxRule, valueRules};
+ghost use Rattle.judge.specs.Facts.{orElse, within, marked, nothingYet, noted, Idle, factsFrom, openBank, bothTaxed, valueRules};
 use super::parts::field_at;
+use super::taxes::tax_rule;
 use base::Verdict;
 use frame::SPOTS;
 use values::faults::currency_fault;
@@ -19,18 +16,13 @@ use values::faults::day_fault;
 use values::faults::is_56;
 use values::faults::is_57;
 use values::faults::party_fault;
-use values::parts::has_kpp;
 
 const TAG_26T: u32 = 3290708;
-
-const TAG_50K: u32 = 3485771;
-
-const TAG_59: u32 = 3488000;
 
 const TAG_77B: u32 = 3618626;
 
 // Places of a date that is no day, a currency that is not the rouble, a 56, a party line whose parts differ, a 26T and a 77B; and whether
-// there is a 57, and a tax line with a KPP in 50K and in 59.
+// there is a 57.
 pub(crate) struct Facts {
     pub day: usize,
     pub currency: usize,
@@ -39,8 +31,6 @@ pub(crate) struct Facts {
     pub party: usize,
     pub purpose: usize,
     pub budget: usize,
-    pub payer: bool,
-    pub payee: bool,
 }
 
 // The first fault: an older one, or one inside a content that starts at s.
@@ -80,36 +70,6 @@ fn either(a: bool, b: bool) -> bool
     b
 }
 
-fn payer_kpp(tag: u32, content: &[u8]) -> bool
-    ensures { λ r. ⌜ r ≡ has (kppIn (bytes "50K")) (valuesOf (unpack tag) (now (content .entry))) ⌝ }
-{
-    if tag != TAG_50K {
-        return false;
-    }
-    has_kpp(content, true)
-}
-
-fn payee_kpp(tag: u32, content: &[u8]) -> bool
-    ensures { λ r. ⌜ r ≡ has (kppIn (bytes "59")) (valuesOf (unpack tag) (now (content .entry))) ⌝ }
-{
-    if tag != TAG_59 {
-        return false;
-    }
-    has_kpp(content, false)
-}
-
-fn is_26t(tag: u32) -> bool
-    ensures { λ r. ⌜ r ≡ same (unpack tag) (bytes "26T") ⌝ }
-{
-    tag == TAG_26T
-}
-
-fn is_77b(tag: u32) -> bool
-    ensures { λ r. ⌜ r ≡ same (unpack tag) (bytes "77B") ⌝ }
-{
-    tag == TAG_77B
-}
-
 fn nothing() -> Facts
     ensures { λ r. ⌜ r ≡ nothingYet ⌝ }
 {
@@ -121,8 +81,24 @@ fn nothing() -> Facts
         party: 0,
         purpose: 0,
         budget: 0,
-        payer: false,
-        payee: false,
+    }
+}
+
+// Most fields have none of these facts.
+fn is_idle(tag: u32) -> bool
+    ensures { λ r. ⌜ (r ≡ true → Idle (unpack tag)) ⌝ }
+{
+    match tag {
+        3290708 => false,
+        3355201 => false,
+        3486273 => false,
+        3487297 => false,
+        3487300 => false,
+        3487553 => false,
+        3487556 => false,
+        3617280 => false,
+        3618626 => false,
+        _ => true,
     }
 }
 
@@ -131,16 +107,17 @@ fn note(f: Facts, o: usize, s: usize, tag: u32, c: &[u8]) -> Facts
     requires { ⌜ (o ≤ 10000) × (s + length (now c) ≤ 10000) ⌝ }
     ensures { λ r. ⌜ r ≡ noted f o s (unpack tag) (now (c .entry)) ⌝ }
 {
+    if is_idle(tag) {
+        return f;
+    }
     Facts {
         day: fault_of(f.day, s, day_fault(tag, c)),
         currency: fault_of(f.currency, s, currency_fault(tag, c)),
         bank: colon_of(f.bank, is_56(tag), o),
         through: either(f.through, is_57(tag)),
         party: fault_of(f.party, s, party_fault(tag, c)),
-        purpose: colon_of(f.purpose, is_26t(tag), o),
-        budget: colon_of(f.budget, is_77b(tag), o),
-        payer: either(f.payer, payer_kpp(tag, c)),
-        payee: either(f.payee, payee_kpp(tag, c)),
+        purpose: colon_of(f.purpose, tag == TAG_26T, o),
+        budget: colon_of(f.budget, tag == TAG_77B, o),
     }
 }
 
@@ -160,43 +137,6 @@ pub(crate) fn facts_of(m: &[u8], spots: &[u32; SPOTS], n: usize) -> Facts
     f
 }
 
-fn told(number: u32, place: usize) -> Verdict
-    ensures { λ r. ⌜ r ≡ toldAs number place ⌝ }
-{
-    if place == 0 {
-        return Verdict::Fine;
-    }
-    Verdict::Broken {
-        number,
-        place: place - 1,
-    }
-}
-
-// 13: at 26T where there is one.
-fn tax_rule(purpose: usize, budget: usize, whole: bool) -> Verdict
-    ensures { λ r. ⌜ r ≡ taxRule purpose budget whole ⌝ }
-{
-    if purpose == 0 {
-        return told(13, budget);
-    }
-    if budget == 0 {
-        return told(13, purpose);
-    }
-    if whole {
-        return Verdict::Fine;
-    }
-    told(13, purpose)
-}
-
-fn both(a: bool, b: bool) -> bool
-    ensures { λ r. ⌜ r ≡ (a && b) ⌝ }
-{
-    if a {
-        return b;
-    }
-    false
-}
-
 // 11: no 57 behind a 56.
 fn open_bank(through: bool, bank: usize) -> usize
     ensures { λ r. ⌜ r ≡ openBank through bank ⌝ }
@@ -204,21 +144,34 @@ fn open_bank(through: bool, bank: usize) -> usize
     if through { 0 } else { bank }
 }
 
-pub(crate) fn values_rule(f: Facts) -> Verdict
-    ensures { λ r. ⌜ r ≡ valueRules f ⌝ }
+pub(crate) fn values_rule(f: Facts, m: &[u8], spots: &[u32; SPOTS], n: usize) -> Verdict
+    requires { ⌜ Settled (now m) (now spots) × (n ≡ length (fields (now m))) ⌝ }
+    ensures { λ r. ⌜ r ≡ valueRules f (bothTaxed (fields (now (m .entry)))) ⌝ }
 {
     let bank = open_bank(f.through, f.bank);
     if f.day != 0 {
-        return told(9, f.day);
+        return Verdict::Broken {
+            number: 9,
+            place: f.day - 1,
+        };
     }
     if f.currency != 0 {
-        return told(10, f.currency);
+        return Verdict::Broken {
+            number: 10,
+            place: f.currency - 1,
+        };
     }
     if bank != 0 {
-        return told(11, bank);
+        return Verdict::Broken {
+            number: 11,
+            place: bank - 1,
+        };
     }
     if f.party != 0 {
-        return told(12, f.party);
+        return Verdict::Broken {
+            number: 12,
+            place: f.party - 1,
+        };
     }
-    tax_rule(f.purpose, f.budget, both(f.payer, f.payee))
+    tax_rule(f.purpose, f.budget, m, spots, n)
 }

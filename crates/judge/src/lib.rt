@@ -3,4 +3,6 @@ pub mod calls;
 mod contents;
 mod facts;
 mod parts;
+pub mod sign;
 mod speeches;
+mod taxes;

@@ -2,10 +2,8 @@
 ghost use mathlib.Core.Path.{_≡_};
 ghost use Prim.Native.Nat.{_+_, _<_};
 ghost use lib.ListN.{length};
-ghost use Rattle.base.specs.Bytes.{begins};
 ghost use Rattle.fields.specs.Field.{fields};
 ghost use Rattle.judge.specs.Parts.{tagAt, Settled, Here};
-ghost use Rattle.forms.proofs.ContentLaws.{firstOf};
 use base::bytes::wide;
 use fields::start_at;
 use frame::SPOTS;
@@ -44,17 +42,4 @@ pub(crate) fn field_at(m: &[u8], spots: &[u32; SPOTS], k: usize) -> Part
         start,
         end: next as usize - 2,
     }
-}
-
-// The sign: the first content begins with +.
-pub(crate) fn is_signed(m: &[u8], spots: &[u32; SPOTS], n: usize) -> bool
-    requires { ⌜ Settled (now m) (now spots) × (n ≡ length (fields (now m))) ⌝ }
-    ensures { λ r. ⌜ r ≡ begins 43 (firstOf (fields (now (m .entry)))) ⌝ }
-{
-    if n == 0 {
-        return false;
-    }
-    let p = field_at(m, spots, 0);
-    let start = p.start;
-    m[start] == 43
 }

@@ -11,9 +11,9 @@ use lib.Dec.{eqb, leb}
 use lib.ListN.{length, getD, take, drop}
 use borrow.Author.Tests.{eq-eqb, ne-eqb, leb-true, leb-false}
 use Rattle.base.specs.Choice.{pick}
-use Rattle.base.specs.Bytes.{empty}
+use Rattle.base.specs.Bytes.{empty, upTo}
 use Rattle.formats.specs.Format.{fits, formatAt}
-use Rattle.machine.specs.Lines.{linesIn, lineLen}
+use Rattle.machine.specs.Lines.{linesIn}
 use Rattle.machine.specs.Machine.{cell, widthOf, endsAt, nextAt, rowsOf, isAs, holds, tookOf, tookFrom, took, right, lives, behind, larger, widest, widthAt}
 use Rattle.machine.proofs.LineLaws.{lines-last, lines-more}
 
@@ -86,7 +86,7 @@ module _ (f m : List ℕ) (q : ℕ) (l : List ℕ) (ls : List (List ℕ)) (w : �
       ∙ ap (λ (b : Bool). pick b false (right f m (nextAt m w) ls)) (eq-eqb w 0 z)
 
 -- of a content from at on, whose first line ends at e and takes row w
-module _ (f m : List ℕ) (q : ℕ) (s : List ℕ) (at e w : ℕ) (h : at ≤ length s) (qe : e ≡ at + lineLen (drop at s)) (ew : w ≡ took f m q (take (e - at) (drop at s))) where
+module _ (f m : List ℕ) (q : ℕ) (s : List ℕ) (at e w : ℕ) (h : at ≤ length s) (qe : e ≡ at + upTo 13 (drop at s)) (ew : w ≡ took f m q (take (e - at) (drop at s))) where
   pub right-last : length s ≤ e → (w ≡ 0 → ⊥) → right f m q (linesIn (drop at s)) ≡ endsAt m (nextAt m w)
   unfolding right
   right-last k z = ap (right f m q) (lines-last s at e h qe k) ∙ right-on f m q (take (e - at) (drop at s)) [] w ew z

@@ -1,5 +1,5 @@
 -- The lines of a content (F4, F6). Assumes nothing.
-use Prim.Native.Nat.{ℕ, suc}
+use Prim.Native.Nat.{ℕ}
 use mathlib.Core.Bool.{Bool, true, false}
 use mathlib.Core.List.{List, [], _∷_}
 use lib.Dec.{eqb}
@@ -15,8 +15,3 @@ split false (x ∷ xs) = pick (eqb x 13) ([] ∷ split true xs) (onto x (split f
 
 abbrev pub linesIn : List ℕ → List (List ℕ)
 linesIn c = split false c
-
--- how long the first line is
-unfoldable pub lineLen : List ℕ → ℕ
-lineLen [] = 0
-lineLen (x ∷ xs) = pick (eqb x 13) 0 (suc (lineLen xs))

@@ -7,8 +7,8 @@ ghost use lib.Dec.{leb};
 ghost use lib.ListN.{length};
 ghost use Rattle.machine.specs.Lines.{linesIn};
 ghost use Rattle.machine.specs.Machine.{cell, endsAt, nextAt, isAs, tookFrom, took, right};
+use base::marks::mark_at;
 use formats::has_format;
-use lines::line_end;
 use lines::next_line;
 
 fn size(x: u8) -> usize
@@ -103,7 +103,7 @@ pub fn is_right(f: &[u8], m: &[u8], q: usize, content: &[u8]) -> bool
     let mut at = 0;
     let mut state = q;
     loop {
-        let e = line_end(content, at);
+        let e = mark_at(13, content, at);
         let w = took_row(f, m, state, &content[at..e]);
         if w == 0 {
             return false;

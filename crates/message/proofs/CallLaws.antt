@@ -22,7 +22,7 @@ use Rattle.message.specs.Calls.{checkRules, checkedBy, Checks}
 
 module _ (kind : ℕ) (m list : List ℕ) where
   -- 17 comes behind the refusal
-  last-17 : {v w : Verdict} → verdictOf kind m ≡ v → short (listed 5 (fields m)) list ≡ w → first (checkRules kind m list) ≡ then v w
+  pub last-17 : {v w : Verdict} → verdictOf kind m ≡ v → short (listed 5 (fields m)) list ≡ w → first (checkRules kind m list) ≡ then v w
   unfolding verdictOf
   last-17 e q = first-last (messageRules kind m) (short (listed 5 (fields m)) list) ∙ ap₂ then e q
 

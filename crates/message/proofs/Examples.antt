@@ -1,13 +1,25 @@
--- The worked examples hold: each is computed. Assumes nothing.
-use mathlib.Core.Path.{refl}
-use Rattle.base.specs.Calls.{long, short}
+-- The worked examples hold: what each comes to is computed once for its message, all but the reading of a long text. Assumes nothing.
+use Prim.Native.Nat.{ℕ, _+_}
+use mathlib.Core.Path.{_≡_, refl, sym, ap, ap₂, _∙_, subst}
+use mathlib.Core.Bool.{false}
+use mathlib.Core.List.{List, [], _∷_, _++_}
+use lib.ListN.{length}
+use Rattle.base.specs.Quoted.{bytes}
+use Rattle.base.specs.Rules.{then, first}
+use Rattle.base.specs.declared.Verdict.{Verdict}
+use Rattle.base.specs.declared.Verdict.the-variants.{Fine, Broken}
+use Rattle.base.proofs.RuleLaws.{first-last}
+use Rattle.base.specs.Calls.{long, short, over, room}
 use Rattle.base.specs.Bytes.{isIn, digit, capital, letter, marks, shared, xset, same}
-use Rattle.fields.specs.Field.{message, body, cut, upto, past, grouped, fields}
+use Rattle.fields.specs.Field.{Field, message, body, cut, upto, past, grouped, fields}
 use Rattle.fields.specs.Frame.{rule1, framed, rule2, scan, rule3, tagged, lineBad, badLine, rule4}
 use Rattle.fields.specs.Places.{listed}
 use Rattle.types.specs.Form.{form103, form202, forms, placesOf}
 use Rattle.types.specs.Walk.{find, wrong, walk, rule18, walked, word}
+use Rattle.frame.specs.Frame.{frameRules, wordOf}
+use Rattle.frame.specs.Cases.{sample}
 use Rattle.types.specs.Sign.{signOf}
+use Rattle.listing.specs.declared.Span.{Span}
 use Rattle.listing.specs.Lists.{partAt}
 use Rattle.judge.specs.Message.{verdictOf}
 use Rattle.formats.specs.Format.{sign, member, run, counted, apart, notPlus, wayFirst, purpose, meets, fits}
@@ -23,21 +35,140 @@ use Rattle.values.specs.Values.{behindDigits, payment, pointIn, datesBehind, rp
 use Rattle.values.specs.Judged.{firstBad, rule9, rule10, rule11, rule12, rule13}
 use Rattle.values.specs.Answers.{dayAt, dateOf, kopecksOf, kppOf, faultOf}
 use Rattle.roles.specs.Role.{shape103, shape202, shapeOf, cast}
-use Rattle.roles.specs.Speech.{names, details, noted, speeches}
+use Rattle.roles.specs.Speech.{named, told, speech, names, details, noted, speeches}
 use Rattle.roles.specs.Speech as roles-speech
-use Rattle.roles.specs.Rule14.{hidden, isInn, taxLike, breaks, unheard, spoken, rule14}
+use Rattle.roles.specs.Sentences.{Heard}
+use Rattle.roles.proofs.BreachLaws.{rule14-fine}
+use Rattle.roles.specs.Rule14.{mute, hidden, isInn, taxLike, breaks, unheard, spoken, rule14}
 use Rattle.alphabets.specs.Grid.{grid, kind}
 use Rattle.alphabets.specs.Grid as alphabets-grid
-use Rattle.alphabets.specs.Bank.{reads, plainly, inner}
-use Rattle.message.specs.Calls.{spanOf, contentOf, paid, amountOf, dayOf}
-use Rattle.message.specs.Cases.{AllHold, cases}
+use Rattle.alphabets.specs.Bank.{reads}
+use Rattle.alphabets.specs.Best.{latinNext, best, bad}
+use Rattle.alphabets.proofs.Back.{reads-best}
+use Rattle.message.specs.declared.Checked.the-variants as checked
+use Rattle.message.specs.declared.Amount.the-variants as amount
+use Rattle.message.specs.declared.Day.the-variants as day
+use Rattle.message.specs.Calls.{checkedBy, answerOf, leftOf, spanBy, spanOf, partOf, contentOf, paid, amountBy, amountOf, daySplit, dayBy, dayOf}
+use Rattle.message.specs.Cases.{Case, accepts, refuses, narrow, spans, shows, lent, Holds, AllHold, signed202, cases}
+use Rattle.message.proofs.CallLaws.{last-17}
 
 infixr 4 _also_
 abbrev _also_ : {A B : Type 0} → A → B → A × B
 a also b = (a, b)
 
+-- ---- what is computed of a case: its message's verdict, once, and what the calls make of a message with that verdict
+abbrev place-32A : ℕ → ℕ
+place-32A kind = find (placesOf kind) (bytes "32A")
+
+abbrev partFor : Verdict → ℕ → List ℕ → ℕ → Span
+partFor v kind m place = spanBy v (partAt (placesOf kind) place 5 (fields m))
+
+abbrev paidFor : ℕ → List ℕ → List ℕ
+paidFor kind m = partOf m (partFor Fine kind m (place-32A kind))
+
+abbrev Computed : Case → Type 0
+Computed (accepts kind s fs w ps k y m d) =
+    (verdictOf kind (bytes s) ≡ Fine) × (fields (bytes s) ≡ fs) × (message fs ≡ bytes s) × (word (placesOf kind) fs ≡ w) × (short (listed 5 fs) (lent (length ps + 2)) ≡ Fine)
+    × (over (listed 5 fs) (lent (length ps + 2)) ≡ ps ++ 9 ∷ 9 ∷ []) × (amount.Is (kopecksOf (paidFor kind (bytes s))) ≡ amount.Is k)
+    × (daySplit (dateOf (paidFor kind (bytes s))) ≡ day.On y m d)
+Computed (refuses kind s n number place) = verdictOf kind (bytes s) ≡ Broken number place
+Computed (narrow kind s n needed) = (verdictOf kind (bytes s) ≡ Fine) × (short (listed 5 (fields (bytes s))) (lent n) ≡ Broken 17 needed)
+Computed (spans kind s place part) = (v : Verdict) × (verdictOf kind (bytes s) ≡ v) × (partFor v kind (bytes s) place ≡ part)
+Computed (shows kind s place c) = (v : Verdict) × (verdictOf kind (bytes s) ≡ v) × (partOf (bytes s) (partFor v kind (bytes s) place) ≡ bytes c)
+
+-- ---- and from it all that the case says
+module _ (kind : ℕ) (m : List ℕ) {v : Verdict} (e : verdictOf kind m ≡ v) where
+  span-by : (place : ℕ) → spanOf kind m place ≡ partFor v kind m place
+  unfolding spanOf
+  span-by place = ap (λ (u : Verdict). partFor u kind m place) e
+
+  content-by : (place : ℕ) → contentOf kind m place ≡ partOf m (partFor v kind m place)
+  unfolding contentOf
+  content-by place = ap (partOf m) (span-by place)
+
+  amount-by : amountOf kind m ≡ amountBy v (kopecksOf (partOf m (partFor v kind m (place-32A kind))))
+  unfolding amountOf paid
+  amount-by = ap₂ (λ (u : Verdict) (c : List ℕ). amountBy u (kopecksOf c)) e (content-by (place-32A kind))
+
+  day-by : dayOf kind m ≡ dayBy v (dateOf (partOf m (partFor v kind m (place-32A kind))))
+  unfolding dayOf paid
+  day-by = ap₂ (λ (u : Verdict) (c : List ℕ). dayBy u (dateOf c)) e (content-by (place-32A kind))
+
+  module _ (list : List ℕ) {w : Verdict} (h : short (listed 5 (fields m)) list ≡ w) where
+    answer-by : answerOf kind m list ≡ checkedBy (then v w) (length (fields m)) (wordOf kind m)
+    answer-by = ap (λ (u : Verdict). checkedBy u (length (fields m)) (wordOf kind m)) (last-17 kind m list e h)
+
+    left-by : leftOf kind m list ≡ room (then v w) (listed 5 (fields m)) list
+    left-by = ap (λ (u : Verdict). room u (listed 5 (fields m)) list) (last-17 kind m list e h)
+
+case-holds : (c : Case) → Computed c → Holds c
+case-holds (accepts kind s fs w ps k y m d) (e, f, g, h, i, j, a, b) =
+    let list : List ℕ = lent (length ps + 2) in
+    let q : short (listed 5 (fields (bytes s))) list ≡ Fine = ap (λ (x : List Field). short (listed 5 x) list) f ∙ i in (
+      f,
+      g,
+      answer-by kind (bytes s) e list q ∙ ap₂ checked.Accepted (ap length f) (ap (word (placesOf kind)) f ∙ h),
+      left-by kind (bytes s) e list q ∙ ap (λ (x : List Field). over (listed 5 x) list) f ∙ j,
+      amount-by kind (bytes s) e ∙ a,
+      day-by kind (bytes s) e ∙ b,
+    )
+case-holds (refuses kind s n number place) e =
+    (answer-by kind (bytes s) e (lent n) refl, left-by kind (bytes s) e (lent n) refl, amount-by kind (bytes s) e, day-by kind (bytes s) e)
+case-holds (narrow kind s n needed) (e, h) = (answer-by kind (bytes s) e (lent n) h, left-by kind (bytes s) e (lent n) h)
+case-holds (spans kind s place part) (v, e, h) = span-by kind (bytes s) e place ∙ h
+case-holds (shows kind s place c) (v, e, h) = content-by kind (bytes s) e place ∙ h
+
+abbrev AllComputed : List Case → Type 0
+AllComputed [] = Unit {0}
+AllComputed (c ∷ cs) = Computed c × AllComputed cs
+
+all-hold : (cs : List Case) → AllComputed cs → AllHold cs
+all-hold [] h = tt
+all-hold (c ∷ cs) h = (case-holds c (h .0), all-hold cs (h .1))
+
+-- ---- the signed 202: its details are spelt as they would be written
+abbrev before-14 : ℕ → List ℕ → List Verdict
+before-14 kind m =
+    frameRules kind m ++ rule8 kind m ∷ rule9 (fields m) ∷ rule10 (fields m) ∷ rule11 (fields m) ∷ rule12 (fields m) ∷ rule13 (fields m) ∷ []
+
+signed-easy : first (before-14 202 (bytes signed202)) ≡ Fine
+unfolding rule18 form103 form202 forms placesOf long rule1 framed body same rule2 scan xset isIn digit capital letter marks shared rule3 cut tagged lineBad badLine rule4 upto past grouped fields find wrong walk walked signOf sign member run counted apart notPlus wayFirst purpose meets fits cell isAs holds tookOf right lives behind widest formats rows firstWrong starts103 starts202 stateOf rightField rule8 rightContent onward leap daysIn isDay yearOf realDay dated behindDigits payment pointIn datesBehind rpp bothParts parties taxPlace isTax withKpp taxes valuesOf firstBad rule9 rule10 rule11 rule12 rule13
+signed-easy = refl
+
+signed-texts : spoken 202 5 (fields (bytes signed202)) ≡ speech named 120 (bytes "'OOO' SBERBANK") ∷ speech told 185 (bytes "PEREVOD SREDSTVPO DOGOVORU 'A'") ∷ []
+unfolding spoken speeches names details noted roles-speech.behind shapeOf shape103 shape202 cast isTax same digit body cut upto past grouped fields isIn
+signed-texts = refl
+
+name-heard : breaks named (bytes "'OOO' SBERBANK") ≡ false
+unfolding breaks hidden isIn reads alphabets-grid.sign grid marks digit capital letter shared
+name-heard = refl
+
+-- ПЕРЕВОД СРЕДСТВПО ДОГОВОРУ A
+abbrev details-read : List ℕ
+details-read = 207 ∷ 197 ∷ 208 ∷ 197 ∷ 194 ∷ 206 ∷ 196 ∷ 32 ∷ 209 ∷ 208 ∷ 197 ∷ 196 ∷ 209 ∷ 210 ∷ 194 ∷ 207 ∷ 206 ∷ 32 ∷ 196 ∷ 206 ∷ 195 ∷ 206 ∷ 194 ∷ 206 ∷ 208 ∷ 211 ∷ 32 ∷ 65 ∷ []
+
+details-heard : breaks told (bytes "PEREVOD SREDSTVPO DOGOVORU 'A'") ≡ false
+unfolding breaks best bad latinNext kind grid marks isIn digit capital letter shared
+details-heard = ap mute (reads-best false details-read refl)
+
+signed-fine : verdictOf 202 (bytes signed202) ≡ Fine
+unfolding verdictOf
+signed-fine =
+    first-last (before-14 202 (bytes signed202)) (rule14 202 (fields (bytes signed202)))
+    ∙ ap₂ then signed-easy (rule14-fine 202 (fields (bytes signed202)) .1 (λ e. subst Heard (sym signed-texts) (name-heard, (details-heard, tt))))
+
+-- ---- the example of the rules, as a 103 and as a 202
+sample-verdicts : (verdictOf 103 (bytes sample) ≡ Fine) × (verdictOf 202 (bytes sample) ≡ Broken 5 15)
+unfolding verdictOf rule18 form103 form202 forms placesOf long rule1 framed body same rule2 scan xset isIn digit capital letter marks shared rule3 cut tagged lineBad badLine rule4 upto past grouped fields find wrong walk walked signOf sign member run counted apart notPlus wayFirst purpose meets fits cell isAs holds tookOf right lives behind widest formats rows firstWrong starts103 starts202 stateOf rightField rule8 rightContent onward leap daysIn isDay yearOf realDay dated behindDigits payment pointIn datesBehind rpp bothParts parties taxPlace isTax withKpp taxes valuesOf firstBad rule9 rule10 rule11 rule12 rule13 spoken speeches names details noted roles-speech.behind shapeOf shape103 shape202 cast hidden isInn taxLike breaks unheard rule14 grid alphabets-grid.sign reads
+sample-verdicts = (refl, refl)
+
+computed : AllComputed cases
+unfolding cases verdictOf rule18 form103 form202 forms placesOf long rule1 framed body same rule2 scan xset isIn digit capital letter marks shared rule3 cut tagged lineBad badLine rule4 upto past grouped fields find wrong walk walked signOf sign member run counted apart notPlus wayFirst purpose meets fits cell isAs holds tookOf right lives behind widest formats rows firstWrong starts103 starts202 stateOf rightField rule8 rightContent onward leap daysIn isDay yearOf realDay dated behindDigits payment pointIn datesBehind rpp bothParts parties taxPlace isTax withKpp taxes valuesOf firstBad rule9 rule10 rule11 rule12 rule13 spoken speeches names details noted roles-speech.behind shapeOf shape103 shape202 cast hidden isInn taxLike breaks unheard rule14 grid alphabets-grid.sign reads message listed word partAt short dateOf dayAt kopecksOf kopecks kppOf faultOf
+computed =
+    (sample-verdicts .0, refl, refl, refl, refl, refl, refl, refl) also (signed-fine, refl, refl, refl, refl, refl, refl, refl) also (refl, refl, refl, refl, refl, refl, refl, refl)
+    also refl also refl also refl also refl also refl also refl also refl also refl also refl also (sample-verdicts .0, refl) also sample-verdicts .1
+    also (Fine, sample-verdicts .0, refl) also (Fine, sample-verdicts .0, refl) also (Fine, sample-verdicts .0, refl) also (Fine, sample-verdicts .0, refl)
+    also (Broken 5 15, sample-verdicts .1, refl) also (Fine, sample-verdicts .0, refl) also (Fine, sample-verdicts .0, refl) also tt
+
 pub worked : AllHold cases
-unfolding cases long short isIn digit capital letter marks shared xset same message body cut upto past grouped fields rule1 framed rule2 scan rule3 tagged lineBad badLine rule4 listed form103 form202 forms placesOf find wrong walk rule18 walked word signOf partAt verdictOf sign member run counted apart notPlus wayFirst purpose meets fits cell isAs holds tookOf right lives behind widest formats rows firstWrong starts103 starts202 stateOf rightField rule8 rightContent onward leap daysIn isDay yearOf realDay dated kopecks behindDigits payment pointIn datesBehind rpp bothParts parties taxPlace isTax withKpp taxes valuesOf firstBad rule9 rule10 rule11 rule12 rule13 dayAt dateOf kopecksOf kppOf faultOf shape103 shape202 shapeOf cast names details noted speeches roles-speech.behind hidden isInn taxLike breaks unheard spoken rule14 grid kind alphabets-grid.sign reads plainly inner spanOf contentOf paid amountOf dayOf
-worked =
-    (refl, refl, refl, refl, refl, refl) also (refl, refl, refl, refl, refl, refl) also (refl, refl, refl, refl, refl, refl) also (refl, refl, refl, refl) also (refl, refl, refl, refl) also (refl, refl, refl, refl) also (refl, refl, refl, refl) also (refl, refl, refl, refl) also (refl, refl, refl, refl) also (refl, refl, refl, refl) also (refl, refl, refl, refl) also (refl, refl, refl, refl) also (refl, refl) also (refl, refl, refl, refl) also refl also refl also refl also refl also refl also refl also refl
-    also tt
+worked = all-hold cases computed

@@ -1,17 +1,16 @@
 -- The 32A of an accepted message: it is there, its amount is whole, and its date is a day of the calendar (K3, Camount, Cdate). Assumes nothing.
 use Prim.Native.Nat.{ℕ, zero, suc, _+_, _-_, _≤_, _<_}
 use mathlib.Core.Path.{_≡_, refl, sym, ap, ap₂, _∙_, subst}
-use mathlib.Core.Bool.{Bool, true, false, _&&_, _||_, false≢true, true≢false}
+use mathlib.Core.Bool.{Bool, true, false, _||_, false≢true}
 use mathlib.Core.List.{List, [], _∷_}
 use native.Mathlib.Omega.{arith}
 use native.Mathlib.Decide.{decLt}
 use lib.Dec.{eqb, leb}
-use lib.ListN.{length, take, drop, length-drop}
+use lib.ListN.{length, drop, length-drop}
 use borrow.Author.Tests.{eq-eqb, eqb-true, eqb-false, leb-true, le-leb}
 use Rattle.base.specs.Choice.{pick, all}
-use Rattle.base.specs.Bytes.{digit, capital, same, empty}
+use Rattle.base.specs.Bytes.{same, empty}
 use Rattle.base.specs.Quoted.{bytes}
-use Rattle.base.specs.Rules.{then}
 use Rattle.base.specs.declared.Verdict.{Verdict}
 use Rattle.base.specs.declared.Verdict.the-variants.{Fine, Broken}
 use Rattle.base.proofs.Bools.{left, right}
@@ -25,7 +24,7 @@ use Rattle.types.specs.Form.{Place, placesOf, forms, form103, form202}
 use Rattle.types.specs.Walk.{find, optional, rule18}
 use Rattle.types.specs.Sign.{signOf}
 use Rattle.types.proofs.TableLaws.{no-form}
-use Rattle.types.proofs.WalkLaws.{placeAt, Skipped, Seated, AllRight, Accepted, seated, walked-accepted}
+use Rattle.types.proofs.WalkLaws.{placeAt, Seated, Accepted, seated, walked-accepted}
 use Rattle.types.proofs.WordLaws.{Present}
 use Rattle.formats.specs.Format.{member, run, counted, fits, formatAt}
 use Rattle.machine.specs.Machine.{cell, nextAt, isAs, holds, tookOf, tookFrom, took, rowsOf}

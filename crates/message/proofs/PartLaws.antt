@@ -1,27 +1,26 @@
 -- The part of a place stands in the message, and the part of a right content has bytes. Assumes nothing.
-use Prim.Native.Nat.{ℕ, _+_, _-_, _≤_}
-use mathlib.Core.Path.{_≡_, refl, sym, ap, ap₂, _∙_, subst}
+use Prim.Native.Nat.{ℕ, _-_}
+use mathlib.Core.Path.{_≡_, refl, sym, ap, _∙_, subst}
 use mathlib.Core.Bool.{Bool, true, false, false≢true}
-use mathlib.Core.List.{List, [], _∷_, _++_}
+use mathlib.Core.List.{List, [], _∷_}
 use native.Mathlib.Omega.{arith}
 use lib.Dec.{eqb}
-use lib.ListN.{length, take, drop, length-append}
-use borrow.Author.Tests.{eq-eqb, ne-eqb}
+use lib.ListN.{length-append}
 use Rattle.base.specs.Choice.{pick, all}
 use Rattle.base.specs.Bytes.{empty, same}
 use Rattle.base.specs.Quoted.{bytes}
 use Rattle.base.specs.declared.Verdict.{Verdict}
 use Rattle.base.specs.declared.Verdict.the-variants.{Fine, Broken}
 use Rattle.base.proofs.Bools.{left, right}
-use Rattle.fields.specs.Field.{Field, field, lined, linesOf, tagOf, fields}
-use Rattle.fields.specs.Places.{sizeOf, startOf, nextOf, endOf}
+use Rattle.fields.specs.Field.{Field, field, lined, linesOf, fields}
+use Rattle.fields.specs.Places.{startOf, nextOf, endOf}
 use Rattle.fields.specs.ByLines.{joined}
 use Rattle.fields.proofs.PlaceLaws.{Standing, size-append, next-standing, content-part, fields-stand}
 use Rattle.types.specs.Form.{Place, placesOf, forms, form103, form202}
 use Rattle.types.specs.Walk.{find}
-use Rattle.types.specs.Sign.{signOf, firstLine}
+use Rattle.types.specs.Sign.{signOf}
 use Rattle.types.proofs.TableLaws.{no-form}
-use Rattle.frame.proofs.CallLaws.{Found, taken}
+use Rattle.frame.proofs.CallLaws.{taken}
 use Rattle.forms.specs.Contents.{rightField}
 use Rattle.forms.proofs.ContentLaws.{right-nonempty}
 use Rattle.listing.specs.declared.Span.{Span}

@@ -10,8 +10,10 @@ use lib.ListN.{length, getD, take, drop, drop-of-length-le}
 use lib.Seq.{drop-cons, length-take-le}
 use borrow.Author.Tests.{eq-eqb, ne-eqb, eqb-true}
 use Rattle.base.specs.Choice.{pick, all}
-use Rattle.base.specs.Bytes.{byte, digit, begins, empty, same}
+use Rattle.base.specs.Bytes.{byte, digit, begins, empty, same, upTo}
 use Rattle.base.specs.Quoted.{bytes}
+use Rattle.base.proofs.MarkLaws.{up-end}
+use Rattle.base.proofs.ByteLaws.{digit-range}
 use Rattle.base.proofs.Bools.{left, right}
 use Rattle.fields.specs.Field.{Field, field, tagOf, onto}
 use Rattle.fields.specs.Shapes.{shaped, pack, unpack, goesOn}
@@ -22,9 +24,9 @@ use Rattle.roles.specs.Rule14.{isInn}
 use Rattle.roles.specs.declared.Shape.{Shape}
 use Rattle.roles.specs.declared.Shape.the-variants.{Payer, Payee}
 use Rattle.records.specs.Record.{Record, pieces, parted, recordOf}
-use Rattle.records.specs.Found.{partsIn, pieceSize, piecesAt, tagNumber}
-use Rattle.records.specs.Rule19.{digits, general, sole, detailed, noted, taxPart, untaxed, sound, good, numbered, typed, number, typeIn}
-use Rattle.records.proofs.PieceLaws.{size-end, past-end, at-from, pieces-at, pieces-head, end-within, last-at, more-at, piece-length}
+use Rattle.records.specs.Found.{partsIn, piecesAt, tagNumber}
+use Rattle.records.specs.Rule19.{digits, general, sole, detailed, noted, taxPart, untaxed, sound, good, typed, typeIn}
+use Rattle.records.proofs.PieceLaws.{past-end, at-from, pieces-at, pieces-head, end-within, last-at, more-at, piece-length}
 
 -- ---- no part from a place on
 module _ (l : List ℕ) (i : ℕ) (h : length l < i) where
@@ -47,9 +49,6 @@ module _ (l : List ℕ) (i : ℕ) (h : length l < i) where
   pub noted-none : false ≡ noted (piecesAt 9 l i)
   noted-none = sym (ap noted none)
 
-  pub numbered-none : false ≡ numbered (piecesAt 9 l i)
-  numbered-none = sym (ap numbered none)
-
   pub untaxed-none : (s : Bool) → true ≡ untaxed s (firstLine (piecesAt 9 l i))
   unfolding untaxed isInn digit
   untaxed-none true = sym (ap (λ (ps : List (List ℕ)). untaxed true (firstLine ps)) none)
@@ -60,7 +59,7 @@ unfolding untaxed
 untaxed-off s p e = rw e
 
 -- ---- the part from i to e, and those behind it
-module _ (l : List ℕ) (i e : ℕ) (h : i ≤ length l) (q : e ≡ i + pieceSize 9 (drop i l)) where
+module _ (l : List ℕ) (i e : ℕ) (h : i ≤ length l) (q : e ≡ i + upTo 9 (drop i l)) where
   abbrev part : List ℕ
   part = take (e - i) (drop i l)
 
@@ -121,12 +120,6 @@ module _ (l : List ℕ) (i e : ℕ) (h : i ≤ length l) (q : e ≡ i + pieceSiz
           let z : e ≡ length l = omega (arith, end-within 9 l i e h q) in
           eq-eqb e (length l) z ∙ sym (ap sole (last-at 9 l i e h q z) ∙ ap not (some k))
 
-  pub numbered-more : (e ≡ length l → ⊥) → false ≡ numbered (piecesAt 9 l i)
-  numbered-more k = sym (to-end numbered (λ p k ps. refl) k)
-
-  pub numbered-last : {r : Bool} → e ≡ length l → r ≡ digits 3 part → r ≡ numbered (piecesAt 9 l i)
-  numbered-last z g = g ∙ sym (ap numbered (last-at 9 l i e h q z))
-
   pub detailed-code : digits 5 part ≡ false → false ≡ detailed (piecesAt 9 l i)
   detailed-code g = sym (ap detailed here ∙ ap (λ (b : Bool). b && sole behind) g)
 
@@ -158,7 +151,7 @@ general-within l i g = go (decLt i (length l)) (decLt (length l) i)
     go : Dec (i < length l) → Dec (length l < i) → i < length l
     go (yes h) k = h
     go (no h) (yes k) = absurd (false≢true (general-none l i k ∙ g))
-    go (no h) (no k) = let z = size-end 9 l i (omega arith) in absurd (false≢true (general-empty l i i (omega arith) (omega (arith, z)) refl ∙ g))
+    go (no h) (no k) = let z = up-end 9 l i (omega arith) in absurd (false≢true (general-empty l i i (omega arith) (omega (arith, z)) refl ∙ g))
 
 pub payer-not : (s : Bool) (ps : List (List ℕ)) → general ps ≡ false → false ≡ sound s Payer ps
 unfolding sound
@@ -168,7 +161,7 @@ pub payee-not : (s : Bool) (ps : List (List ℕ)) → general ps ≡ false → f
 unfolding sound
 payee-not s ps g = rw g
 
-module _ (s : Bool) (l : List ℕ) (i e : ℕ) (q : e ≡ i + pieceSize 9 (drop i l)) (g : general (piecesAt 9 l i) ≡ true) where
+module _ (s : Bool) (l : List ℕ) (i e : ℕ) (q : e ≡ i + upTo 9 (drop i l)) (g : general (piecesAt 9 l i) ≡ true) where
   within : i ≤ length l
   within = let h = general-within l i g in omega arith
 
@@ -199,7 +192,7 @@ module _ (s : Bool) (l : List ℕ) (i e : ℕ) (q : e ≡ i + pieceSize 9 (drop 
   payee-on u = u ∙ sym (ap₂ (λ (b : Bool) (p : List ℕ). b && untaxed s p) g (ap (taxPart Payee) at))
 
 -- ---- a record by the end of its tag
-module _ (l : List ℕ) (t : ℕ) (q : t ≡ 0 + pieceSize 9 (drop 0 l)) where
+module _ (l : List ℕ) (t : ℕ) (q : t ≡ 0 + upTo 9 (drop 0 l)) where
   pub record-at : recordOf l ≡ field (take t l) (piecesAt 9 l (t + 1))
   unfolding recordOf
   record-at = ap parted (pieces-head 9 l t q)
@@ -258,40 +251,36 @@ module _ (l : List ℕ) (t : ℕ) (q : t ≡ 0 + pieceSize 9 (drop 0 l)) where
   plus-some h =
       sym (plus-at (pieces 9 (drop (t + 1) l)) (at-from 9 l (t + 1) (omega arith))
       ∙ ap (λ (d : List ℕ). begins 43 (firstLine (pieces 9 d))) (drop-cons l (t + 1) 0 h) ∙ first-of (getD l (t + 1) 0) (drop (suc (t + 1)) l))
-
   -- MT and a type
-  pub typed-not : same (take t l) (77 ∷ 84 ∷ []) ≡ false → false ≡ typed (recordOf l)
-  typed-not e = sym (ap typed record-at ∙ ap (λ (b : Bool). b && numbered (piecesAt 9 l (t + 1))) e)
 
-  pub typed-on : {r : Bool} → same (take t l) (77 ∷ 84 ∷ []) ≡ true → r ≡ numbered (piecesAt 9 l (t + 1)) → r ≡ typed (recordOf l)
-  typed-on e n = n ∙ sym (ap typed record-at ∙ ap (λ (b : Bool). b && numbered (piecesAt 9 l (t + 1))) e)
+-- three digits
+pub record Three (p : List ℕ) : Type 0 where
+  pub size : length p ≡ 3
+  pub first : 48 ≤ byte p 0
+  pub second : 48 ≤ byte p 1
+  pub third : 48 ≤ byte p 2
 
-  named : typed (recordOf l) ≡ true → numbered (piecesAt 9 l (t + 1)) ≡ true
-  named y = right (same (take t l) (bytes "MT")) (numbered (piecesAt 9 l (t + 1))) (sym (ap typed record-at) ∙ y)
+pub three : (p : List ℕ) → digits 3 p ≡ true → Three p
+unfolding digits
+three p e = go p (eqb-true (length p) 3 (left (eqb (length p) 3) (all digit p) e)) (right (eqb (length p) 3) (all digit p) e)
+  where
+    go : (p : List ℕ) → length p ≡ 3 → all digit p ≡ true → Three p
+    go [] n a = absurd (omega arith)
+    go (x ∷ []) n a = absurd (omega arith)
+    go (x ∷ y ∷ []) n a = absurd (omega arith)
+    go (x ∷ y ∷ z ∷ []) n a =
+        let b = right (digit x) (digit y && (digit z && true)) a in
+        record {
+          size = n;
+          first = digit-range x (left (digit x) (digit y && (digit z && true)) a) .0;
+          second = digit-range y (left (digit y) (digit z && true) b) .0;
+          third = digit-range z (left (digit z) true (right (digit y) (digit z && true) b)) .0;
+        }
+    go (x ∷ y ∷ z ∷ w ∷ p) n a = absurd (omega arith)
 
-  pub type-within : typed (recordOf l) ≡ true → t + 1 ≤ length l
-  type-within y = go (decLt (length l) (t + 1))
-    where
-      go : Dec (length l < t + 1) → t + 1 ≤ length l
-      go (yes k) = absurd (false≢true (numbered-none l (t + 1) k ∙ named y))
-      go (no k) = omega arith
-
-  module _ (e : ℕ) (p : e ≡ t + 1 + pieceSize 9 (drop (t + 1) l)) (y : typed (recordOf l) ≡ true) where
-    pub type-end : e ≤ length l
-    type-end = end-within 9 l (t + 1) e (type-within y) p
-
-    three-of : (ps : List (List ℕ)) (k : List ℕ) (ks : List (List ℕ)) → ps ≡ k ∷ ks → numbered ps ≡ true → length k ≡ 3
-    unfolding digits
-    three-of ps k [] z n = eqb-true (length k) 3 (left (eqb (length k) 3) (all digit k) (sym (ap numbered z) ∙ n))
-    three-of ps k (j ∷ ks) z n = absurd (false≢true (sym (ap numbered z) ∙ n))
-
-    pub type-size : length (take (e - (t + 1)) (drop (t + 1) l)) ≡ 3
-    type-size = three-of (piecesAt 9 l (t + 1)) _ (piecesAt 9 l (e + 1)) (pieces-at 9 l (t + 1) e (type-within y) p) (named y)
-
-    pub type-number : {r : ℕ} → r ≡ number (take (e - (t + 1)) (drop (t + 1) l)) → r ≡ typeIn (recordOf l)
-    type-number k =
-        k ∙ ap (λ (ps : List (List ℕ)). number (firstLine ps)) (sym (pieces-at 9 l (t + 1) e (type-within y) p))
-        ∙ ap (λ (b : Bool). pick b (number (firstLine (piecesAt 9 l (t + 1)))) 0) (sym y ∙ ap typed record-at) ∙ sym (ap typeIn record-at)
+-- the shape that a tag was found to have
+pub sound-by : {r : Bool} {sh to : Shape} (s : Bool) (ps : List (List ℕ)) → sh ≡ to → r ≡ sound s to ps → r ≡ sound s sh ps
+sound-by s ps e h = h ∙ ap (λ (x : Shape). sound s x ps) (sym e)
 
 pub type-none : (r : Record) → typed r ≡ false → typeIn r ≡ 0
 type-none (field t ps) k = rw k

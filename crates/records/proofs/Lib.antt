@@ -7,3 +7,4 @@ pub mod PartLaws
 pub mod PieceLaws
 pub mod SheetLaws
 pub mod Examples
+mod TypeLaws

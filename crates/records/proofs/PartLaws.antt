@@ -11,6 +11,7 @@ use lib.Seq.{drop-cons}
 use borrow.Author.Tests.{eq-eqb, ne-eqb}
 use Rattle.base.specs.Choice.{pick, all}
 use Rattle.base.specs.Bytes.{byte, digit, capital, same}
+use Rattle.base.proofs.ByteLaws.{digit-range}
 use Rattle.fields.specs.Shapes.{shaped, pack, unpack, goesOn}
 use Rattle.fields.proofs.PackLaws.{unpack-pack}
 use Rattle.records.specs.Found.{tagNumber}
@@ -77,63 +78,81 @@ two-bytes (x ∷ y ∷ []) a b h e = e ∙ ap (λ (q : Bool). eqb x a && q) (sym
 two-bytes (x ∷ y ∷ z ∷ p) a b h e = absurd (omega arith)
 
 -- ---- a tag as one number
-pub tag-short : (t : List ℕ) → length t < 2 → 0 ≡ tagNumber t
+module _ (a b : ℕ) where
+  pub two-tag : {n : ℕ} → digit a ≡ true → digit b ≡ true → n ≡ a * 65536 + b * 256 → n ≡ tagNumber (a ∷ b ∷ [])
+  unfolding tagNumber shaped
+  two-tag d e h = rw (d, e) (omega arith)
+
+  pub two-first : digit a ≡ false → 0 ≡ tagNumber (a ∷ b ∷ [])
+  unfolding tagNumber shaped
+  two-first d = rw d
+
+  pub two-second : digit b ≡ false → 0 ≡ tagNumber (a ∷ b ∷ [])
+  unfolding tagNumber shaped
+  two-second e = rw e (ap (λ (q : Bool). pick q (pack (a ∷ b ∷ [])) 0) (and-false (digit a)))
+
+  pub two-within : a < 256 → b < 256 → tagNumber (a ∷ b ∷ []) < 16777216
+  unfolding tagNumber shaped
+  two-within h k = go (digit a && (digit b && true))
+    where
+      go : (q : Bool) → pick q (pack (a ∷ b ∷ [])) 0 < 16777216
+      go true = omega arith
+      go false = omega arith
+
+  module _ (c : ℕ) where
+    pub three-small : capital c ≡ false → 0 ≡ tagNumber (a ∷ b ∷ c ∷ [])
+    unfolding tagNumber shaped
+    three-small e = rw e (go (digit a) (digit b))
+      where
+        go : (p q : Bool) → 0 ≡ pick (p && (q && false)) (pack (a ∷ b ∷ c ∷ [])) 0
+        go true true = refl
+        go true false = refl
+        go false q = refl
+
+    pub three-none : {n : ℕ} → n ≡ tagNumber (a ∷ b ∷ []) → n ≡ 0 → 0 ≡ tagNumber (a ∷ b ∷ c ∷ [])
+    unfolding tagNumber shaped
+    three-none {n} e z = go (digit a) (digit b) refl e
+      where
+        go : (p q : Bool) → digit a ≡ p → n ≡ pick (p && (q && true)) (pack (a ∷ b ∷ [])) 0 → 0 ≡ pick (p && (q && (capital c && true))) (pack (a ∷ b ∷ c ∷ [])) 0
+        go true true d e = let r = digit-range a d .0 in absurd (omega arith)
+        go true false d e = refl
+        go false q d e = refl
+
+    pub three-tag : {n : ℕ} → capital c ≡ true → n ≡ tagNumber (a ∷ b ∷ []) → (n ≡ 0 → ⊥) → n + c ≡ tagNumber (a ∷ b ∷ c ∷ [])
+    unfolding tagNumber shaped
+    three-tag {n} d e z = rw d (go (digit a) (digit b) e)
+      where
+        go : (p q : Bool) → n ≡ pick (p && (q && true)) (pack (a ∷ b ∷ [])) 0 → n + c ≡ pick (p && (q && true)) (pack (a ∷ b ∷ c ∷ [])) 0
+        go true true e = omega arith
+        go true false e = absurd (z e)
+        go false q e = absurd (z e)
+
+pub of-two : (t : List ℕ) → length t ≡ 2 → byte t 0 ∷ byte t 1 ∷ [] ≡ t
+of-two [] h = absurd (omega arith)
+of-two (x ∷ []) h = absurd (omega arith)
+of-two (x ∷ y ∷ []) h = refl
+of-two (x ∷ y ∷ z ∷ t) h = absurd (omega arith)
+
+pub of-three : (t : List ℕ) → length t ≡ 3 → byte t 0 ∷ byte t 1 ∷ byte t 2 ∷ [] ≡ t
+of-three [] h = absurd (omega arith)
+of-three (x ∷ []) h = absurd (omega arith)
+of-three (x ∷ y ∷ []) h = absurd (omega arith)
+of-three (x ∷ y ∷ z ∷ []) h = refl
+of-three (x ∷ y ∷ z ∷ w ∷ t) h = absurd (omega arith)
+
+pub tag-other : (t : List ℕ) → (length t ≡ 2 → ⊥) → (length t ≡ 3 → ⊥) → 0 ≡ tagNumber t
 unfolding tagNumber shaped digit
-tag-short [] h = refl
-tag-short (x ∷ []) h = ap (λ (q : Bool). pick q (pack (x ∷ [])) 0) (and-false (digit x))
-tag-short (x ∷ y ∷ t) h = absurd (omega arith)
-
-pub tag-first : (t : List ℕ) → digit (byte t 0) ≡ false → 0 ≡ tagNumber t
-unfolding tagNumber shaped
-tag-first t e = rw e
-
-pub tag-second : (t : List ℕ) → digit (byte t 1) ≡ false → 0 ≡ tagNumber t
-unfolding tagNumber shaped
-tag-second t e = rw e (ap (λ (q : Bool). pick q (pack t) 0) (and-false (digit (byte t 0))))
-
-module _ (t : List ℕ) (a : digit (byte t 0) ≡ true) (b : digit (byte t 1) ≡ true) where
-  pub tag-two : (n : ℕ) → length t ≡ 2 → n ≡ byte t 0 * 65536 + byte t 1 * 256 → n ≡ tagNumber t
-  unfolding tagNumber shaped
-  tag-two n h e = go t a b h e
-    where
-      go : (t : List ℕ) → digit (byte t 0) ≡ true → digit (byte t 1) ≡ true → length t ≡ 2 → n ≡ byte t 0 * 65536 + byte t 1 * 256 → n ≡ tagNumber t
-      go [] a b h e = absurd (omega arith)
-      go (x ∷ []) a b h e = absurd (omega arith)
-      go (x ∷ y ∷ []) a b h e = rw (a, b) (omega arith)
-      go (x ∷ y ∷ z ∷ t) a b h e = absurd (omega arith)
-
-  pub tag-long : (length t < 2 → ⊥) → (length t ≡ 2 → ⊥) → (length t ≡ 3 → ⊥) → 0 ≡ tagNumber t
-  unfolding tagNumber shaped
-  tag-long h k l = go t a b h k l
-    where
-      go : (t : List ℕ) → digit (byte t 0) ≡ true → digit (byte t 1) ≡ true → (length t < 2 → ⊥) → (length t ≡ 2 → ⊥) → (length t ≡ 3 → ⊥) → 0 ≡ tagNumber t
-      go [] a b h k l = absurd (h (omega arith))
-      go (x ∷ []) a b h k l = absurd (h (omega arith))
-      go (x ∷ y ∷ []) a b h k l = absurd (k refl)
-      go (x ∷ y ∷ z ∷ []) a b h k l = absurd (l refl)
-      go (x ∷ y ∷ z ∷ w ∷ t) a b h k l = rw (a, b) (ap (λ (q : Bool). pick q (pack (x ∷ y ∷ z ∷ w ∷ t)) 0) (and-false (capital z)))
-
-  pub tag-small : length t ≡ 3 → capital (byte t 2) ≡ false → 0 ≡ tagNumber t
-  unfolding tagNumber shaped
-  tag-small h e = go t a b h e
-    where
-      go : (t : List ℕ) → digit (byte t 0) ≡ true → digit (byte t 1) ≡ true → length t ≡ 3 → capital (byte t 2) ≡ false → 0 ≡ tagNumber t
-      go [] a b h e = absurd (omega arith)
-      go (x ∷ []) a b h e = absurd (omega arith)
-      go (x ∷ y ∷ []) a b h e = absurd (omega arith)
-      go (x ∷ y ∷ z ∷ []) a b h e = rw (a, b, e)
-      go (x ∷ y ∷ z ∷ w ∷ t) a b h e = absurd (omega arith)
-
-  pub tag-three : (n : ℕ) → length t ≡ 3 → capital (byte t 2) ≡ true → n ≡ byte t 0 * 65536 + byte t 1 * 256 + byte t 2 → n ≡ tagNumber t
-  unfolding tagNumber shaped
-  tag-three n h e m = go t a b h e m
-    where
-      go : (t : List ℕ) → digit (byte t 0) ≡ true → digit (byte t 1) ≡ true → length t ≡ 3 → capital (byte t 2) ≡ true → n ≡ byte t 0 * 65536 + byte t 1 * 256 + byte t 2 → n ≡ tagNumber t
-      go [] a b h e m = absurd (omega arith)
-      go (x ∷ []) a b h e m = absurd (omega arith)
-      go (x ∷ y ∷ []) a b h e m = absurd (omega arith)
-      go (x ∷ y ∷ z ∷ []) a b h e m = rw (a, b, e) m
-      go (x ∷ y ∷ z ∷ w ∷ t) a b h e m = absurd (omega arith)
+tag-other [] h k = refl
+tag-other (x ∷ []) h k = ap (λ (q : Bool). pick q (pack (x ∷ [])) 0) (and-false (digit x))
+tag-other (x ∷ y ∷ []) h k = absurd (h refl)
+tag-other (x ∷ y ∷ z ∷ []) h k = absurd (k refl)
+tag-other (x ∷ y ∷ z ∷ w ∷ t) h k = go (digit x) (digit y) (capital z)
+  where
+    go : (p q r : Bool) → 0 ≡ pick (p && (q && (r && false))) (pack (x ∷ y ∷ z ∷ w ∷ t)) 0
+    go true true true = refl
+    go true true false = refl
+    go true false r = refl
+    go false q r = refl
 
 -- the number of a tag of the right shape is that tag
 pub tag-unpack : (t : List ℕ) → shaped t ≡ true → unpack (tagNumber t) ≡ t

@@ -7,9 +7,10 @@ use lib.ListN.{length, take, drop, length-append, drop-of-length-le}
 use lib.Seq.{drop-at, drop-drop}
 use Rattle.records.specs.Record.{Record, tabbed, line, sheet, pieces, front, recordOf}
 use Rattle.records.specs.Places.{sizeOf, nextOf}
-use Rattle.records.specs.Found.{pieceSize, piecesAt}
+use Rattle.records.specs.Found.{piecesAt}
 use Rattle.records.proofs.PieceLaws.{at-from, end-within, more-at, piece-length}
 use Rattle.records.proofs.SheetLaws.{line-record}
+use Rattle.base.specs.Bytes.{upTo}
 
 -- ---- records in a sheet
 pub size-sheet : (rs : List Record) → length (sheet rs) ≡ sizeOf rs
@@ -41,7 +42,7 @@ drop-tabbed (p ∷ before) ps =
     ∙ ap (drop (widthOf before)) (drop-at p (tabbed (before ++ ps)) (length p) refl) ∙ drop-tabbed before ps
 
 -- ---- as code steps: the record from i to e, and the next at e + 1
-module _ (s : List ℕ) (i e : ℕ) (h : i ≤ length s) (q : e ≡ i + pieceSize 10 (drop i s)) where
+module _ (s : List ℕ) (i e : ℕ) (h : i ≤ length s) (q : e ≡ i + upTo 10 (drop i s)) where
   pub next-at : nextOf i (recordOf (take (e - i) (drop i s))) ≡ e + 1
   next-at =
       let n = piece-length s i e (omega arith) (end-within 10 s i e h q) in

@@ -6,19 +6,19 @@ use mathlib.Core.List.{List, [], _∷_, map, tail}
 use native.Mathlib.Omega.{arith}
 use lib.ListN.{length, take, drop}
 use Rattle.base.specs.Choice.{pick, all}
-use Rattle.base.specs.Bytes.{begins, empty, same}
+use Rattle.base.specs.Bytes.{begins, same, upTo}
 use Rattle.base.specs.Quoted.{bytes}
 use Rattle.base.proofs.Bools.{left, right, both}
 use Rattle.fields.specs.Field.{field, tagOf}
-use Rattle.fields.specs.Shapes.{shaped, proper}
+use Rattle.fields.specs.Shapes.{shaped}
 use Rattle.types.specs.Sign.{firstLine, signOf}
 use Rattle.roles.specs.Role.{Part, copy, name, taxName, taxed, cast, shapeOf}
 use Rattle.values.specs.Values.{isTax}
 use Rattle.roles.specs.Rule14.{isInn}
 use Rattle.roles.specs.declared.Shape.{Shape}
 use Rattle.records.specs.Record.{Record, line, sheet, pieces, front, final, recordOf, records, rest, begun}
-use Rattle.records.specs.Found.{partsIn, pieceSize, piecesAt}
-use Rattle.records.specs.Rule19.{general, good, typeIn, typeOf, sheetSign, sheetType}
+use Rattle.records.specs.Found.{partsIn, piecesAt}
+use Rattle.records.specs.Rule19.{good, typeIn, typeOf, sheetSign, sheetType}
 use Rattle.records.specs.Sentences.{Right, plain, agent, payer, payee, details, note103, note202, Sound}
 use Rattle.records.proofs.SheetLaws.{line-record, sheet-whole}
 use Rattle.records.proofs.WalkLaws.{first-size, none-ended, head-record}
@@ -27,12 +27,6 @@ use Rattle.records.proofs.RuleLaws.{sound-right, named, named-size}
 -- ---- one record
 pub good-right : (kind : ℕ) (s : Bool) (r : Record) → good kind s r ≡ true → (shaped (tagOf r) ≡ true) × Right s (shapeOf kind (tagOf r)) (partsIn r)
 good-right kind s (field t ps) e = (left (shaped t) _ e, sound-right s (shapeOf kind t) ps (right (shaped t) _ e))
-
--- parts that meet the general rules are lines that 4 lets pass
-pub general-proper : (t : List ℕ) (ps : List (List ℕ)) → shaped t ≡ true → general ps ≡ true → proper (field t ps) ≡ true
-unfolding general
-general-proper t [] e g = g
-general-proper t (p ∷ ps) e g = both e (right (not (empty p)) _ g)
 
 -- with the sign, no name in the tax place begins with Cyrillic INN and a digit
 abbrev pub calm : Part → Bool
@@ -105,7 +99,7 @@ module _ (s : List ℕ) (h : Sound s) where
 
   -- the first line is six bytes, and the records behind it are those from place 7 on
   abbrev first : ℕ
-  first = 0 + pieceSize 10 (drop 0 s)
+  first = 0 + upTo 10 (drop 0 s)
 
   goes-on : first ≡ length s → ⊥
   goes-on z = let n : _≡_ {A = ℕ} 0 (length (h .head ∷ h .behind)) = ap length (sym (none-ended s first refl refl z) ∙ h .list) in absurd (omega arith)

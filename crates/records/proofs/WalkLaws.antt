@@ -7,7 +7,7 @@ use native.Mathlib.Omega.{arith}
 use lib.ListN.{length, take, drop, drop-of-length-le}
 use lib.Seq.{length-take-le}
 use Rattle.base.specs.Choice.{pick}
-use Rattle.base.specs.Bytes.{begins, empty, same}
+use Rattle.base.specs.Bytes.{begins, empty, same, upTo}
 use Rattle.base.specs.Quoted.{bytes}
 use Rattle.base.specs.Rules.{then, first}
 use Rattle.base.specs.declared.Verdict.{Verdict}
@@ -17,7 +17,7 @@ use Rattle.fields.specs.Field.{field, tagOf}
 use Rattle.types.specs.Walk.{rule18}
 use Rattle.types.specs.Sign.{firstLine, signOf}
 use Rattle.records.specs.Record.{Record, line, pieces, front, final, recordOf, records, rest, begun}
-use Rattle.records.specs.Found.{partsIn, pieceSize, piecesAt, badLine, noType}
+use Rattle.records.specs.Found.{partsIn, piecesAt, badLine, noType}
 use Rattle.records.specs.Rule19.{good, typed, typeIn, typeOf, badFrom, judge, sheetSign, sheetType, rule19, sheetVerdict, judged}
 use Rattle.records.specs.declared.Judged.{Judged}
 use Rattle.records.proofs.PieceLaws.{at-zero, past-end, at-from, pieces-at, pieces-head, end-within, last-at, More, more-at, piece-length}
@@ -38,7 +38,7 @@ unfolding signOf
 by-tag (field t ps) rs = refl
 
 -- ---- the line from i to e
-module _ (s : List ℕ) (i e : ℕ) (h : i ≤ length s) (q : e ≡ i + pieceSize 10 (drop i s)) where
+module _ (s : List ℕ) (i e : ℕ) (h : i ≤ length s) (q : e ≡ i + upTo 10 (drop i s)) where
   abbrev this : List ℕ
   this = take (e - i) (drop i s)
 
@@ -109,7 +109,7 @@ then-type kind e f k = k ∙ sym (ap (λ (u : Verdict). then u (rule18 kind)) (s
 abbrev made : Verdict → ℕ → Bool → Judged
 made v k g = record { verdict = v; kind = k; sign = g }
 
-module _ (s : List ℕ) (e : ℕ) (q : e ≡ 0 + pieceSize 10 (drop 0 s)) {g : Bool} (w : g ≡ sheetSign s) where
+module _ (s : List ℕ) (e : ℕ) (q : e ≡ 0 + upTo 10 (drop 0 s)) {g : Bool} (w : g ≡ sheetSign s) where
   pub first-within : e ≤ length s
   first-within = end-within 10 s 0 e (omega arith) q
 

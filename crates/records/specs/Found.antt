@@ -1,9 +1,9 @@
 -- A sheet as code goes over it: pieces from a place on, the lines of the sheet with the last one unended, tags as numbers (S1, N19).
 -- That this is the sheet's records and 19 over them: proofs/FoundLaws. Assumes nothing.
-use Prim.Native.Nat.{ℕ, suc, _+_}
+use Prim.Native.Nat.{ℕ, _+_}
 use mathlib.Core.Bool.{Bool}
 use mathlib.Core.List.{List, [], _∷_}
-use lib.Dec.{eqb, leb}
+use lib.Dec.{leb}
 use lib.ListN.{length, drop}
 use Rattle.base.specs.Choice.{pick}
 use Rattle.base.specs.Bytes.{empty}
@@ -17,11 +17,6 @@ use Rattle.records.specs.declared.Judged.{Judged}
 
 abbrev pub partsIn : Record → List (List ℕ)
 partsIn (field t ps) = ps
-
--- how many bytes stand before the first c
-unfoldable pub pieceSize : ℕ → List ℕ → ℕ
-pieceSize c [] = 0
-pieceSize c (x ∷ xs) = pick (eqb x c) 0 (suc (pieceSize c xs))
 
 -- the pieces from i on, none where that is past the end
 unfoldable pub piecesAt : ℕ → List ℕ → ℕ → List (List ℕ)

@@ -1,6 +1,5 @@
 // A clerk's sheet: the type and the sign that it names, and what 19 and 18 say of it.
 mod parts;
-pub mod pieces;
 pub mod sheets;
 pub mod tags;
 

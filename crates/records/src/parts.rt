@@ -3,14 +3,13 @@ ghost use mathlib.Core.Path.{_≡_};
 ghost use Rattle.base.specs.Choice.{all};
 ghost use Rattle.fields.specs.Shapes.{goesOn};
 ghost use Rattle.types.specs.Sign.{firstLine};
-ghost use Rattle.roles.specs.Rule14.{isInn};
 ghost use Rattle.roles.specs.declared.Shape.the-variants.{Payer, Payee};
 ghost use Rattle.records.specs.Record.{recordOf};
 ghost use Rattle.records.specs.Found.{piecesAt};
 ghost use Rattle.records.specs.Rule19.{digits, general, sole, detailed, noted, untaxed, sound, good};
-use super::pieces::piece_end;
 use super::tags::tag_number;
 use base::bytes::is_digit;
+use base::marks::mark_at;
 use roles::Shape;
 use roles::shapes::shape_of;
 use values::parts::is_numbered;
@@ -33,7 +32,7 @@ fn all_go_on(l: &[u8], from: usize) -> bool
 {
     let mut i = from;
     while i <= l.len() {
-        let e = piece_end(l, 9, i);
+        let e = mark_at(9, l, i);
         if !goes_on(&l[i..e]) {
             return false;
         }
@@ -49,7 +48,7 @@ fn is_general(l: &[u8], i: usize) -> bool
     if l.len() < i {
         return false;
     }
-    let e = piece_end(l, 9, i);
+    let e = mark_at(9, l, i);
     if e == i {
         return false;
     }
@@ -63,7 +62,7 @@ fn is_sole(l: &[u8], i: usize) -> bool
     if l.len() < i {
         return false;
     }
-    let e = piece_end(l, 9, i);
+    let e = mark_at(9, l, i);
     if e == i {
         return false;
     }
@@ -92,7 +91,7 @@ fn is_detailed(l: &[u8], i: usize) -> bool
     if l.len() < i {
         return false;
     }
-    let e = piece_end(l, 9, i);
+    let e = mark_at(9, l, i);
     if !is_digits(5, &l[i..e]) {
         return false;
     }
@@ -105,18 +104,11 @@ fn is_noted(l: &[u8], i: usize) -> bool
     if l.len() < i {
         return false;
     }
-    let e = piece_end(l, 9, i);
+    let e = mark_at(9, l, i);
     is_detailed(l, e + 1)
 }
 
-// Cyrillic INN and a digit.
-fn is_inn(p: &[u8]) -> bool
-    ensures { λ r. ⌜ r ≡ isInn (now (p .entry)) ⌝ }
-{
-    is_numbered(p, 200, 205, 205)
-}
-
-// The part from a place on may stand in the tax place.
+// The part from a place on may stand in the tax place: it does not begin with Cyrillic INN and a digit.
 fn is_untaxed(sign: bool, l: &[u8], i: usize) -> bool
     ensures { λ r. ⌜ r ≡ untaxed sign (firstLine (piecesAt 9 (now (l .entry)) i)) ⌝ }
 {
@@ -126,8 +118,8 @@ fn is_untaxed(sign: bool, l: &[u8], i: usize) -> bool
     if l.len() < i {
         return true;
     }
-    let e = piece_end(l, 9, i);
-    !is_inn(&l[i..e])
+    let e = mark_at(9, l, i);
+    !is_numbered(&l[i..e], 200, 205, 205)
 }
 
 fn is_payer(sign: bool, l: &[u8], i: usize) -> bool
@@ -136,7 +128,7 @@ fn is_payer(sign: bool, l: &[u8], i: usize) -> bool
     if !is_general(l, i) {
         return false;
     }
-    let e = piece_end(l, 9, i);
+    let e = mark_at(9, l, i);
     if l[i] == 47 {
         return is_untaxed(sign, l, e + 1);
     }
@@ -149,26 +141,33 @@ fn is_payee(sign: bool, l: &[u8], i: usize) -> bool
     if !is_general(l, i) {
         return false;
     }
-    let e = piece_end(l, 9, i);
+    let e = mark_at(9, l, i);
     is_untaxed(sign, l, e + 1)
+}
+
+// The parts from a place on are right for the shape of their tag.
+fn is_sound(shape: Shape, sign: bool, l: &[u8], i: usize) -> bool
+    ensures { λ r. ⌜ r ≡ sound sign shape (piecesAt 9 (now (l .entry)) i) ⌝ }
+{
+    match shape {
+        Shape::Plain => is_general(l, i),
+        Shape::Payer => is_payer(sign, l, i),
+        Shape::Payee => is_payee(sign, l, i),
+        Shape::Agent => is_general(l, i),
+        Shape::Details => is_detailed(l, i),
+        Shape::Note103 => is_sole(l, i),
+        Shape::Note202 => is_noted(l, i),
+    }
 }
 
 // A record behind the first, without its LF.
 pub(crate) fn is_good(kind: u32, sign: bool, l: &[u8]) -> bool
     ensures { λ r. ⌜ r ≡ good kind sign (recordOf (now (l .entry))) ⌝ }
 {
-    let t = piece_end(l, 9, 0);
+    let t = mark_at(9, l, 0);
     let tag = tag_number(&l[..t]);
     if tag == 0 {
         return false;
     }
-    match shape_of(kind, tag) {
-        Shape::Plain => is_general(l, t + 1),
-        Shape::Payer => is_payer(sign, l, t + 1),
-        Shape::Payee => is_payee(sign, l, t + 1),
-        Shape::Agent => is_general(l, t + 1),
-        Shape::Details => is_detailed(l, t + 1),
-        Shape::Note103 => is_sole(l, t + 1),
-        Shape::Note202 => is_noted(l, t + 1),
-    }
+    is_sound(shape_of(kind, tag), sign, l, t + 1)
 }

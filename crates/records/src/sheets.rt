@@ -1,6 +1,7 @@
 // A whole sheet: its sign, its type, and the first bad record.
 ghost use mathlib.Core.Path.{_≡_};
-ghost use Prim.Native.Nat.{_≤_, _<_, _-_};
+ghost use mathlib.Core.Bool.{true};
+ghost use Prim.Native.Nat.{_≤_};
 ghost use mathlib.Core.List.{[], _∷_};
 ghost use lib.ListN.{length};
 ghost use Rattle.base.specs.Bytes.{begins, same};
@@ -11,13 +12,12 @@ ghost use Rattle.types.specs.Sign.{firstLine};
 ghost use Rattle.fields.specs.Field.{tagOf};
 ghost use Rattle.records.specs.Record.{recordOf};
 ghost use Rattle.records.specs.Found.{partsIn, piecesAt, badLine, noType};
-ghost use Rattle.records.specs.Rule19.{numbered, typed, number, typeIn, sheetSign, judged};
+ghost use Rattle.records.specs.Rule19.{digits, typed, number, sheetSign, judged};
 use super::Judged;
 use super::parts::is_digits;
 use super::parts::is_good;
-use super::pieces::piece_end;
 use base::Verdict;
-use base::bytes::wide;
+use base::marks::mark_at;
 use types::forms::count_of;
 
 // Whether a text is these two bytes.
@@ -37,7 +37,7 @@ fn is_two(p: &[u8], a: u8, b: u8) -> bool
 fn is_twenty(l: &[u8]) -> bool
     ensures { λ r. ⌜ r ≡ same (tagOf (recordOf (now (l .entry)))) (bytes "20") ⌝ }
 {
-    let t = piece_end(l, 9, 0);
+    let t = mark_at(9, l, 0);
     is_two(&l[..t], 50, 48)
 }
 
@@ -45,7 +45,7 @@ fn is_twenty(l: &[u8]) -> bool
 fn has_plus(l: &[u8]) -> bool
     ensures { λ r. ⌜ r ≡ begins 43 (firstLine (partsIn (recordOf (now (l .entry))))) ⌝ }
 {
-    let t = piece_end(l, 9, 0);
+    let t = mark_at(9, l, 0);
     if l.len() <= t + 1 {
         return false;
     }
@@ -58,7 +58,7 @@ fn sign_of(s: &[u8]) -> bool
 {
     let mut at = 0;
     while at <= s.len() {
-        let e = piece_end(s, 10, at);
+        let e = mark_at(10, s, at);
         if is_twenty(&s[at..e]) {
             return has_plus(&s[at..e]);
         }
@@ -67,57 +67,27 @@ fn sign_of(s: &[u8]) -> bool
     false
 }
 
-// Just one part, of three digits.
-fn is_numbered(l: &[u8], i: usize) -> bool
-    ensures { λ r. ⌜ r ≡ numbered (piecesAt 9 (now (l .entry)) i) ⌝ }
-{
-    if l.len() < i {
-        return false;
-    }
-    let e = piece_end(l, 9, i);
-    if e != l.len() {
-        return false;
-    }
-    is_digits(3, &l[i..e])
-}
-
-// A first record that names a type.
+// A first record that names a type: MT, a tab and three digits.
 fn is_typed(l: &[u8]) -> bool
     ensures { λ r. ⌜ r ≡ typed (recordOf (now (l .entry))) ⌝ }
 {
-    let t = piece_end(l, 9, 0);
-    if !is_two(&l[..t], 77, 84) {
+    if l.len() != 6 {
         return false;
     }
-    is_numbered(l, t + 1)
-}
-
-fn worth(x: u8) -> u32
-    ensures { λ r. ⌜ (r ≡ x - 48) × (r < 256) ⌝ }
-{
-    if x < 48 {
-        return 0;
+    if l[2] != 9 {
+        return false;
     }
-    wide(x) - 48
+    if !is_two(&l[..2], 77, 84) {
+        return false;
+    }
+    is_digits(3, &l[3..])
 }
 
 fn number_of(p: &[u8]) -> u32
-    requires { ⌜ 3 ≤ length (now p) ⌝ }
+    requires { ⌜ digits 3 (now p) ≡ true ⌝ }
     ensures { λ r. ⌜ r ≡ number (now (p .entry)) ⌝ }
 {
-    worth(p[0]) * 100 + worth(p[1]) * 10 + worth(p[2])
-}
-
-// The type that a first record names, 0 where it names none.
-fn type_in(l: &[u8]) -> u32
-    ensures { λ r. ⌜ r ≡ typeIn (recordOf (now (l .entry))) ⌝ }
-{
-    if !is_typed(l) {
-        return 0;
-    }
-    let t = piece_end(l, 9, 0);
-    let e = piece_end(l, 9, t + 1);
-    number_of(&l[t + 1..e])
+    (p[0] as u32 - 48) * 100 + (p[1] as u32 - 48) * 10 + (p[2] as u32 - 48)
 }
 
 // The first bad record from a place on.
@@ -127,7 +97,7 @@ fn bad_record(s: &[u8], kind: u32, sign: bool, from: usize) -> Verdict
 {
     let mut at = from;
     while at < s.len() {
-        let e = piece_end(s, 10, at);
+        let e = mark_at(10, s, at);
         if e == s.len() {
             return Verdict::Broken {
                 number: 19,
@@ -183,14 +153,14 @@ pub fn judge_sheet(s: &[u8]) -> Judged
     ensures { λ r. ⌜ r ≡ judged (now (s .entry)) ⌝ }
 {
     let sign = sign_of(s);
-    let e = piece_end(s, 10, 0);
+    let e = mark_at(10, s, 0);
     if e == s.len() {
         return unnamed(sign);
     }
     if !is_typed(&s[..e]) {
         return unnamed(sign);
     }
-    let kind = type_in(&s[..e]);
+    let kind = number_of(&s[3..e]);
     let verdict = behind_type(s, kind, sign, e + 1);
     Judged {
         verdict,

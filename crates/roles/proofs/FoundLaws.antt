@@ -10,12 +10,12 @@ use lib.Dec.{eqb, ltb}
 use lib.ListN.{length, take, drop, drop-of-length-le}
 use lib.Seq.{drop-nil}
 use Rattle.base.specs.Choice.{pick}
-use Rattle.base.specs.Bytes.{begins}
+use Rattle.base.specs.Bytes.{begins, upTo}
 use Rattle.alphabets.specs.Pieces.{pieceIn, pieceOn, pieceAfter}
 use Rattle.alphabets.specs.declared.pieces.Piece.{Piece}
 use Rattle.alphabets.specs.declared.pieces.Piece.the-variants.{Read, Stops}
 use Rattle.alphabets.proofs.PieceLaws.{piece-append}
-use Rattle.machine.specs.Lines.{split, linesIn, lineLen}
+use Rattle.machine.specs.Lines.{split, linesIn}
 use Rattle.values.specs.Values.{isTax, isRpp}
 use Rattle.roles.specs.Role.{copy, name, taxName, shapeOf, taxed, cast}
 use Rattle.roles.specs.Speech.{named, taxPlaced, names, behind, toldAt, details, noted, speeches}
@@ -51,7 +51,7 @@ module _ (t c : List ℕ) (e : ℕ) (tax : Bool) where
   names-end h = sym (none-left (e + 2) h)
 
 -- the next line begins at i and ends at n
-module _ (t c : List ℕ) (e : ℕ) (tax : Bool) (i n : ℕ) (h : e < length c) (p : i ≡ min (e + 2) (length c)) (q : n ≡ i + lineLen (drop i c)) where
+module _ (t c : List ℕ) (e : ℕ) (tax : Bool) (i n : ℕ) (h : e < length c) (p : i ≡ min (e + 2) (length c)) (q : n ≡ i + upTo 13 (drop i c)) where
   names-step : found t (names (e + 2) (castFrom tax (linesPast c e)))
       ≡ pick (lineBreaks t tax (take (n - i) (drop i c))) (At (e + 2)) (found t (names (n + 2) (castFrom false (linesPast c n))))
   names-step =
@@ -73,7 +73,7 @@ module _ (t c : List ℕ) (e : ℕ) (tax : Bool) (i n : ℕ) (h : e < length c) 
   names-miss b = names-step ∙ ap (λ (u : Bool). pick u (At (e + 2)) (found t (names (n + 2) (castFrom false (linesPast c n))))) (sym b)
 
 -- ---- the first line of a content, to its end e
-module _ (t c : List ℕ) (e : ℕ) (q : e ≡ 0 + lineLen (drop 0 c)) where
+module _ (t c : List ℕ) (e : ℕ) (q : e ≡ 0 + upTo 13 (drop 0 c)) where
   width : 0 + length (take e c) + 2 ≡ e + 2
   width = omega (arith, head-size c e q)
 
@@ -163,7 +163,7 @@ mute-past t c from front mark h =
     ∙ ap (λ (d : List ℕ). muteIn (pieceIn t false (d ++ []))) (drop-nil front))
 
 -- the line from at on ends at e, its text begins at b
-module _ (t c : List ℕ) (at d mark : ℕ) (latin some : Bool) (e b : ℕ) (q : e ≡ at + lineLen (drop at c)) (r : b ≡ at + min d (e - at)) where
+module _ (t c : List ℕ) (at d mark : ℕ) (latin some : Bool) (e b : ℕ) (q : e ≡ at + upTo 13 (drop at c)) (r : b ≡ at + min d (e - at)) where
   text-line : toldText d mark (linesIn (drop at c)) ≡ take (e - b) (drop b c) ++ toldText mark mark (linesPast c e)
   text-line =
       ap (toldText d mark) (lines-from c at e q)
@@ -193,7 +193,7 @@ module _ (t c : List ℕ) (at d mark : ℕ) (latin some : Bool) (e b : ℕ) (q :
     mute-on i h p = mute-line ∙ ap (λ (ls : List (List ℕ)). muteAfter (some || not (eqb n 0)) (pieceIn t z (toldText mark mark ls))) (past-at c e i h p)
 
 -- ---- details
-module _ (t c : List ℕ) (at front mark e : ℕ) (q : e ≡ at + lineLen (drop at c)) where
+module _ (t c : List ℕ) (at front mark e : ℕ) (q : e ≡ at + upTo 13 (drop at c)) where
   details-is : found t (details front mark at (linesIn (drop at c))) ≡ pick (muteIn (pieceIn t false (toldText front mark (linesIn (drop at c))))) (At (toldAt front mark at (take (e - at) (drop at c)))) Nowhere
   unfolding details found breaksIn
   details-is =

@@ -18,7 +18,7 @@ use super::clauses::starts;
 use super::shapes::shape_of;
 use alphabets::pieces::Piece;
 use alphabets::pieces::read_piece;
-use machine::lines::line_end;
+use base::marks::mark_at;
 use machine::lines::next_line;
 use values::parts::is_rpp;
 
@@ -30,7 +30,7 @@ fn in_names(back: &[u8; 256], c: &[u8], end: usize, tax: bool) -> Spot
     let mut first = tax;
     while e < c.len() {
         let i = next_line(e, c.len());
-        let n = line_end(c, i);
+        let n = mark_at(13, c, i);
         if breaks_line(back, first, &c[i..n]) {
             return Spot::At(e + 2);
         }
@@ -44,7 +44,7 @@ fn in_names(back: &[u8; 256], c: &[u8], end: usize, tax: bool) -> Spot
 fn in_party(back: &[u8; 256], c: &[u8], payer: bool) -> Spot
     ensures { λ r. ⌜ r ≡ found (now (back .entry)) (speeches true (pick payer Payer Payee) 0 (linesIn (now (c .entry)))) ⌝ }
 {
-    let e = line_end(c, 0);
+    let e = mark_at(13, c, 0);
     if starts(47, &c[..e]) {
         return in_names(back, c, e, true);
     }
@@ -57,7 +57,7 @@ fn in_party(back: &[u8; 256], c: &[u8], payer: bool) -> Spot
 fn in_agent(back: &[u8; 256], c: &[u8]) -> Spot
     ensures { λ r. ⌜ r ≡ found (now (back .entry)) (speeches true Agent 0 (linesIn (now (c .entry)))) ⌝ }
 {
-    in_names(back, c, line_end(c, 0), false)
+    in_names(back, c, mark_at(13, c, 0), false)
 }
 
 fn has_signs(some: bool, n: usize) -> bool
@@ -102,7 +102,7 @@ fn is_mute_text(back: &[u8; 256], c: &[u8], from: usize, front: usize, mark: usi
     let mut latin = false;
     let mut some = false;
     loop {
-        let e = line_end(c, at);
+        let e = mark_at(13, c, at);
         let b = cut_at(at, d, e);
         let Piece::Read { units, latin: side } = read_piece(back, latin, &c[b..e]) else {
             return true;
@@ -125,7 +125,7 @@ fn in_details(back: &[u8; 256], c: &[u8], at: usize, front: usize, mark: usize) 
     if !is_mute_text(back, c, at, front, mark) {
         return Spot::Nowhere;
     }
-    let e = line_end(c, at);
+    let e = mark_at(13, c, at);
     if front < e - at {
         return Spot::At(at + front);
     }
@@ -135,7 +135,7 @@ fn in_details(back: &[u8; 256], c: &[u8], at: usize, front: usize, mark: usize) 
 fn in_note(back: &[u8; 256], c: &[u8]) -> Spot
     ensures { λ r. ⌜ r ≡ found (now (back .entry)) (speeches true Note202 0 (linesIn (now (c .entry)))) ⌝ }
 {
-    let e = line_end(c, 0);
+    let e = mark_at(13, c, 0);
     if !is_rpp(&c[..e]) {
         return in_details(back, c, 0, 16, 2);
     }

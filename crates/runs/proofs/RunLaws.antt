@@ -145,33 +145,20 @@ pub none-room : (s out : List ℕ) (n : ℕ) → length out < n → take (length
 none-room s out n h = let z : length out - n ≡ 0 = omega arith in ap (λ (k : ℕ). take k s) z
 
 -- a front of the text, and the whole
-drop-front : (i m : ℕ) (s : List ℕ) → drop i (take (i + m) s) ≡ take m (drop i s)
+pub drop-front : (i m : ℕ) (s : List ℕ) → drop i (take (i + m) s) ≡ take m (drop i s)
 drop-front zero m s = let z : 0 + m ≡ m = omega arith in ap (λ (k : ℕ). take k s) z
 drop-front (suc i) m [] = let z : suc i + m ≡ suc (i + m) = omega arith in ap (λ (k : ℕ). drop (suc i) (take k [])) z ∙ sym (take-nil m)
 drop-front (suc i) m (x ∷ s) = let z : suc i + m ≡ suc (i + m) = omega arith in ap (λ (k : ℕ). drop (suc i) (take k (x ∷ s))) z ∙ drop-front i m s
 
-module _ (t s out : List ℕ) (i n m : ℕ) (e : m ≡ length out - n) (l : n ≤ length out) where
-  pub front-room : n + length (through t 1 (drop i (take (i + m) s))) ≤ length out
+pub whole-front : (s : List ℕ) (i m : ℕ) → length s - i ≤ m → drop i (take (length s) s) ≡ take m (drop i s)
+whole-front s i m h = ap (drop i) (take-all (length s) s (omega arith)) ∙ sym (take-all m (drop i s) (omega (arith, length-drop i s)))
+
+module _ (t s out : List ℕ) (i n e : ℕ) (l : n ≤ length out) (f : drop i (take e s) ≡ take (length out - n) (drop i s)) where
+  pub front-room : n + length (through t 1 (drop i (take e s))) ≤ length out
   front-room =
-      let b : List ℕ = drop i (take (i + m) s) in
-      let c : length b ≤ m = omega (arith, ap length (drop-front i m s), length-take m (drop i s)) in
-      omega (arith, through-length t 1 b, run-ended t 1 b .within)
+      let b : List ℕ = drop i (take e s) in
+      omega (arith, ap length f, length-take (length out - n) (drop i s), through-length t 1 b, run-ended t 1 b .within)
 
-  pub moved-front : (r : ℕ) (after : List ℕ) → (r ≡ i + run t 1 (drop i (take (i + m) s))) × (after ≡ sets out n (through t 1 (drop i (take (i + m) s))))
+  pub moved-front : (r : ℕ) (after : List ℕ) → (r ≡ i + run t 1 (drop i (take e s))) × (after ≡ sets out n (through t 1 (drop i (take e s))))
       → (r ≡ i + run t 1 (take (length out - n) (drop i s))) × (after ≡ sets out n (through t 1 (take (length out - n) (drop i s))))
-  moved-front r after w =
-      let f : drop i (take (i + m) s) ≡ take (length out - n) (drop i s) = drop-front i m s ∙ ap (λ (k : ℕ). take k (drop i s)) e in
-      (w .0 ∙ ap (λ (b : List ℕ). i + run t 1 b) f, w .1 ∙ ap (λ (b : List ℕ). sets out n (through t 1 b)) f)
-
-  module _ (h : length s - i ≤ m) where
-    all : length (drop i s) ≤ m
-    all = omega (arith, length-drop i s)
-
-    pub all-room : n + length (through t 1 (drop i s)) ≤ length out
-    all-room = omega (arith, all, through-length t 1 (drop i s), run-ended t 1 (drop i s) .within)
-
-    pub moved-all : (r : ℕ) (after : List ℕ) → (r ≡ i + run t 1 (drop i s)) × (after ≡ sets out n (through t 1 (drop i s)))
-        → (r ≡ i + run t 1 (take (length out - n) (drop i s))) × (after ≡ sets out n (through t 1 (take (length out - n) (drop i s))))
-    moved-all r after w =
-        let f : drop i s ≡ take (length out - n) (drop i s) = sym (ap (λ (k : ℕ). take k (drop i s)) (sym e) ∙ take-all m (drop i s) all) in
-        (w .0 ∙ ap (λ (b : List ℕ). i + run t 1 b) f, w .1 ∙ ap (λ (b : List ℕ). sets out n (through t 1 b)) f)
+  moved-front r after w = (w .0 ∙ ap (λ (b : List ℕ). i + run t 1 b) f, w .1 ∙ ap (λ (b : List ℕ). sets out n (through t 1 b)) f)

@@ -113,7 +113,18 @@ fn translate_in(t: &[u8; 256], s: &[u8], i: usize, out: &mut [u8], n: usize) -> 
     translate_on(t, s, k, out, o)
 }
 
-// The same from any place, as far as the room goes.
+// Where the m bytes from i on end, or the length.
+fn end_of(s: &[u8], i: usize, m: usize) -> usize
+    requires { ⌜ i ≤ length (now s) ⌝ }
+    ensures { λ r. ⌜ (i ≤ r) × (r ≤ length (now (s .entry))) × (drop i (take r (now (s .entry))) ≡ take m (drop i (now (s .entry)))) ⌝ }
+{
+    if m < s.len() - i {
+        return i + m;
+    }
+    s.len()
+}
+
+// The same from any place, as far as the room goes. One call does the work, so that it is small enough to be made part of its callers.
 pub fn translate(t: &[u8; 256], s: &[u8], i: usize, out: &mut [u8], n: usize) -> usize
     ensures { λ r. ⌜ (r ≡ i + run (now (t .entry)) 1 (take (length (now (out .entry)) - n) (drop i (now (s .entry))))) × (now (out .exit) ≡ sets (now (out .entry)) n (through (now (t .entry)) 1 (take (length (now (out .entry)) - n) (drop i (now (s .entry)))))) ⌝ }
 {
@@ -123,10 +134,6 @@ pub fn translate(t: &[u8; 256], s: &[u8], i: usize, out: &mut [u8], n: usize) ->
     if out.len() < n {
         return i;
     }
-    let m = out.len() - n;
-    if m < s.len() - i {
-        let e = i + m;
-        return translate_in(t, &s[..e], i, out, n);
-    }
-    translate_in(t, s, i, out, n)
+    let e = end_of(s, i, out.len() - n);
+    translate_in(t, &s[..e], i, out, n)
 }

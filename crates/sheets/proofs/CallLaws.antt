@@ -23,14 +23,15 @@ use Rattle.frame.specs.Frame.{frameBy}
 use Rattle.frame.proofs.CallLaws.{taken}
 use Rattle.forms.proofs.ContentLaws.{firstOf}
 use Rattle.judge.specs.Message.{messageRules, verdictOf, judgedOf}
-use Rattle.judge.specs.Parts.{Settled}
 use Rattle.judge.proofs.CallLaws.{sign-is}
 use Rattle.judge.proofs.PartLaws.{settled}
 use Rattle.judge.proofs.Theorems.{message-accepts, frame-clean, judged-by, judged-found}
 use Rattle.records.specs.Record.{line}
+use Rattle.contents.specs.Steps.{Puts}
+use Rattle.contents.proofs.StepLaws.{puts-by}
 use Rattle.sheets.specs.Gather.{typeRecord, sheetOf}
 use Rattle.sheets.specs.Calls.{readRules, SheetTo}
-use Rattle.sheets.specs.Steps.{sheetBy, Puts}
+use Rattle.sheets.specs.Steps.{sheetBy, Sound}
 use Rattle.sheets.proofs.ReadLaws.{sheet-same}
 
 module _ (kind : ℕ) (m out : List ℕ) where
@@ -43,34 +44,32 @@ module _ (kind : ℕ) (m out : List ℕ) where
   unfolding SheetTo
   own-refused {n} {p} e = gives-refused (readRules kind m out) (sheetOf kind m) out n p (last-17 e refl)
 
-  module _ (v : verdictOf kind m ≡ Fine) {b : List ℕ} (k : b ≡ codes) {g : Bool} (i : g ≡ begins 43 (firstOf (fields m))) where
-    -- what is put is the sheet
-    put-is : line (typeRecord kind) ++ 10 ∷ sheetBy b kind g (fields m) ≡ sheetOf kind m
-    put-is =
-        let t = taken kind m (frame-clean kind m v) in
-        ap₂ (λ (x : List ℕ) (s : Bool). line (typeRecord kind) ++ 10 ∷ sheetBy x kind s (fields m)) k (sign-is kind m (t .walk-fine) i) ∙ sheet-same kind m v
+  module _ (v : verdictOf kind m ≡ Fine) where
+    sized : {now after : List ℕ} {n : ℕ} → Puts (sheetOf kind m) now 0 n after → n ≡ length (sheetOf kind m)
+    sized p = p .answers ∙ zero-add _
 
-    sized : {now after : List ℕ} {n : ℕ} → Puts (line (typeRecord kind) ++ 10 ∷ sheetBy b kind g (fields m)) now 0 n after → n ≡ length (sheetOf kind m)
-    sized p = p .answers ∙ zero-add _ ∙ ap length put-is
-
-    pub sheet-short : {now after : List ℕ} {n : ℕ} → Puts (line (typeRecord kind) ++ 10 ∷ sheetBy b kind g (fields m)) now 0 n after → length out < n → SheetTo kind m out (Refused 17 n) out
+    pub sheet-short : {now after : List ℕ} {n : ℕ} → Puts (sheetOf kind m) now 0 n after → length out < n → SheetTo kind m out (Refused 17 n) out
     unfolding SheetTo
     sheet-short {n = n} p h =
         let z = sized p in
         gives-refused (readRules kind m out) (sheetOf kind m) out 17 n (last-17 v (is-short (sheetOf kind m) out (omega arith)) ∙ ap (Broken 17) (sym z))
 
-    pub sheet-done : {now mid after : List ℕ} {n r : ℕ} → Puts (line (typeRecord kind) ++ 10 ∷ sheetBy b kind g (fields m)) now 0 n mid → n ≤ length out
-        → Puts (line (typeRecord kind) ++ 10 ∷ sheetBy b kind g (fields m)) out 0 r after → SheetTo kind m out (Done n) after
+    pub sheet-done : {now mid after : List ℕ} {n r : ℕ} → Puts (sheetOf kind m) now 0 n mid → n ≤ length out → Puts (sheetOf kind m) out 0 r after → SheetTo kind m out (Done n) after
     unfolding SheetTo
     sheet-done {after = after} {n = n} p h q =
         let t : List ℕ = sheetOf kind m in
-        let u : List ℕ = line (typeRecord kind) ++ 10 ∷ sheetBy b kind g (fields m) in
         let z = sized p in
-        let l : length u ≡ length t = ap length put-is in
-        let w : after ≡ over t out = q .fills .puts (omega arith) ∙ sym (over-sets u out (omega arith)) ∙ ap (λ (x : List ℕ). over x out) put-is in
+        let w : after ≡ over t out = q .fills (omega arith) ∙ sym (over-sets t out (omega arith)) in
         subst (λ (o : List ℕ). Gives (readRules kind m out) t out (Done n) o) (sym w)
         (subst (λ (j : ℕ). Gives (readRules kind m out) t out (Done j) (over t out)) (sym z)
         (gives-done (readRules kind m out) t out (last-17 v (not-short t out (omega arith)))))
+
+-- what is put is the sheet
+pub sheet-put : (kind : ℕ) (m : List ℕ) → verdictOf kind m ≡ Fine → {b : List ℕ} → b ≡ codes → {g : Bool} → g ≡ begins 43 (firstOf (fields m)) → {out after : List ℕ} {r : ℕ}
+    → Puts (line (typeRecord kind) ++ 10 ∷ sheetBy b kind g (fields m)) out 0 r after → Puts (sheetOf kind m) out 0 r after
+sheet-put kind m v k i p =
+    let t = taken kind m (frame-clean kind m v) in
+    puts-by (ap₂ (λ (x : List ℕ) (s : Bool). line (typeRecord kind) ++ 10 ∷ sheetBy x kind s (fields m)) k (sign-is kind m (t .walk-fine) i) ∙ sheet-same kind m v) p
 
 -- ---- what a judged message says
 module _ (kind : ℕ) (m : List ℕ) where
@@ -78,9 +77,9 @@ module _ (kind : ℕ) (m : List ℕ) where
   type-fine v = message-accepts kind m .0 v .0
 
   module _ {f : Frame} (e : f ≡ judgedOf kind m) (q : f .verdict ≡ Fine) where
-    pub judged-settled : Settled m (f .spots)
-    judged-settled = settled (judged-found kind m e q)
-
-    pub judged-count : f .fields ≡ length (fields m)
+    judged-count : f .fields ≡ length (fields m)
     unfolding judgedOf frameBy
     judged-count = ap (λ (x : Frame). x .fields) (e ∙ ap (λ (v : Verdict). frameBy v kind m) (judged-by kind m e q))
+
+    pub judged-sound : Sound kind m (f .spots) (f .fields)
+    judged-sound = record { fine = judged-by kind m e q; settled = settled (judged-found kind m e q); count = judged-count }

@@ -1,99 +1,44 @@
--- The steps of a field's content by its shape, of a field as a record, and of the whole sheet. Assumes nothing.
-use Prim.Native.Nat.{ℕ, suc, _+_, _-_, _≤_, _<_, min}
+-- The steps of a field as a record, and of the whole sheet. Assumes nothing.
+use Prim.Native.Nat.{ℕ, zero, suc, _+_, _-_, _*_, _≤_, _<_}
 use mathlib.Core.Path.{_≡_, refl, sym, ap, ap₂, subst, _∙_}
 use mathlib.Core.Bool.{Bool, true, false, false≢true}
-use mathlib.Core.List.{List, [], _∷_, _++_, map, append-nil, append-assoc}
+use mathlib.Core.List.{List, [], _∷_, _++_, append-assoc}
 use native.Mathlib.Omega.{arith}
 use lib.Dec.{eqb}
 use lib.ListN.{length, take, drop, length-append, length-drop, drop-of-length-le}
 use lib.Seq.{take-append-seam, length-take-le}
 use native.Mathlib.Nat.{zero-add}
+use native.Mathlib.Numerals.{add-one}
 use borrow.Author.Tests.{eq-eqb, ne-eqb, eqb-true, eqb-false}
 use Rattle.base.specs.Choice.{pick, all}
-use Rattle.base.specs.Bytes.{byte, begins, capital, without}
+use Rattle.base.specs.Bytes.{byte, capital, without}
 use Rattle.base.specs.Calls.{placed}
 use Rattle.base.specs.declared.Verdict.the-variants.{Fine}
+use Rattle.base.proofs.ByteLaws.{past-in}
 use Rattle.base.proofs.Bools.{left, right}
 use Rattle.base.proofs.RuleLaws.{fine-broken}
 use Rattle.fields.specs.Field.{Field, field, fields, laid, linesOf, closing}
-use Rattle.fields.specs.Shapes.{shaped, unpack, lineable, follows}
-use Rattle.fields.specs.ByLines.{joined, startAt}
+use Rattle.fields.specs.Shapes.{shaped, packed, unpack, lineable, follows}
+use Rattle.fields.specs.ByLines.{joined}
 use Rattle.fields.proofs.TagLaws.{Shape, plain, lettered, shape-of}
+use Rattle.fields.proofs.PackLaws.{packed-tag, unpack-pack}
 use Rattle.fields.proofs.PlaceLaws.{field-bytes, laid-joined}
 use Rattle.types.specs.Walk.{rule18}
 use Rattle.types.proofs.TableLaws.{rule18-iff}
-use Rattle.machine.specs.Lines.{linesIn, lineLen}
+use Rattle.machine.specs.Lines.{linesIn}
 use Rattle.machine.proofs.LineLaws.{lines-joined}
-use Rattle.forms.proofs.ContentLaws.{firstOf}
-use Rattle.values.specs.Values.{isRpp}
 use Rattle.values.proofs.ValueLaws.{joined-length}
 use Rattle.roles.specs.Role.{shapeOf}
-use Rattle.roles.specs.Speech.{codeSize}
-use Rattle.roles.specs.Found.{linesPast}
 use Rattle.roles.specs.declared.Shape as roles
-use Rattle.roles.specs.declared.Role.{Role}
-use Rattle.roles.proofs.LineLaws.{lines-head, past-none, past-at, head-size, head-within}
-use Rattle.judge.specs.Parts.{tagAt, Settled, Here}
-use Rattle.judge.proofs.PartLaws.{Stands, stands, here, sign-here}
+use Rattle.judge.specs.Parts.{Settled}
+use Rattle.judge.proofs.PartLaws.{Stands, stands, here}
 use Rattle.records.specs.Record.{tabbed, line}
-use Rattle.records.specs.Found.{tagNumber}
-use Rattle.sheets.specs.Gather.{codeDigits, typeRecord}
-use Rattle.sheets.specs.Steps.{partsBy, cutBy, overBy, toldBy, noteBy, contentBy, tagEnd, fieldIn, recordBy, recordLine, sheetBy, Puts}
-use Rattle.sheets.proofs.StepLaws.{puts-put, puts-on, puts-by, tab-put, Leads, past-in, take-few, leads-on, puts-none}
-
--- ---- details, of a content whose first line ends at e
-module _ (c : List ℕ) (e : ℕ) (q : e ≡ 0 + lineLen (drop 0 c)) (t : List ℕ) (s : Bool) where
-  pub told-put : (first mark : ℕ) {k v : List ℕ} → k ≡ drop first (take e c) → v ≡ codeDigits s k → {z : ℕ} → z ≡ codeSize s
-      → {out mid now after : List ℕ} {at n r : ℕ} → Puts (9 ∷ v) out at n mid → now ≡ placed mid n (9 ∷ []) → Puts (overBy t s false (cutBy (first + z) mark (linesIn c))) now (n + 1) r after
-      → Puts (tabbed (toldBy t s first mark (linesIn c))) out at r after
-  told-put first mark {k} {v} hk hv {z} hz p f o =
-      let ls = linesPast c e in
-      let l = take e c in
-      let x : List ℕ = overBy t s false (cutBy (first + z) mark (linesIn c)) in
-      let y : List ℕ = overBy t s false (cutBy (first + codeSize s) mark (l ∷ ls)) in
-      let same : x ≡ y = ap₂ (λ (i : ℕ) (xs : List (List ℕ)). overBy t s false (cutBy (first + i) mark xs)) hz (lines-head c e q) in
-      puts-by (ap₂ (λ (a b : List ℕ). 9 ∷ (a ++ 9 ∷ b)) (hv ∙ ap (codeDigits s) hk) (same ∙ sym (append-nil y)) ∙ ap (λ (xs : List (List ℕ)). tabbed (toldBy t s first mark xs)) (sym (lines-head c e q)))
-      (puts-on (9 ∷ v) (9 ∷ x) p (tab-put f o))
-
-  pub head-small : (d : ℕ) {l : List ℕ} → l ≡ drop d (take e c) → (length l ≤ e) × (e ≤ length c)
-  head-small d z = (omega (arith, ap length z ∙ length-drop d (take e c), head-size c e q), head-within c e q)
-
-  -- 72 of a 202
-  note-is : {b : Bool} → b ≡ isRpp (take e c) → tabbed (pick b (drop 5 (take e c) ∷ toldBy t s 5 2 (linesPast c e)) ([] ∷ toldBy t s 5 2 (linesIn c))) ≡ tabbed (noteBy t s (linesIn c))
-  note-is {b} f =
-      ap (λ (xs : List (List ℕ)). tabbed (pick b (drop 5 (take e c) ∷ toldBy t s 5 2 (linesPast c e)) ([] ∷ toldBy t s 5 2 xs))) (lines-head c e q)
-      ∙ ap (λ (d : Bool). tabbed (pick d (drop 5 (take e c) ∷ toldBy t s 5 2 (linesPast c e)) ([] ∷ toldBy t s 5 2 (take e c ∷ linesPast c e)))) f
-      ∙ ap (λ (xs : List (List ℕ)). tabbed (noteBy t s xs)) (sym (lines-head c e q))
-
-  module _ {b : Bool} (f : b ≡ isRpp (take e c)) where
-    pub note-none : {out mid after : List ℕ} {at r : ℕ} → b ≡ false → mid ≡ placed out at (9 ∷ []) → Puts (tabbed (toldBy t s 5 2 (linesIn c))) mid (at + 1) r after → Puts (tabbed (noteBy t s (linesIn c))) out at r after
-    note-none g m p = puts-by (note-is (sym g ∙ f)) (tab-put m p)
-
-    module _ (g : b ≡ true) {p : List ℕ} (h : p ≡ drop 5 (take e c)) where
-      pub note-alone : {out mid : List ℕ} {at n : ℕ} → length c ≤ e → Puts (9 ∷ p) out at n mid → Puts (tabbed (noteBy t s (linesIn c))) out at n mid
-      note-alone k a =
-          puts-by (ap (λ (x : List ℕ). 9 ∷ x) (h ∙ sym (append-nil (drop 5 (take e c)))) ∙ ap (λ (xs : List (List ℕ)). 9 ∷ (drop 5 (take e c) ++ tabbed (toldBy t s 5 2 xs))) (sym (past-none c e k)) ∙ note-is (sym g ∙ f)) a
-
-      pub note-more : {out mid after : List ℕ} {at n r : ℕ} (i : ℕ) → e < length c → i ≡ min (e + 2) (length c) → Puts (9 ∷ p) out at n mid → Puts (tabbed (toldBy t s 5 2 (linesIn (take (length c - i) (drop i c))))) mid n r after
-          → Puts (tabbed (noteBy t s (linesIn c))) out at r after
-      note-more i k j a d =
-          puts-by
-          (ap₂ (λ (x : List ℕ) (xs : List (List ℕ)). 9 ∷ (x ++ tabbed (toldBy t s 5 2 xs))) h (ap linesIn (past-in c i) ∙ sym (past-at c e i k j)) ∙ note-is (sym g ∙ f))
-          (puts-on (9 ∷ p) (tabbed (toldBy t s 5 2 (linesIn (take (length c - i) (drop i c))))) a d)
-
--- ---- a content by its shape
-all-whole : (ls : List (List ℕ)) → map (drop 0) ls ≡ ls
-all-whole [] = refl
-all-whole (l ∷ ls) = ap (λ (xs : List (List ℕ)). l ∷ xs) (all-whole ls)
-
-module _ (t : List ℕ) (s : Bool) (c : List ℕ) (to : roles.Shape) {sh : roles.Shape} (e : sh ≡ to) {out after : List ℕ} {at r : ℕ} where
-  pub shape-put : Puts (tabbed (contentBy t s to (linesIn c))) out at r after → Puts (tabbed (contentBy t s sh (linesIn c))) out at r after
-  shape-put p = puts-by (ap (λ (x : roles.Shape). tabbed (contentBy t s x (linesIn c))) (sym e)) p
-
-  -- whole lines as parts
-  pub whole-put : (role : Role) → partsBy t s role (linesIn c) ≡ contentBy t s to (linesIn c) → Puts (tabbed (partsBy t s role (map (drop 0) (linesIn c)))) out at r after
-      → Puts (tabbed (contentBy t s sh (linesIn c))) out at r after
-  whole-put role f p = shape-put (puts-by (ap (λ (xs : List (List ℕ)). tabbed (partsBy t s role xs)) (all-whole (linesIn c)) ∙ ap tabbed f) p)
+use Rattle.contents.specs.Contents.{contentBy, contentText}
+use Rattle.contents.specs.Steps.{Puts}
+use Rattle.contents.proofs.StepLaws.{puts-put, puts-on, puts-by, Leads, take-few, leads-on, puts-none}
+use Rattle.contents.proofs.CallLaws.{content-whole}
+use Rattle.sheets.specs.Gather.{typeRecord}
+use Rattle.sheets.specs.Steps.{tagEnd, fieldIn, Part, recordBy, recordLine, sheetBy}
 
 -- ---- a field
 pub tag-short : (f : List ℕ) → byte f 3 ≡ 58 → 3 ≡ tagEnd f
@@ -104,6 +49,9 @@ pub tag-long : (f : List ℕ) → (byte f 3 ≡ 58 → ⊥) → 4 ≡ tagEnd f
 unfolding tagEnd
 tag-long f e = sym (ap (λ (b : Bool). pick b 3 4) (ne-eqb (byte f 3) 58 e))
 
+content-small : (f : List ℕ) (t : ℕ) → length f ≤ 10000 → length (take (length f - (t + 1)) (drop (t + 1) f)) ≤ 10000
+content-small f t h = omega (arith, take-few (length f - (t + 1)) (drop (t + 1) f))
+
 module _ (b : List ℕ) (kind : ℕ) (s : Bool) (f : List ℕ) {t : ℕ} (e : t ≡ tagEnd f) where
   abbrev tag : List ℕ
   tag = take (t - 1) (drop 1 f)
@@ -111,17 +59,27 @@ module _ (b : List ℕ) (kind : ℕ) (s : Bool) (f : List ℕ) {t : ℕ} (e : t 
   abbrev content : List ℕ
   content = take (length f - (t + 1)) (drop (t + 1) f)
 
-  pub field-put : {sh : roles.Shape} {g : ℕ} → g ≡ tagNumber tag → sh ≡ shapeOf kind (unpack g) → {out mid now after : List ℕ} {at i n r : ℕ} → mid ≡ placed out at tag → i ≡ at + length tag
-      → Puts (tabbed (contentBy b s sh (linesIn content))) mid i n now → after ≡ placed now n (10 ∷ []) → r ≡ n + 1 → Puts (recordLine b kind s (fieldIn f)) out at r after
-  field-put {sh} {g} h k {out} {mid} {at = at} {i = i} {n = n} m x p a y =
-      let u : List ℕ = tabbed (contentBy b s sh (linesIn content)) in
-      let w : sh ≡ shapeOf kind (unpack (tagNumber tag)) = k ∙ ap (λ (j : ℕ). shapeOf kind (unpack j)) h in
-      let v : u ≡ tabbed (contentBy b s (shapeOf kind (unpack (tagNumber tag))) (linesIn (drop (t + 1) f))) = ap₂ (λ (z : roles.Shape) (d : List ℕ). tabbed (contentBy b s z (linesIn d))) w (past-in f (t + 1)) in
+  pub field-put : {sh : roles.Shape} {g : ℕ} → g ≡ packed f → sh ≡ shapeOf kind (unpack g) → Part f → {out mid now after : List ℕ} {at i n : ℕ} → mid ≡ placed out at tag → i ≡ at + length tag
+      → n ≡ length (contentText b s sh content) → now ≡ placed mid i (contentText b s sh content) → after ≡ placed now (i + n) (10 ∷ []) → Puts (recordLine b kind s (fieldIn f)) out at (i + n + 1) after
+  field-put {sh} {g} h k o {out} {mid} {at = at} {i = i} {n = n} m x y p a =
+      let u : List ℕ = contentText b s sh content in
+      let w : sh ≡ shapeOf kind tag = k ∙ ap (shapeOf kind) (ap unpack h ∙ o .tag-is ∙ ap (λ (j : ℕ). take (j - 1) (drop 1 f)) (sym e)) in
+      let v : u ≡ tabbed (contentBy b s (shapeOf kind tag) (linesIn (drop (t + 1) f))) =
+      sym (content-whole b s sh content (content-small f t (o .within))) ∙ ap₂ (λ (z : roles.Shape) (d : List ℕ). tabbed (contentBy b s z (linesIn d))) w (past-in f (t + 1)) in
       puts-by
       (ap (λ (z : List ℕ). (tag ++ z) ++ 10 ∷ []) v ∙ ap (λ (j : ℕ). recordLine b kind s (field (take (j - 1) (drop 1 f)) (linesIn (drop (j + 1) f)))) e)
-      (puts-on (tag ++ u) (10 ∷ []) (puts-on tag u (puts-put {u = tag} x m) p) (puts-put y a))
+      (puts-on (tag ++ u) (10 ∷ []) (puts-on tag u (puts-put {u = tag} x m) (puts-put {u = u} (ap (λ (j : ℕ). i + j) y) p)) (puts-put refl a))
 
-pub tag-place : (f : List ℕ) (at t : ℕ) → 1 ≤ t → t ≤ length f → at + t - 1 ≡ at + length (take (t - 1) (drop 1 f))
+pub tag-some : {t : ℕ} → 3 ≤ t → 1 ≤ t
+tag-some h = omega arith
+
+pub tag-within : {f : List ℕ} → Part f → {t : ℕ} → t ≡ tagEnd f → t < length f
+tag-within o e = omega (arith, o .closed)
+
+pub field-small : (f : List ℕ) (at t : ℕ) {n : ℕ} → 1 ≤ t → t < length f → n ≤ length (take (length f - (t + 1)) (drop (t + 1) f)) + 8 → at + t - 1 + n + 1 ≤ at + length f + 7
+field-small f at t h k l = omega (arith, take-few (length f - (t + 1)) (drop (t + 1) f))
+
+pub tag-place : (f : List ℕ) (at t : ℕ) → 1 ≤ t → t < length f → at + t - 1 ≡ at + length (take (t - 1) (drop 1 f))
 tag-place f at t h k = omega (arith, length-take-le (t - 1) (drop 1 f) (omega (arith, length-drop 1 f)))
 
 -- the part of a field, and what it is
@@ -147,6 +105,10 @@ rest-from (x ∷ t) r = let z : length (x ∷ t) + 1 ≡ suc (length t + 1) = om
 
 rest-back : (t r : List ℕ) → drop (length t + 1 + 1) (58 ∷ (t ++ 58 ∷ r)) ≡ r
 rest-back t r = let z : length t + 1 + 1 ≡ suc (length t + 1) = omega arith in ap (λ (i : ℕ). drop i (58 ∷ (t ++ 58 ∷ r))) z ∙ rest-from t r
+
+tag-of : (t r : List ℕ) → shaped t ≡ true → unpack (packed (58 ∷ (t ++ 58 ∷ r))) ≡ take (tagEnd (58 ∷ (t ++ 58 ∷ r)) - 1) (t ++ 58 ∷ r)
+tag-of t r e =
+    ap unpack (packed-tag {l = 58 ∷ (t ++ 58 ∷ r)} (record { tag = t; rest = r; is = refl; shape = e })) ∙ unpack-pack t e ∙ sym (ap (λ (i : ℕ). take (i - 1) (t ++ 58 ∷ r)) (ended t r e) ∙ tag-back t r)
 
 field-is : (t l : List ℕ) (ls : List (List ℕ)) → shaped t ≡ true → all (without 13) (l ∷ ls) ≡ true → fieldIn (whole t l ls) ≡ field t (l ∷ ls)
 field-is t l ls e n =
@@ -186,19 +148,25 @@ module _ {m spots : List ℕ} (z : Settled m spots) (k : ℕ) (h : k < length (f
   pub part-within : (byte spots k ≤ byte spots (k + 1) - 2) × (2 ≤ byte spots (k + 1)) × (byte spots (k + 1) - 2 ≤ length m) × (byte spots (k + 1) ≤ 10000)
   part-within = let w = stands z k h in (omega (arith, w .far), omega (arith, w .far), omega (arith, w .end), omega (arith, w .end, z .within))
 
-  pub part-sound : (4 ≤ length part) × (tagEnd part < length part) × (length part ≤ 10000)
+  pub part-sound : Part part
   part-sound = go (stands z k h)
     where
-      go : Stands m spots k → (4 ≤ length part) × (tagEnd part < length part) × (length part ≤ 10000)
+      go : Stands m spots k → Part part
       go w =
           let t = w .tag in
           let j = joined (w .line ∷ w .more) in
           let n : length part ≡ length (58 ∷ (t ++ 58 ∷ j)) = ap length (part-is w) in
-          let g : tagEnd part ≡ length t + 1 = ap tagEnd (part-is w) ∙ ended t j (w .shape) in (
-            omega (arith, n, w .far, w .end, length-take-le (byte spots (k + 1) - 2 - byte spots k) (drop (byte spots k) m) (omega (arith, w .far, w .end, length-drop (byte spots k) m))),
-            omega (arith, n, g, length-append t (58 ∷ j)),
-            omega (arith, take-few (byte spots (k + 1) - 2 - byte spots k) (drop (byte spots k) m), w .end, z .within),
-          )
+          let g : tagEnd part ≡ length t + 1 = ap tagEnd (part-is w) ∙ ended t j (w .shape) in
+          record {
+            long = omega (arith, n, w .far, w .end, length-take-le (byte spots (k + 1) - 2 - byte spots k) (drop (byte spots k) m) (omega (arith, w .far, w .end, length-drop (byte spots k) m)));
+            closed = omega (arith, n, g, length-append t (58 ∷ j));
+            within = omega (arith, take-few (byte spots (k + 1) - 2 - byte spots k) (drop (byte spots k) m), w .end, z .within);
+            tag-is = subst (λ (f : List ℕ). unpack (packed f) ≡ take (tagEnd f - 1) (drop 1 f)) (sym (part-is w)) (tag-of t j (w .shape));
+          }
+
+  -- a record has at most five bytes more than its field
+  pub at-on : {at r : ℕ} → at ≤ byte spots k + 2 + 5 * k → r ≤ at + length part + 7 → r ≤ byte spots (k + 1) + 2 + 5 * (k + 1)
+  at-on a b = let w = stands z k h in omega (arith, take-few (byte spots (k + 1) - 2 - byte spots k) (drop (byte spots k) m), w .far)
 
   -- ---- the sheet, record by record
   pub sheet-on : (b : List ℕ) (kind : ℕ) (g : Bool) {u out now mid : List ℕ} {at n r : ℕ} → Leads u out at (sheetBy b kind g (drop k (fields m))) now n
@@ -207,6 +175,13 @@ module _ {m spots : List ℕ} (z : Settled m spots) (k : ℕ) (h : k < length (f
       let l = line (recordBy b kind g (fieldIn part)) in
       let u = sheetBy b kind g (drop (k + 1) (fields m)) in
       leads-on (l ++ 10 ∷ []) u (append-assoc l (10 ∷ []) u ∙ ap (sheetBy b kind g) field-step) f p
+
+last-spot : {m spots : List ℕ} → Settled m spots → (n : ℕ) → n ≡ length (fields m) → byte spots n + 2 ≤ length m
+last-spot z zero e = omega (arith, z .start, (z .stand 0 (omega arith)) .dash)
+last-spot {m} {spots} z (suc k) e = subst (λ (j : ℕ). byte spots j + 2 ≤ length m) (add-one k) (stands z k (omega arith) .end)
+
+pub at-end : {m spots : List ℕ} → Settled m spots → {k n at : ℕ} → n ≡ length (fields m) → n ≤ k → k ≤ n → at ≤ byte spots k + 2 + 5 * k → at ≤ length m + 70
+at-end {m} {spots} z {k} {n} e h j a = omega (arith, a, z .few, last-spot z k (omega arith))
 
 pub sheet-end : (m : List ℕ) (k n : ℕ) → n ≡ length (fields m) → n ≤ k → (b : List ℕ) (kind : ℕ) (g : Bool) {out mid now : List ℕ} {at j : ℕ} → Puts (line (typeRecord kind) ++ 10 ∷ []) out 0 at mid
     → Leads (sheetBy b kind g (fields m)) mid at (sheetBy b kind g (drop k (fields m))) now j → Puts (line (typeRecord kind) ++ 10 ∷ sheetBy b kind g (fields m)) out 0 j now
@@ -225,14 +200,3 @@ other-type kind e h = go (eqb kind 202) refl
     go : (b : Bool) → eqb kind 202 ≡ b → kind ≡ 202
     go true f = eqb-true kind 202 f
     go false f = absurd (fine-broken 18 0 (sym e ∙ rule18-iff kind .1 (h, eqb-false kind 202 f)))
-
--- ---- the sign
-module _ {m spots : List ℕ} (z : Settled m spots) (h : 0 < length (fields m)) {a : ℕ} (r : a ≡ startAt m (byte spots 0)) where
-  first : Here m spots 0 (record { colon = byte spots 0; tag = tagAt m (byte spots 0); start = a; end = byte spots (0 + 1) - 2 })
-  first = here z 0 h refl refl r refl
-
-  pub sign-within : a < length m
-  sign-within = omega (arith, first .low, first .high)
-
-  pub sign-is : eqb (byte m a) 43 ≡ begins 43 (firstOf (fields m))
-  sign-is = sign-here first

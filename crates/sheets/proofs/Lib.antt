@@ -1,5 +1,4 @@
 pub mod Examples
-pub mod StepLaws
 pub mod FieldLaws
 pub mod ReadLaws
 pub mod CallLaws

@@ -23,9 +23,7 @@ use Rattle.alphabets.proofs.PartTheorems.{text-append, text-whole}
 use Rattle.alphabets.proofs.Theorems.{plain-iff, plain-only}
 use Rattle.fields.specs.Field.{Field, field, fields, linesOf}
 use Rattle.fields.specs.Places.{startOf, nextOf}
-use Rattle.fields.specs.Shapes.{shaped, shapedTag, pack, unpack}
-use Rattle.fields.proofs.PackLaws.{unpack-pack}
-use Rattle.fields.proofs.FieldLaws.{fields-in, fields-shaped}
+use Rattle.fields.proofs.FieldLaws.{fields-in}
 use Rattle.types.specs.Sign.{signOf}
 use Rattle.frame.proofs.CallLaws.{taken}
 use Rattle.values.specs.Values.{isTax, isRpp}
@@ -44,9 +42,9 @@ use Rattle.roles.proofs.BreachLaws.{first-clause, same-lines, rule14-fine}
 use Rattle.judge.specs.Message.{verdictOf}
 use Rattle.judge.proofs.Theorems.{message-accepts, frame-clean}
 use Rattle.records.specs.Record.{Record, line, sheet}
-use Rattle.records.specs.Found.{tagNumber}
-use Rattle.sheets.specs.Gather.{partFor, codeDigits, toldParts, noteParts, contentParts, recordFor, gather, typeRecord, recordsOf, sheetOf}
-use Rattle.sheets.specs.Steps.{saidBy, sideOf, sideBy, partsBy, cutBy, overBy, toldBy, noteBy, contentBy, recordBy, sheetBy}
+use Rattle.contents.specs.Contents.{codeDigits, saidBy, sideOf, sideBy, partsBy, cutBy, overBy, toldBy, noteBy, contentBy}
+use Rattle.sheets.specs.Gather.{partFor, toldParts, noteParts, contentParts, recordFor, gather, typeRecord, recordsOf, sheetOf}
+use Rattle.sheets.specs.Steps.{recordBy, sheetBy}
 
 -- ---- a text that reads
 abbrev pub Speaks : Bool → List ℕ → Type 0
@@ -308,16 +306,9 @@ fields-plain kind (field t (l ∷ ls) ∷ fs) e =
       fields-plain kind fs (all-behind (all xset) ((58 ∷ (t ++ 58 ∷ l)) ∷ ls) (linesOf fs) e),
     )
 
-shape-same : (kind : ℕ) (t : List ℕ) → shaped t ≡ true → shapeOf kind (unpack (tagNumber t)) ≡ shapeOf kind t
-unfolding tagNumber
-shape-same kind t e = ap (λ (b : Bool). shapeOf kind (unpack (pick b (pack t) 0))) e ∙ ap (shapeOf kind) (unpack-pack t e)
-
-records-same : (kind : ℕ) (s : Bool) (fs : List Field) → all shapedTag fs ≡ true → AllReadable kind s fs → map (recordBy codes kind s) fs ≡ map (recordFor kind s) fs
-records-same kind s [] e w = refl
-records-same kind s (field t ls ∷ fs) e w =
-    ap₂ (λ (r : Record) (rs : List Record). r ∷ rs)
-    (ap (field t) (ap (λ (x : Shape). contentBy codes s x ls) (shape-same kind t (left (shaped t) _ e)) ∙ content-same s (shapeOf kind t) ls (w .0)))
-    (records-same kind s fs (right (shaped t) _ e) (w .1))
+records-same : (kind : ℕ) (s : Bool) (fs : List Field) → AllReadable kind s fs → map (recordBy codes kind s) fs ≡ map (recordFor kind s) fs
+records-same kind s [] w = refl
+records-same kind s (field t ls ∷ fs) w = ap₂ (λ (r : Record) (rs : List Record). r ∷ rs) (ap (field t) (content-same s (shapeOf kind t) ls (w .0))) (records-same kind s fs (w .1))
 
 -- ---- a message that no rule refuses
 module _ (kind : ℕ) (m : List ℕ) (v : verdictOf kind m ≡ Fine) where
@@ -330,5 +321,4 @@ module _ (kind : ℕ) (m : List ℕ) (v : verdictOf kind m ≡ Fine) where
   pub sheet-same : line (typeRecord kind) ++ 10 ∷ sheetBy codes kind (signOf (fields m)) (fields m) ≡ sheetOf kind m
   unfolding sheetOf recordsOf gather
   sheet-same =
-      let t = taken kind m (frame-clean kind m v) in
-      ap (λ (rs : List Record). line (typeRecord kind) ++ 10 ∷ sheet rs) (records-same kind (signOf (fields m)) (fields m) (fields-shaped m (t .lines-fine)) (readable (signOf (fields m)) refl))
+      ap (λ (rs : List Record). line (typeRecord kind) ++ 10 ∷ sheet rs) (records-same kind (signOf (fields m)) (fields m) (readable (signOf (fields m)) refl))

@@ -1,76 +1,23 @@
--- What the functions say that put a message's sheet into room: lines and texts as code finds them, the table lent (S2, T7, T12, Cdetails,
--- C72). With the table of codes, over an accepted message, this is its sheet (proofs/ReadLaws). Assumes nothing.
-use Prim.Native.Nat.{ℕ, _+_, _-_}
+-- What the functions say to each other that put a message's sheet into room, the table lent. With the table of codes, over an accepted message,
+-- this is its sheet (proofs/ReadLaws). Assumes nothing.
+use Prim.Native.Nat.{ℕ, _+_, _-_, _≤_, _<_}
 use mathlib.Core.Path.{_≡_}
-use mathlib.Core.Bool.{Bool, false, _&&_}
+use mathlib.Core.Bool.{Bool}
 use mathlib.Core.List.{List, [], _∷_, _++_, map}
 use lib.Dec.{eqb}
 use lib.ListN.{length, take, drop}
 use Rattle.base.specs.Choice.{pick}
 use Rattle.base.specs.Bytes.{byte}
-use Rattle.alphabets.specs.Pieces.{pieceIn}
-use Rattle.alphabets.specs.Parts.{pieceText}
-use Rattle.alphabets.specs.declared.pieces.Piece.{Piece}
-use Rattle.alphabets.specs.declared.pieces.Piece.the-variants.{Read, Stops}
-use Rattle.fields.specs.Field.{Field, field}
-use Rattle.fields.specs.Shapes.{unpack}
+use Rattle.base.specs.declared.Verdict.the-variants.{Fine}
+use Rattle.fields.specs.Field.{Field, field, fields}
+use Rattle.fields.specs.Frame.{limit}
+use Rattle.fields.specs.Shapes.{unpack, packed}
 use Rattle.machine.specs.Lines.{linesIn}
-use Rattle.values.specs.Values.{isRpp}
 use Rattle.roles.specs.Role.{shapeOf}
-use Rattle.roles.specs.Parts.{named, nextRole}
-use Rattle.roles.specs.Speech.{codeSize}
-use Rattle.roles.specs.declared.Shape.{Shape}
-use Rattle.roles.specs.declared.Shape.the-variants.{Plain, Payer, Payee, Agent, Details, Note103, Note202}
-use Rattle.roles.specs.declared.Role.{Role}
-use Rattle.roles.specs.declared.Role.the-variants.{Copies, OfPayer, OfPayee, OfAgent}
+use Rattle.judge.specs.Message.{verdictOf}
+use Rattle.judge.specs.Parts.{Settled}
 use Rattle.records.specs.Record.{Record, line, sheet}
-use Rattle.records.specs.Found.{tagNumber}
-use Rattle.writer.specs.Steps.{Fills}
-use Rattle.sheets.specs.Gather.{codeDigits}
-
--- ---- a text or a piece of one, from a side on: its bytes, or with the table what they stand for
-abbrev pub saidBy : List ℕ → Bool → Bool → List ℕ → List ℕ
-saidBy t spoken latin p = pick spoken (pieceText t latin p) p
-
--- the side behind it
-abbrev pub sideOf : Bool → Piece → Bool
-sideOf latin (Read n z) = z
-sideOf latin (Stops k) = latin
-
-abbrev pub sideBy : List ℕ → Bool → Bool → List ℕ → Bool
-sideBy t spoken latin p = pick spoken (sideOf latin (pieceIn t latin p)) latin
-
--- ---- lines as parts, by their roles
-unfoldable pub partsBy : List ℕ → Bool → Role → List (List ℕ) → List (List ℕ)
-partsBy t s role [] = []
-partsBy t s role (l ∷ ls) = saidBy t (s && named role l) false l ∷ partsBy t s (nextRole role l) ls
-
--- ---- a text over lines: what stands behind the marks, one piece behind another
-abbrev pub cutBy : ℕ → ℕ → List (List ℕ) → List (List ℕ)
-cutBy front mark [] = []
-cutBy front mark (l ∷ ls) = drop front l ∷ map (drop mark) ls
-
-unfoldable pub overBy : List ℕ → Bool → Bool → List (List ℕ) → List ℕ
-overBy t s latin [] = []
-overBy t s latin (p ∷ ps) = saidBy t s latin p ++ overBy t s (sideBy t s latin p) ps
-
--- ---- the content parts of a field
-abbrev pub toldBy : List ℕ → Bool → ℕ → ℕ → List (List ℕ) → List (List ℕ)
-toldBy t s first mark [] = []
-toldBy t s first mark (l ∷ ls) = codeDigits s (drop first l) ∷ overBy t s false (cutBy (first + codeSize s) mark (l ∷ ls)) ∷ []
-
-abbrev pub noteBy : List ℕ → Bool → List (List ℕ) → List (List ℕ)
-noteBy t s [] = []
-noteBy t s (l ∷ ls) = pick (isRpp l) (drop 5 l ∷ toldBy t s 5 2 ls) ([] ∷ toldBy t s 5 2 (l ∷ ls))
-
-unfoldable pub contentBy : List ℕ → Bool → Shape → List (List ℕ) → List (List ℕ)
-contentBy t s Plain ls = partsBy t s Copies ls
-contentBy t s Payer ls = partsBy t s OfPayer ls
-contentBy t s Payee ls = partsBy t s OfPayee ls
-contentBy t s Agent ls = partsBy t s OfAgent ls
-contentBy t s Details ls = toldBy t s 0 0 ls
-contentBy t s Note103 ls = partsBy t s Copies (map (drop 5) ls)
-contentBy t s Note202 ls = noteBy t s ls
+use Rattle.contents.specs.Contents.{contentBy}
 
 -- ---- a field as a part of the message: colon, tag, colon, content
 unfoldable pub tagEnd : List ℕ → ℕ
@@ -79,8 +26,15 @@ tagEnd f = pick (eqb (byte f 3) 58) 3 4
 abbrev pub fieldIn : List ℕ → Field
 fieldIn f = field (take (tagEnd f - 1) (drop 1 f)) (linesIn (drop (tagEnd f + 1) f))
 
+-- it has a tag, which the pass packs as it stands there, and a colon behind it
+pub record Part (f : List ℕ) : Type 0 where
+  pub long : 4 ≤ length f
+  pub closed : tagEnd f < length f
+  pub within : length f ≤ limit
+  pub tag-is : unpack (packed f) ≡ take (tagEnd f - 1) (drop 1 f)
+
 abbrev pub recordBy : List ℕ → ℕ → Bool → Field → Record
-recordBy t kind s (field g ls) = field g (contentBy t s (shapeOf kind (unpack (tagNumber g))) ls)
+recordBy t kind s (field g ls) = field g (contentBy t s (shapeOf kind g) ls)
 
 abbrev pub recordLine : List ℕ → ℕ → Bool → Field → List ℕ
 recordLine t kind s f = line (recordBy t kind s f) ++ 10 ∷ []
@@ -88,7 +42,8 @@ recordLine t kind s f = line (recordBy t kind s f) ++ 10 ∷ []
 abbrev pub sheetBy : List ℕ → ℕ → Bool → List Field → List ℕ
 sheetBy t kind s fs = sheet (map (recordBy t kind s) fs)
 
--- ---- a step: u stands from `at` on where there is room, and r is the place behind
-pub record Puts (u out : List ℕ) (at r : ℕ) (after : List ℕ) : Type 0 where
-  pub answers : r ≡ at + length u
-  pub fills : Fills out at u after
+-- ---- an accepted message: where its fields stand, and how many there are
+pub record Sound (kind : ℕ) (m spots : List ℕ) (n : ℕ) : Type 0 where
+  pub fine : verdictOf kind m ≡ Fine
+  pub settled : Settled m spots
+  pub count : n ≡ length (fields m)

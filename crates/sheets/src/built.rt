@@ -1,52 +1,24 @@
 // Fields as records, and the whole sheet.
 ghost use mathlib.Core.Path.{_≡_};
 ghost use mathlib.Core.List.{[], _∷_, _++_};
-ghost use Prim.Native.Nat.{_+_, _*_, _≤_, _<_};
-ghost use lib.ListN.{length};
-ghost use Rattle.base.specs.Bytes.{begins};
+ghost use Prim.Native.Nat.{_+_, _-_, _≤_};
+ghost use lib.ListN.{length, take, drop};
+ghost use Rattle.base.specs.Calls.{placed};
 ghost use Rattle.base.specs.declared.Verdict.the-variants.{Fine};
 ghost use Rattle.fields.specs.Field.{fields};
 ghost use Rattle.types.specs.Walk.{rule18};
-ghost use Rattle.forms.proofs.ContentLaws.{firstOf};
-ghost use Rattle.machine.specs.Lines.{linesIn};
 ghost use Rattle.judge.specs.Parts.{Settled};
-ghost use Rattle.records.specs.Record.{tabbed, line};
-ghost use Rattle.writer.specs.Steps.{near};
-ghost use Rattle.sheets.specs.Gather.{typeRecord};
-ghost use Rattle.sheets.specs.Steps.{contentBy, tagEnd, fieldIn, recordLine, sheetBy, Puts};
-use super::notes::put_note;
-use super::notes::put_told;
-use super::texts::put_lines;
+ghost use Rattle.records.specs.Record.{line};
+ghost use Rattle.contents.specs.Steps.{Puts};
+ghost use Rattle.sheets.specs.Gather.{typeRecord, sheetOf};
+ghost use Rattle.sheets.specs.Steps.{tagEnd, fieldIn, Part, recordLine, sheetBy, Sound};
+use alphabets::pieces::back_table;
 use base::bytes::put;
-use fields::start_at;
+use contents::calls::put_content;
+use fields::line_tag;
 use frame::SPOTS;
-use records::tags::tag_number;
-use roles::Role;
-use roles::Shape;
+use judge::sign::is_signed;
 use roles::shapes::shape_of;
-
-// The content of a field as parts, by the shape of its tag.
-fn put_content(
-    back: &[u8; 256],
-    shape: Shape,
-    sign: bool,
-    c: &[u8],
-    out: &mut [u8],
-    at: usize,
-) -> usize
-    requires { ⌜ (length (now c) ≤ 10000) × (at + 300000 ≤ near) ⌝ }
-    ensures { λ r. ⌜ (r ≤ at + 2 * length (now (c .entry)) + 20) × Puts (tabbed (contentBy (now (back .entry)) sign shape (linesIn (now (c .entry))))) (now (out .entry)) at r (now (out .exit)) ⌝ }
-{
-    match shape {
-        Shape::Plain => put_lines(back, sign, Role::Copies, 0, c, out, at),
-        Shape::Payer => put_lines(back, sign, Role::OfPayer, 0, c, out, at),
-        Shape::Payee => put_lines(back, sign, Role::OfPayee, 0, c, out, at),
-        Shape::Agent => put_lines(back, sign, Role::OfAgent, 0, c, out, at),
-        Shape::Details => put_told(back, sign, 0, 0, c, out, at),
-        Shape::Note103 => put_lines(back, sign, Role::Copies, 5, c, out, at),
-        Shape::Note202 => put_note(back, sign, c, out, at),
-    }
-}
 
 // Where the second colon stands.
 fn tag_end(f: &[u8]) -> usize
@@ -59,17 +31,27 @@ fn tag_end(f: &[u8]) -> usize
     4
 }
 
-// A field, without the CR LF behind it, as a record.
-fn put_field(back: &[u8; 256], kind: u32, sign: bool, f: &[u8], out: &mut [u8], at: usize) -> usize
-    requires { ⌜ (4 ≤ length (now f)) × (tagEnd (now f) < length (now f)) × (length (now f) ≤ 10000) × (at + 400000 ≤ near) ⌝ }
-    ensures { λ r. ⌜ (r ≤ at + 2 * length (now (f .entry)) + 30) × Puts (recordLine (now (back .entry)) kind sign (fieldIn (now (f .entry)))) (now (out .entry)) at r (now (out .exit)) ⌝ }
+// The tag of a field; answers where it ends.
+fn put_tag(f: &[u8], out: &mut [u8], at: usize) -> usize
+    requires { ⌜ 4 ≤ length (now f) ⌝ }
+    ensures { λ r. ⌜ (r ≡ tagEnd (now (f .entry))) × (3 ≤ r) × (r ≤ 4) × (now (out .exit) ≡ placed (now (out .entry)) at (take (r - 1) (drop 1 (now (f .entry))))) ⌝ }
 {
     let t = tag_end(f);
-    let shape = shape_of(kind, tag_number(&f[1..t]));
     put(out, at, &f[1..t]);
-    let n = put_content(back, shape, sign, &f[t + 1..], out, at + t - 1);
-    put(out, n, b"\n");
-    n + 1
+    t
+}
+
+// A field, without the CR LF behind it, as a record.
+fn put_field(back: &[u8; 256], kind: u32, sign: bool, f: &[u8], out: &mut [u8], at: usize) -> usize
+    requires { ⌜ Part (now f) × (at ≤ 100000) ⌝ }
+    ensures { λ r. ⌜ (r ≤ at + length (now (f .entry)) + 7) × Puts (recordLine (now (back .entry)) kind sign (fieldIn (now (f .entry)))) (now (out .entry)) at r (now (out .exit)) ⌝ }
+{
+    let shape = shape_of(kind, line_tag(f));
+    let t = put_tag(f, out, at);
+    let n = at + t - 1;
+    let e = n + put_content(back, shape, sign, &f[t + 1..], out, n);
+    put(out, e, b"\n");
+    e + 1
 }
 
 // The first record names the type.
@@ -85,20 +67,8 @@ fn put_type(kind: u32, out: &mut [u8]) -> usize
     7
 }
 
-// The sign: the first content begins with +.
-pub(crate) fn is_signed(m: &[u8], spots: &[u32; SPOTS], n: usize) -> bool
-    requires { ⌜ Settled (now m) (now spots) × (n ≡ length (fields (now m))) ⌝ }
-    ensures { λ r. ⌜ r ≡ begins 43 (firstOf (fields (now (m .entry)))) ⌝ }
-{
-    if n == 0 {
-        return false;
-    }
-    let start = start_at(m, spots[0]);
-    m[start] == 43
-}
-
 // The records of the fields, the first of them behind seven bytes.
-pub(crate) fn put_sheet(
+fn put_records(
     back: &[u8; 256],
     kind: u32,
     sign: bool,
@@ -108,7 +78,7 @@ pub(crate) fn put_sheet(
     out: &mut [u8],
 ) -> usize
     requires { ⌜ (rule18 kind ≡ Fine) × Settled (now m) (now spots) × (n ≡ length (fields (now m))) ⌝ }
-    ensures { λ r. ⌜ Puts (line (typeRecord kind) ++ 10 ∷ sheetBy (now (back .entry)) kind sign (fields (now (m .entry)))) (now (out .entry)) 0 r (now (out .exit)) ⌝ }
+    ensures { λ r. ⌜ (r ≤ length (now (m .entry)) + 70) × Puts (line (typeRecord kind) ++ 10 ∷ sheetBy (now (back .entry)) kind sign (fields (now (m .entry)))) (now (out .entry)) 0 r (now (out .exit)) ⌝ }
 {
     let mut at = put_type(kind, out);
     let mut k = 0;
@@ -119,4 +89,20 @@ pub(crate) fn put_sheet(
         k += 1;
     }
     at
+}
+
+// The sheet of an accepted message, at most 70 bytes longer than it; a place counts on where the room has ended.
+pub(crate) fn put_sheet(
+    kind: u32,
+    m: &[u8],
+    spots: &[u32; SPOTS],
+    n: usize,
+    out: &mut [u8],
+) -> usize
+    requires { ⌜ Sound kind (now m) (now spots) n ⌝ }
+    ensures { λ r. ⌜ (r ≤ length (now (m .entry)) + 70) × Puts (sheetOf kind (now (m .entry))) (now (out .entry)) 0 r (now (out .exit)) ⌝ }
+{
+    let back = back_table();
+    let sign = is_signed(m);
+    put_records(&back, kind, sign, m, spots, n, out)
 }

@@ -1,48 +1,60 @@
-// The call: a message judged, its sheet measured, and put into the lent room.
+// The call: a message judged, and its sheet put into the lent room, measured first where that may be too short.
 ghost use mathlib.Core.Path.{_≡_};
-ghost use lib.ListN.{length};
-ghost use Rattle.base.specs.declared.Verdict.the-variants.{Fine};
-ghost use Rattle.fields.specs.Field.{fields};
-ghost use Rattle.judge.specs.Message.{verdictOf};
-ghost use Rattle.judge.specs.Parts.{Settled};
+ghost use Rattle.judge.specs.Message.{judgedOf};
 ghost use Rattle.sheets.specs.Calls.{SheetTo};
-use super::built::is_signed;
+ghost use Rattle.sheets.specs.Steps.{Sound};
 use super::built::put_sheet;
-use alphabets::pieces::back_table;
 use base::Outcome;
 use base::Verdict;
+use frame::Frame;
 use frame::SPOTS;
 use judge::calls::judge;
 
-// An accepted message: the room is tested before it is filled.
-fn read_sound(kind: u32, m: &[u8], spots: &[u32; SPOTS], n: usize, out: &mut [u8]) -> Outcome
-    requires { ⌜ (verdictOf kind (now m) ≡ Fine) × Settled (now m) (now spots) × (n ≡ length (fields (now m))) ⌝ }
+// The room is tested before it is filled.
+fn read_measured(kind: u32, m: &[u8], spots: &[u32; SPOTS], n: usize, out: &mut [u8]) -> Outcome
+    requires { ⌜ Sound kind (now m) (now spots) n ⌝ }
     ensures { λ r. ⌜ SheetTo kind (now (m .entry)) (now (out .entry)) r (now (out .exit)) ⌝ }
 {
-    let back = back_table();
-    let sign = is_signed(m, spots, n);
     let mut none = [0u8; 1];
-    let size = put_sheet(&back, kind, sign, m, spots, n, &mut none);
+    let size = put_sheet(kind, m, spots, n, &mut none);
     if out.len() < size {
         return Outcome::Refused {
             number: 17,
             place: size,
         };
     }
-    put_sheet(&back, kind, sign, m, spots, n, out);
+    put_sheet(kind, m, spots, n, out);
     Outcome::Done(size)
+}
+
+// An accepted message: its sheet is put at once where there is surely room.
+fn read_sound(kind: u32, m: &[u8], spots: &[u32; SPOTS], n: usize, out: &mut [u8]) -> Outcome
+    requires { ⌜ Sound kind (now m) (now spots) n ⌝ }
+    ensures { λ r. ⌜ SheetTo kind (now (m .entry)) (now (out .entry)) r (now (out .exit)) ⌝ }
+{
+    if out.len() < m.len() + 70 {
+        return read_measured(kind, m, spots, n, out);
+    }
+    Outcome::Done(put_sheet(kind, m, spots, n, out))
+}
+
+// A message that was judged.
+fn read_judged(f: Frame, kind: u32, m: &[u8], out: &mut [u8]) -> Outcome
+    requires { ⌜ f ≡ judgedOf kind (now m) ⌝ }
+    ensures { λ r. ⌜ SheetTo kind (now (m .entry)) (now (out .entry)) r (now (out .exit)) ⌝ }
+{
+    let verdict = f.verdict;
+    if let Verdict::Broken { number, place } = verdict {
+        return Outcome::Refused { number, place };
+    }
+    let n = f.fields;
+    let spots = f.spots;
+    read_sound(kind, m, &spots, n, out)
 }
 
 // The sheet of a message.
 pub fn to_sheet(kind: u32, m: &[u8], out: &mut [u8]) -> Outcome
     ensures { λ r. ⌜ SheetTo kind (now (m .entry)) (now (out .entry)) r (now (out .exit)) ⌝ }
 {
-    let f = judge(kind, m);
-    let verdict = f.verdict;
-    let n = f.fields;
-    let spots = f.spots;
-    if let Verdict::Broken { number, place } = verdict {
-        return Outcome::Refused { number, place };
-    }
-    read_sound(kind, m, &spots, n, out)
+    read_judged(judge(kind, m), kind, m, out)
 }

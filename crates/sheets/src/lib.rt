@@ -1,5 +1,3 @@
 // A message read into its sheet.
 mod built;
 pub mod calls;
-mod notes;
-mod texts;

@@ -1,253 +1,115 @@
-// A record: taken apart, through its call, and compared.
-ghost use Prim.Native.Nat.{_≤_};
+// A record: through its call, and compared.
 ghost use mathlib.Core.Path.{_≡_};
-ghost use mathlib.Core.Bool.{true, _||_};
-ghost use mathlib.Core.List.{[], _∷_};
-ghost use lib.ListN.{length, replicate};
-ghost use Rattle.base.specs.Bytes.{same as Bytes·same};
-ghost use Rattle.texts.specs.Notation.{Inside};
-ghost use Rattle.texts.specs.Records.{Fits};
-use crate::lines::find;
-use crate::lines::is_only;
-use crate::lines::part;
-use crate::lines::parts;
-use crate::lines::same;
-use crate::notation::Count;
-use crate::notation::bytes;
-use crate::notation::number;
+ghost use Prim.Native.Nat.{_≤_};
+ghost use lib.ListN.{length};
+use crate::heads::LONGEST;
+use crate::heads::ROOM;
+use crate::heads::at_most;
+use crate::heads::count;
+use crate::heads::is_right;
+use crate::heads::letter;
 use crate::report::answer;
-use crate::report::wrong;
 use base::Outcome;
+use base::bytes::is_same;
+use stored::behind;
+use stored::body_at;
+use stored::cut;
+use stored::line_at;
 
-// The bytes of the input, the room lent, and the answer that is expected.
-struct Case {
-    size: usize,
-    room: usize,
-    expected: Outcome,
-}
-
-enum Form {
-    Right(Case),
-    Wrong,
-}
-
-enum Expected {
-    Is(Outcome),
-    Wrong,
-}
-
-// Room for an input.
-fn input_room() -> [u8; 10001]
-    ensures { λ r. ⌜ 10001 ≡ length r ⌝ }
+// Filled with a byte that no text has that is read or written.
+fn lent_room() -> [u8; ROOM]
+    ensures { λ r. ⌜ 10000 ≡ length r ⌝ }
 {
-    [0u8; 10001]
+    [0xAAu8; ROOM]
 }
 
-// Room to lend, filled with a byte that no text has that is read or written.
-fn lent_room() -> [u8; 10000]
-    ensures { λ r. ⌜ (10000 ≡ length r) × (r ≡ replicate 10000 170) ⌝ }
-{
-    [0xAAu8; 10000]
+fn input_room() -> [u8; LONGEST] {
+    [0u8; LONGEST]
 }
 
-fn is_name_byte(b: u8) -> bool {
-    match b {
-        b'0'..=b'9' | b'A'..=b'Z' | b'a'..=b'z' | b'-' | b'_' | b'.' => true,
-        _ => false,
+// The raw bytes over and over, n bytes in all.
+fn fill(out: &mut [u8], raw: &[u8], n: usize) {
+    if raw.len() == 0 {
+        return;
     }
-}
-
-// The length without the star at the end.
-fn stem(name: &[u8]) -> usize
-    ensures { λ r. ⌜ r ≤ length (now (name .entry)) ⌝ }
-{
-    let n = name.len();
-    if n == 0 {
-        return 0;
-    }
-    if name[n - 1] == b'*' { n - 1 } else { n }
-}
-
-fn is_name(name: &[u8]) -> bool {
-    let n = stem(name);
-    if n == 0 {
-        return false;
-    }
+    let end = at_most(out.len(), n);
     let mut i = 0;
-    while i < n {
-        if !is_name_byte(name[i]) {
-            return false;
-        }
+    while i < end {
+        out[i] = raw[i % raw.len()];
         i += 1;
     }
-    true
 }
 
-fn is_either(s: &[u8], a: u8, b: u8) -> bool
-    ensures { λ r. ⌜ r ≡ (Bytes·same (now (s .entry)) (a ∷ []) || Bytes·same (now (s .entry)) (b ∷ [])) ⌝ }
-{
-    if is_only(s, a) {
-        return true;
-    }
-    is_only(s, b)
-}
-
-fn is_five_or_six(n: usize) -> bool {
-    if n == 5 {
-        return true;
-    }
-    n == 6
-}
-
-// Five or six parts, and the form of the first three.
-fn is_head(line: &[u8]) -> bool {
-    if !is_five_or_six(parts(line)) {
-        return false;
-    }
-    if !is_name(part(line, 0)) {
-        return false;
-    }
-    if !is_either(part(line, 1), b'r', b'w') {
-        return false;
-    }
-    is_either(part(line, 2), b'+', b'-')
-}
-
-// The room that the record names, at most 10000, or 10000.
-fn room_of(line: &[u8]) -> Count
-    ensures { λ r. ⌜ Inside 0 10000 r ⌝ }
-{
-    if parts(line) < 6 {
-        return Count::Of(10000);
-    }
-    let Count::Of(room) = number(part(line, 5)) else {
-        return Count::Wrong;
-    };
-    if room > 10000 {
-        return Count::Wrong;
-    }
-    Count::Of(room)
-}
-
-// NUMBER@PLACE
-fn refusal(s: &[u8]) -> Expected {
-    let mark = find(s, 0, b'@');
-    if mark == s.len() {
-        return Expected::Wrong;
-    }
-    let Count::Of(rule) = number(&s[..mark]) else {
-        return Expected::Wrong;
-    };
-    let Count::Of(place) = number(&s[mark + 1..]) else {
-        return Expected::Wrong;
-    };
-    Expected::Is(Outcome::Refused {
-        number: rule as u32,
-        place,
-    })
-}
-
-// The answer expected; the bytes of a text are put into the room.
-fn expected_of(s: &[u8], wanted: &mut [u8]) -> Expected {
-    if s.len() == 0 {
-        return Expected::Wrong;
-    }
-    if s[0] == b'!' {
-        return refusal(&s[1..]);
-    }
-    let Count::Of(n) = bytes(s, wanted) else {
-        return Expected::Wrong;
-    };
-    Expected::Is(Outcome::Done(n))
-}
-
-// Of the rest, with the bytes of the input known.
-fn case_of(line: &[u8], size: usize, wanted: &mut [u8]) -> Form
-    ensures { λ r. ⌜ Fits size r ⌝ }
-{
-    let Count::Of(room) = room_of(line) else {
-        return Form::Wrong;
-    };
-    let Expected::Is(expected) = expected_of(part(line, 4), wanted) else {
-        return Form::Wrong;
-    };
-    Form::Right(Case {
-        size,
-        room,
-        expected,
-    })
-}
-
-fn form_of(line: &[u8], input: &mut [u8], wanted: &mut [u8]) -> Form
-    ensures { λ r. ⌜ Fits (length (now (input .entry))) r ⌝ }
-{
-    if !is_head(line) {
-        return Form::Wrong;
-    }
-    let Count::Of(size) = bytes(part(line, 3), input) else {
-        return Form::Wrong;
-    };
-    case_of(line, size, wanted)
-}
-
-fn call(line: &[u8], input: &[u8], out: &mut [u8]) -> Outcome {
-    let sign = is_only(part(line, 2), b'+');
-    if is_only(part(line, 1), b'r') {
+fn call(head: &[u8], input: &[u8], out: &mut [u8]) -> Outcome {
+    let sign = letter(head, 2) == b'+';
+    if letter(head, 1) == b'r' {
         return alphabets::read_text(sign, input, out);
     }
-    alphabets::write_text(sign, input, out)
+    spelling::write_text(sign, input, out)
 }
 
-fn is_same(a: Outcome, b: Outcome) -> bool
-    ensures { λ r. ⌜ (r ≡ true → a ≡ b) ⌝ }
-{
-    match a {
-        Outcome::Done(n) => match b {
-            Outcome::Done(m) => n == m,
-            Outcome::Refused {
-                number: _,
-                place: _,
-            } => false,
-        },
-        Outcome::Refused { number, place } => match b {
-            Outcome::Done(_) => false,
-            Outcome::Refused {
-                number: rule,
-                place: spot,
-            } => number == rule && place == spot,
-        },
+// The number is 0 where a text is expected, and the place is then its length.
+fn is_expected(said: Outcome, number: usize, place: usize) -> bool {
+    match said {
+        Outcome::Done(n) => number == 0 && place == n,
+        Outcome::Refused {
+            number: rule,
+            place: spot,
+        } => number == rule as usize && place == spot,
     }
 }
 
-// Calls, and compares the answer and the whole room: 1 where one differs, which is written.
-fn compared(line: &[u8], case: Case, input: &[u8], wanted: &[u8]) -> usize
-    requires { ⌜ (case .size ≤ length (now input)) × (case .room ≤ 10000) ⌝ }
+// Compares the answer and the whole room: 1 where one differs, which is written.
+fn compared(head: &[u8], said: Outcome, out: &[u8], text: &[u8]) -> usize
     ensures { λ r. ⌜ r ≤ 1 ⌝ }
 {
-    let mut out = lent_room();
-    let size = case.size;
-    let room = case.room;
-    let expected = case.expected;
-    let said = call(line, &input[..size], &mut out[..room]);
-    if is_same(said, expected) {
-        if same(&out, wanted) {
+    let mut wanted = lent_room();
+    let place = count(head, 5);
+    fill(&mut wanted, text, place);
+    if is_expected(said, count(head, 4), place) {
+        if is_same(out, &wanted) {
             return 0;
         }
     }
-    answer(line, said, &out);
+    answer(head, said, out);
     1
 }
 
-// 1 for a record that differs or is of wrong form, which is written.
-pub(crate) fn differs(line: &[u8]) -> usize
+fn differs(head: &[u8], raw: &[u8], text: &[u8]) -> usize
     ensures { λ r. ⌜ r ≤ 1 ⌝ }
 {
     let mut input = input_room();
-    let mut wanted = lent_room();
-    let form = form_of(line, &mut input, &mut wanted);
-    let Form::Right(case) = form else {
-        wrong(line);
-        return 1;
-    };
-    compared(line, case, &input, &wanted)
+    let mut out = lent_room();
+    let size = at_most(LONGEST, count(head, 6));
+    let room = at_most(ROOM, count(head, 3));
+    fill(&mut input, raw, size);
+    let said = call(head, &input[..size], &mut out[..room]);
+    compared(head, said, &out, text)
+}
+
+// 1 where the record at this place differs, which is written.
+pub(crate) fn taken(list: &[u8], at: usize) -> usize
+    ensures { λ r. ⌜ r ≤ 1 ⌝ }
+{
+    let head = line_at(list, at);
+    let raw = body_at(list, at, 8);
+    differs(
+        head,
+        cut(list, raw.start, raw.size),
+        cut(list, raw.next, count(head, 7)),
+    )
+}
+
+// The place behind the record, 0 where it is of wrong form.
+pub(crate) fn end_of(list: &[u8], at: usize) -> usize {
+    let head = line_at(list, at);
+    if !is_right(head) {
+        return 0;
+    }
+    let raw = body_at(list, at, 8);
+    let next = raw.next;
+    if next == 0 {
+        return 0;
+    }
+    behind(list, next, count(head, 7))
 }

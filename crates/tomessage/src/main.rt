@@ -1,12 +1,13 @@
 // Writes the message for the sheet on standard input, or the line of its refusal.
 use answers::calls::message_answer;
+use answers::rooms::sheet_room;
 use base::Outcome;
 use libc::STDIN_FILENO;
 use libc::STDOUT_FILENO;
 
-// A byte more than a sheet can have is read: what stands behind it changes no answer.
+// What stands behind the room for the sheet changes no answer.
 fn main() {
-    let mut sheet = [0u8; 10001];
+    let mut sheet = sheet_room();
     let n = io::read_full(STDIN_FILENO, &mut sheet);
     let mut out = [0u8; 10000];
     let a = message_answer(&sheet[..n], &mut out);

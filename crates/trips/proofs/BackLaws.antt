@@ -44,14 +44,17 @@ use Rattle.details.specs.Lines.{together}
 use Rattle.details.specs.Layouts.{layout, linesFor, sizeFor}
 use Rattle.details.specs.declared.Place.{Place}
 use Rattle.details.specs.declared.Place.the-variants.{In70, In72, BehindRpp}
-use Rattle.writer.specs.Spread.{castParts, lineFor, code, told, notePlace, noteLines, contentLines, spread}
-use Rattle.writer.specs.Sheet.{isUnfit, crowded, fieldsOf, messageFor, sheetRules, MessageTo}
+use Rattle.lines.specs.Spread.{castParts, lineFor, code, told, notePlace, noteLines, contentLines, spread}
+use Rattle.lines.specs.Steps.{isUnfit}
+use Rattle.drafts.specs.Sheet.{crowded, fieldsOf, messageFor, sheetRules}
+use Rattle.writer.specs.Sheet.{MessageTo}
 use Rattle.written.proofs.SpeltLaws.{said-is}
 use Rattle.written.proofs.ReadyLaws.{speaks, Laid, laid, Ready}
 use Rattle.written.proofs.CastLaws.{turned, cast-again, frontOf, nextOf, told-again}
 use Rattle.written.proofs.BuiltLaws.{AllPass, records-pass, built-fields, built-sign}
 use Rattle.written.proofs.Theorems as writer
-use Rattle.sheets.specs.Gather.{partFor, codeDigits, toldParts, noteParts, contentParts, gather, typeDigits, typeRecord, recordsOf, sheetOf}
+use Rattle.contents.specs.Contents.{codeDigits}
+use Rattle.sheets.specs.Gather.{partFor, toldParts, noteParts, contentParts, gather, typeDigits, typeRecord, recordsOf, sheetOf}
 use Rattle.sheets.specs.Calls.{readRules, SheetTo}
 
 -- ---- parts that are copied or names

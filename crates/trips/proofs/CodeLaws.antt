@@ -3,15 +3,18 @@
 use Prim.Native.Nat.{ℕ, zero, suc, _+_, _≤_, _<_}
 use mathlib.Core.Path.{_≡_, refl, sym, ap, ap₂, _∙_}
 use mathlib.Core.Bool.{Bool, true, false, not, _&&_, true≢false, false≢true}
-use mathlib.Core.List.{List, [], _∷_, _++_, map, tail}
+use mathlib.Core.List.{List, [], _∷_, _++_, map, tail, append-assoc}
 use native.Mathlib.Omega.{arith}
 use lib.Dec.{eqb, leb, ltb}
-use lib.ListN.{length, length-append}
-use borrow.Author.Tests.{eqb-true, eqb-false, ltb-true, leb-true, le-leb}
-use Rattle.base.specs.Choice.{pick}
+use lib.ListN.{length, drop, length-append}
+use lib.Seq.{drop-append-seam}
+use borrow.Author.Tests.{eqb-true, eq-eqb, eqb-false, ltb-true, leb-true, le-leb}
+use Rattle.base.specs.Choice.{pick, all}
 use Rattle.base.specs.Bytes.{digit, empty}
+use Rattle.base.specs.Quoted.{bytes}
 use Rattle.base.proofs.Bools as bools
 use Rattle.base.proofs.Bools.{left, both, isnt}
+use Rattle.formats.specs.Words.{each}
 use Rattle.formats.specs.Format.{member, run, counted, fits}
 use Rattle.machine.specs.Machine.{cell, widthOf, endsAt, nextAt, rowsOf, isAs, holds, took, right}
 use Rattle.forms.specs.Formats.{formats}
@@ -23,8 +26,9 @@ use Rattle.details.specs.Breaking.{opens}
 use Rattle.details.specs.Layouts.{layout, marked}
 use Rattle.details.specs.declared.Place.{Place}
 use Rattle.details.specs.declared.Place.the-variants.{In70, In72, BehindRpp}
-use Rattle.writer.specs.Spread.{code}
+use Rattle.lines.specs.Spread.{code}
 use Rattle.written.proofs.CastLaws.{code-size}
+use Rattle.trips.proofs.StepLaws.{low}
 use Rattle.trips.proofs.RowLaws.{took-first, took-past, unheld, step}
 
 -- ---- lines behind the first
@@ -86,22 +90,6 @@ codeRow In70 s = pick s at70Signed at70
 codeRow In72 s = suc (pick s at72Signed at72)
 codeRow BehindRpp s = pick s nzpS nzp
 
-five : (P : List ℕ → Type 0) → ((a b c d e : ℕ) → digit a ≡ true → digit b ≡ true → digit c ≡ true → digit d ≡ true → digit e ≡ true → P (a ∷ b ∷ c ∷ d ∷ e ∷ []))
-    → (vo : List ℕ) → digits 5 vo ≡ true → P vo
-unfolding digits
-five P f [] e = absurd (false≢true e)
-five P f (a ∷ []) e = absurd (false≢true e)
-five P f (a ∷ b ∷ []) e = absurd (false≢true e)
-five P f (a ∷ b ∷ c ∷ []) e = absurd (false≢true e)
-five P f (a ∷ b ∷ c ∷ d ∷ []) e = absurd (false≢true e)
-five P f (a ∷ b ∷ c ∷ d ∷ x ∷ []) e =
-    f a b c d x (left (digit a) _ e) (left (digit b) _ (after a e)) (left (digit c) _ (after b (after a e))) (left (digit d) _ (after c (after b (after a e))))
-    (left (digit x) _ (after d (after c (after b (after a e)))))
-  where
-    after : (y : ℕ) {b : Bool} → (digit y && b) ≡ true → b ≡ true
-    after y {b} e = bools.right (digit y) b e
-five P f (a ∷ b ∷ c ∷ d ∷ x ∷ y ∷ l) e = absurd (omega (arith, eqb-true (length (a ∷ b ∷ c ∷ d ∷ x ∷ y ∷ l)) 5 (left (eqb (length (a ∷ b ∷ c ∷ d ∷ x ∷ y ∷ l)) 5) _ e)))
-
 -- the code and r: the first row takes it if there is an r, else the second
 abbrev Coded : Place → Bool → List ℕ → List ℕ → Type 0
 Coded p s r vo =
@@ -109,23 +97,65 @@ Coded p s r vo =
     let q : ℕ = codeRow p s in
     (isAs formats (cell rows q 0) l ≡ not (empty r)) × (isAs formats (cell rows q 1) l ≡ not (empty r)) × (isAs formats (cell rows (suc q) 1) l ≡ empty r)
 
-coded : (p : Place) (s : Bool) (r vo : List ℕ) → digits 5 vo ≡ true → Coded p s r vo
-unfolding isAs formats rows cell fits run counted member
-coded p s r = five (Coded p s r) (go p s r)
+-- a word, five digits and a word go through their items, and the rest is as what comes behind says
+word-through : (w f s : List ℕ) → all low w ≡ true → fits (each w ++ f) (w ++ s) ≡ fits f s
+unfolding fits
+word-through [] f s a = refl
+word-through (c ∷ w) f s a = rw (left (low c) _ a, eq-eqb c c refl) (word-through w f s (bools.right (low c) _ a))
+
+run-through : (vo s : List ℕ) → all digit vo ≡ true → run 132 (length vo) (vo ++ s) ≡ length vo
+unfolding run member
+run-through [] s a = refl
+run-through (x ∷ vo) s a = rw (left (digit x) _ a) (ap suc (run-through vo s (bools.right (digit x) _ a)))
+
+digits-through : (n : ℕ) (f vo s : List ℕ) → digits n vo ≡ true → fits (132 ∷ n ∷ n ∷ f) (vo ++ s) ≡ fits f s
+unfolding fits counted digits
+digits-through n f vo s d =
+    let e : length vo ≡ n = eqb-true (length vo) n (left (eqb (length vo) n) _ d) in
+    let r : run 132 n (vo ++ s) ≡ n = ap (λ (k : ℕ). run 132 k (vo ++ s)) (sym e) ∙ run-through vo s (bools.right (eqb (length vo) n) _ d) ∙ e in
+    ap (λ (k : ℕ). leb n k && fits f (drop k (vo ++ s))) r ∙ ap (λ (b : Bool). b && fits f (drop n (vo ++ s))) (le-leb n n (omega arith))
+    ∙ ap (λ (k : ℕ). fits f (drop k (vo ++ s))) (sym e) ∙ ap (fits f) (drop-append-seam vo s)
+
+code-through : (u v f vo r : List ℕ) → all low u ≡ true → all low v ≡ true → digits 5 vo ≡ true
+    → fits (each u ++ 132 ∷ 5 ∷ 5 ∷ (each v ++ f)) (u ++ ((vo ++ v) ++ r)) ≡ fits f r
+code-through u v f vo r a b d =
+    word-through u (132 ∷ 5 ∷ 5 ∷ (each v ++ f)) ((vo ++ v) ++ r) a ∙ ap (fits (132 ∷ 5 ∷ 5 ∷ (each v ++ f))) (append-assoc vo v r)
+    ∙ digits-through 5 (each v ++ f) vo (v ++ r) d ∙ word-through v f r b
+
+with-text : (u v f vo r : List ℕ) → all low u ≡ true → all low v ≡ true → digits 5 vo ≡ true
+    → fits (each u ++ 132 ∷ 5 ∷ 5 ∷ (each v ++ 136 ∷ 1 ∷ 1 ∷ 129 ∷ 0 ∷ 0 ∷ f)) (u ++ ((vo ++ v) ++ r)) ≡ not (empty r)
+unfolding fits counted run member
+with-text u v f vo r a b d = code-through u v (136 ∷ 1 ∷ 1 ∷ 129 ∷ 0 ∷ 0 ∷ f) vo r a b d ∙ go r
   where
-    go : (p : Place) (s : Bool) (r : List ℕ) (a b c d e : ℕ) → digit a ≡ true → digit b ≡ true → digit c ≡ true → digit d ≡ true → digit e ≡ true → Coded p s r (a ∷ b ∷ c ∷ d ∷ e ∷ [])
-    go In70 true [] a b c d e i j k l m = rw (i, j, k, l, m) (refl, refl, refl)
-    go In70 true (x ∷ r) a b c d e i j k l m = rw (i, j, k, l, m) (refl, refl, refl)
-    go In70 false [] a b c d e i j k l m = rw (i, j, k, l, m) (refl, refl, refl)
-    go In70 false (x ∷ r) a b c d e i j k l m = rw (i, j, k, l, m) (refl, refl, refl)
-    go In72 true [] a b c d e i j k l m = rw (i, j, k, l, m) (refl, refl, refl)
-    go In72 true (x ∷ r) a b c d e i j k l m = rw (i, j, k, l, m) (refl, refl, refl)
-    go In72 false [] a b c d e i j k l m = rw (i, j, k, l, m) (refl, refl, refl)
-    go In72 false (x ∷ r) a b c d e i j k l m = rw (i, j, k, l, m) (refl, refl, refl)
-    go BehindRpp true [] a b c d e i j k l m = rw (i, j, k, l, m) (refl, refl, refl)
-    go BehindRpp true (x ∷ r) a b c d e i j k l m = rw (i, j, k, l, m) (refl, refl, refl)
-    go BehindRpp false [] a b c d e i j k l m = rw (i, j, k, l, m) (refl, refl, refl)
-    go BehindRpp false (x ∷ r) a b c d e i j k l m = rw (i, j, k, l, m) (refl, refl, refl)
+    go : (r : List ℕ) → fits (136 ∷ 1 ∷ 1 ∷ 129 ∷ 0 ∷ 0 ∷ f) r ≡ not (empty r)
+    go [] = refl
+    go (x ∷ r) = refl
+
+alone : (u v f vo r : List ℕ) → all low u ≡ true → all low v ≡ true → digits 5 vo ≡ true
+    → fits (each u ++ 132 ∷ 5 ∷ 5 ∷ (each v ++ 128 ∷ 0 ∷ 0 ∷ f)) (u ++ ((vo ++ v) ++ r)) ≡ empty r
+unfolding fits
+alone u v f vo r a b d = code-through u v (128 ∷ 0 ∷ 0 ∷ f) vo r a b d
+
+-- the words of the two rows
+abbrev textWords : List ℕ → List ℕ → List ℕ → List ℕ
+textWords u v f = each u ++ 132 ∷ 5 ∷ 5 ∷ (each v ++ 136 ∷ 1 ∷ 1 ∷ 129 ∷ 0 ∷ 0 ∷ f)
+
+abbrev codeWords : List ℕ → List ℕ → List ℕ → List ℕ
+codeWords u v f = each u ++ 132 ∷ 5 ∷ 5 ∷ (each v ++ 128 ∷ 0 ∷ 0 ∷ f)
+
+rows-of : (u v f g h vo r : List ℕ) → all low u ≡ true → all low v ≡ true → digits 5 vo ≡ true
+    → (fits (textWords u v f) (u ++ ((vo ++ v) ++ r)) ≡ not (empty r)) × (fits (textWords u v g) (u ++ ((vo ++ v) ++ r)) ≡ not (empty r))
+    × (fits (codeWords u v h) (u ++ ((vo ++ v) ++ r)) ≡ empty r)
+rows-of u v f g h vo r a b d = (with-text u v f vo r a b d, with-text u v g vo r a b d, alone u v h vo r a b d)
+
+coded : (p : Place) (s : Bool) (r vo : List ℕ) → digits 5 vo ≡ true → Coded p s r vo
+unfolding isAs formats rows cell
+coded In70 true r vo d = rows-of (bytes "'(VO") (bytes ")'") _ _ _ vo r refl refl d
+coded In70 false r vo d = rows-of (bytes "(VO") (bytes ")") _ _ _ vo r refl refl d
+coded In72 true r vo d = rows-of (bytes "/NZP/'(VO") (bytes ")'") _ _ _ vo r refl refl d
+coded In72 false r vo d = rows-of (bytes "/NZP/(VO") (bytes ")") _ _ _ vo r refl refl d
+coded BehindRpp true r vo d = rows-of (bytes "/NZP/'(VO") (bytes ")'") _ _ _ vo r refl refl d
+coded BehindRpp false r vo d = rows-of (bytes "/NZP/(VO") (bytes ")") _ _ _ vo r refl refl d
 
 -- the lines that may or must come behind them
 abbrev Steps : ℕ → Type 0

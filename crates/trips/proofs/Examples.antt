@@ -1,15 +1,20 @@
--- The worked examples hold: each is computed; of the one with the idle pair all but the reading of its long run of marks. Assumes nothing.
+-- The worked examples hold: each is computed, all but the reading of long texts. Assumes nothing.
 use Prim.Native.Nat.{ℕ, zero, suc}
-use mathlib.Core.Path.{_≡_, refl, sym, ap, subst, _∙_}
+use mathlib.Core.Path.{_≡_, refl, sym, ap, ap₂, subst, _∙_}
 use mathlib.Core.Bool.{Bool, true, false}
 use mathlib.Core.List.{List, [], _∷_, _++_, map}
-use lib.ListN.{replicate, drop}
+use native.Mathlib.Omega.{arith}
+use lib.ListN.{length, replicate, drop}
+use borrow.Author.Tests.{le-ltb}
+use Rattle.base.specs.Choice.{pick}
 use Rattle.base.specs.Calls.{Answer, said, textOf, long, short}
 use Rattle.base.specs.Bytes.{empty, isIn, digit, capital, letter, marks, shared, xset, same}
 use Rattle.base.specs.Quoted.{bytes}
-use Rattle.base.specs.Rules.{first}
+use Rattle.base.specs.Rules.{then, first}
+use Rattle.base.specs.declared.Verdict.{Verdict}
 use Rattle.base.specs.declared.Verdict.the-variants.{Fine, Broken}
-use Rattle.base.proofs.RuleLaws.{clean-first}
+use Rattle.base.proofs.RuleLaws.{first-last, clean-first, first-clean}
+use Rattle.frame.specs.Cases.{sample}
 use Rattle.fields.specs.Field.{Field, field, message, body, cut, upto, past, grouped, fields}
 use Rattle.fields.specs.Frame.{rule1, framed, rule2, scan, rule3, tagged, lineBad, badLine, rule4}
 use Rattle.fields.specs.Shapes.{shaped}
@@ -28,34 +33,140 @@ use Rattle.values.specs.Day.{leap, daysIn, isDay, yearOf, realDay, dated}
 use Rattle.values.specs.Values.{behindDigits, payment, pointIn, datesBehind, rpp, bothParts, parties, taxPlace, isTax, withKpp, taxes, valuesOf}
 use Rattle.values.specs.Judged.{firstBad, rule9, rule10, rule11, rule12, rule13}
 use Rattle.roles.specs.Role.{shape103, shape202, shapeOf, cast}
-use Rattle.roles.specs.Speech.{speech, taxPlaced, told, names, details, noted, speeches}
+use Rattle.roles.specs.Speech.{Manner, speech, named, taxPlaced, told, names, details, noted, speeches}
 use Rattle.roles.specs.Speech as speeches-of
 use Rattle.roles.specs.Sentences.{Heard}
 use Rattle.roles.specs.declared.Shape.{Shape}
 use Rattle.roles.specs.declared.Shape.the-variants.{Details}
 use Rattle.roles.proofs.BreachLaws.{rule14-fine}
-use Rattle.roles.specs.Rule14.{mute, hidden, isInn, taxLike, breaks, unheard, spoken, rule14}
+use Rattle.roles.specs.Rule14.{mute, clauses, hidden, isInn, taxLike, breaks, unheard, spoken, rule14}
 use Rattle.alphabets.specs.Grid.{grid, kind}
 use Rattle.alphabets.specs.Grid as signs
 use Rattle.alphabets.specs.Bank.{after, reads, plainly, reading}
 use Rattle.alphabets.specs.Best.{latinNext, best, bad, writes}
+use Rattle.alphabets.proofs.Back.{reads-best}
+use Rattle.records.specs.Cases.{desk}
 use Rattle.records.specs.Record.{Record, sheet, pieces, recordOf, records, rest, begun}
 use Rattle.records.specs.Rule19.{digits, general, untaxed, sound, badFrom, judge, sheetSign, sheetType, rule19}
 use Rattle.details.specs.Breaking.{opens, last, broken}
 use Rattle.details.specs.Breaking as breaking
 use Rattle.details.specs.Layouts.{linesFor, sizeFor}
-use Rattle.writer.specs.Spread.{contentLines, spread}
-use Rattle.writer.specs.Sheet.{sheetRules, unsaid, rule15, crowded, rule16, fieldsOf, messageFor}
-use Rattle.sheets.specs.Gather.{codeDigits, contentParts, recordFor, gather, typeRecord, recordsOf, sheetOf}
-use Rattle.trips.specs.Cases.{AllHold, trips, idle, stops}
+use Rattle.lines.specs.Spread.{contentLines, spread}
+use Rattle.drafts.specs.Sheet.{sheetRules, unsaid, rule15, crowded, rule16, fieldsOf, messageFor}
+use Rattle.writer.specs.Sheet.{writeRules, atStart}
+use Rattle.written.specs.Cases.{sheet103}
+use Rattle.sheets.specs.Calls.{readRules}
+use Rattle.contents.specs.Contents.{codeDigits}
+use Rattle.sheets.specs.Gather.{contentParts, recordFor, gather, typeRecord, recordsOf, sheetOf}
+use Rattle.trips.specs.Cases.{AllHold, plain202, plainSheet, signed202, signedSheet, otherwise103, otherwiseSheet, best103, trips, idle, stops}
 
 infixr 4 _also_
 abbrev _also_ : {A B : Type 0} → A → B → A × B
 a also b = (a, b)
 
+-- ---- a message's refusal, 14 apart from the rest
+abbrev Easy : ℕ → List ℕ → Type 0
+Easy kind m =
+    (rule18 kind ≡ Fine) × (rule1 m ≡ Fine) × (rule2 m ≡ Fine) × (rule3 m ≡ Fine) × (rule4 m ≡ Fine) × (walked kind m ≡ Fine) × (rule8 kind m ≡ Fine)
+    × (rule9 (fields m) ≡ Fine) × (rule10 (fields m) ≡ Fine) × (rule11 (fields m) ≡ Fine) × (rule12 (fields m) ≡ Fine) × (rule13 (fields m) ≡ Fine)
+
+fine-by : (kind : ℕ) (m : List ℕ) → Easy kind m → rule14 kind (fields m) ≡ Fine → verdictOf kind m ≡ Fine
+unfolding verdictOf
+fine-by kind m (a, b, c, d, e, f, g, h, i, j, k, l) n =
+    clean-first (messageRules kind m) (a also b also c also d also e also f also g also h also i also j also k also l also n also tt)
+
+-- a text with this reading breaks no clause of 14
+heard-by : (m : Manner) (b d : List ℕ) → reads false b ≡ said d → clauses m (empty d) b d ≡ false → breaks m b ≡ false
+unfolding breaks
+heard-by m b d e n = ap (λ (a : Answer). clauses m (mute a) b (textOf a)) e ∙ n
+
+-- ---- a trip: its message's refusal, its sheet, that sheet's refusal, and the message that is written, each computed once
+room : (s : List ℕ) → short s s ≡ Fine
+unfolding short
+room s = ap (λ (b : Bool). pick b (Broken 17 (length s)) Fine) (le-ltb (length s) (length s) (omega arith))
+
+read-fine : (kind : ℕ) (m s out : List ℕ) → verdictOf kind m ≡ Fine → sheetOf kind m ≡ s → first (readRules kind m out) ≡ short s out
+unfolding verdictOf
+read-fine kind m s out e h =
+    first-last (messageRules kind m) (short (sheetOf kind m) out) ∙ ap (λ (v : Verdict). then v (short (sheetOf kind m) out)) e ∙ ap (λ (x : List ℕ). short x out) h
+
+abbrev Written : ℕ → List ℕ → List ℕ → Type 0
+Written kind s n = (first (sheetRules s) ≡ Fine) × (sheetType s ≡ kind) × (messageFor s ≡ n)
+
+there-and-back : (kind : ℕ) (m s n : List ℕ) → verdictOf kind m ≡ Fine → sheetOf kind m ≡ s → Written kind s n → verdictOf kind n ≡ Fine
+    → (first (readRules kind m s) ≡ Fine) × (sheetOf kind m ≡ s) × (first (writeRules s n) ≡ Fine) × (messageFor s ≡ n)
+there-and-back kind m s n e h (r, t, w) v =
+    let c = first-clean (sheetRules s) r in (
+      read-fine kind m s s e h ∙ room s,
+      h,
+      clean-first (writeRules s n)
+          (c .0 also c .1 .0 also c .1 .1 .0 also c .1 .1 .1 .0 also c .1 .1 .1 .1 .0 also (ap (λ (x : List ℕ). short x n) w ∙ room n)
+          also ap atStart (ap₂ verdictOf t w ∙ v) also tt),
+      w,
+    )
+
+-- ---- the trips with short texts
+all-fine : (verdictOf 103 (bytes sample) ≡ Fine) × (verdictOf 202 (bytes plain202) ≡ Fine) × (verdictOf 103 (bytes otherwise103) ≡ Fine) × (verdictOf 103 (bytes best103) ≡ Fine)
+unfolding verdictOf rule18 form103 form202 forms placesOf long rule1 framed body same rule2 scan xset isIn digit capital letter marks shared rule3 cut tagged lineBad badLine rule4 upto past grouped fields find wrong walk walked signOf sign member run counted apart notPlus wayFirst purpose meets fits cell isAs holds tookOf right lives behind widest formats rows firstWrong starts103 starts202 stateOf rightField rule8 onward leap daysIn isDay yearOf realDay dated behindDigits payment pointIn datesBehind rpp bothParts parties taxPlace isTax withKpp taxes valuesOf firstBad rule9 rule10 rule11 rule12 rule13 spoken speeches names details noted speeches-of.behind shapeOf shape103 shape202 cast hidden isInn taxLike breaks unheard rule14 grid signs.sign reads
+all-fine = (refl, refl, refl, refl)
+
+all-read : (sheetOf 103 (bytes sample) ≡ desk sheet103) × (sheetOf 202 (bytes plain202) ≡ desk plainSheet) × (sheetOf 103 (bytes otherwise103) ≡ desk otherwiseSheet)
+unfolding sheetOf recordsOf gather contentParts body cut upto past grouped fields signOf shapeOf shape103 shape202 cast isTax same isIn digit speeches-of.behind plainly xset reads signs.sign grid marks capital letter shared
+all-read = (refl, refl, refl)
+
+all-written : Written 103 (desk sheet103) (bytes sample) × Written 202 (desk plainSheet) (bytes plain202) × Written 202 (desk signedSheet) (bytes signed202)
+    × Written 103 (desk otherwiseSheet) (bytes best103)
+unfolding same shape103 shapeOf cast grid marks isIn digit capital letter shared long form103 form202 forms placesOf rule18 shaped signOf isTax isInn xset plainly kind latinNext best bad writes pieces recordOf records rest begun digits general untaxed sound badFrom judge sheetSign sheetType rule19 opens last broken breaking.breaks sizeFor unsaid rule15 crowded rule16 shape202 linesFor contentLines spread fieldsOf messageFor message
+all-written = ((refl, refl, refl), (refl, refl, refl), (refl, refl, refl), (refl, refl, refl))
+
+short-by-one : short (desk sheet103) (replicate 166 0) ≡ Broken 17 167
+unfolding short
+short-by-one = refl
+
+-- ---- the signed 202: its two texts are spelt as they would be written
+signed-reads : (reads false (bytes "SBERBANK 'OOO'") ≡ said (desk "СБЕРБАНК OOO"))
+    × (reads false (bytes "PEREVOD SREDSTV PO DOGOVORU 'A'") ≡ said (desk "ПЕРЕВОД СРЕДСТВ ПО ДОГОВОРУ A"))
+unfolding best bad latinNext kind grid marks isIn digit capital letter shared
+signed-reads = (reads-best false (desk "СБЕРБАНК OOO") refl, reads-best false (desk "ПЕРЕВОД СРЕДСТВ ПО ДОГОВОРУ A") refl)
+
+signed-easy : Easy 202 (bytes signed202)
+unfolding rule18 form103 form202 forms placesOf long rule1 framed body same rule2 scan xset isIn digit capital letter marks shared rule3 cut tagged lineBad badLine rule4 upto past grouped fields find wrong walk walked signOf sign member run counted apart notPlus wayFirst purpose meets fits cell isAs holds tookOf right lives behind widest formats rows firstWrong starts103 starts202 stateOf rightField rule8 onward leap daysIn isDay yearOf realDay dated behindDigits payment pointIn datesBehind rpp bothParts parties taxPlace isTax withKpp taxes valuesOf firstBad rule9 rule10 rule11 rule12 rule13
+signed-easy = (refl, refl, refl, refl, refl, refl, refl, refl, refl, refl, refl, refl)
+
+signed-texts : spoken 202 5 (fields (bytes signed202)) ≡ speech named 120 (bytes "SBERBANK 'OOO'") ∷ speech told 185 (bytes "PEREVOD SREDSTV PO DOGOVORU 'A'") ∷ []
+unfolding spoken speeches names details noted speeches-of.behind shapeOf shape103 shape202 cast isTax same digit body cut upto past grouped fields isIn
+signed-texts = refl
+
+signed-14 : rule14 202 (fields (bytes signed202)) ≡ Fine
+unfolding hidden taxLike isTax isInn same digit isIn
+signed-14 =
+    rule14-fine 202 (fields (bytes signed202)) .1
+    (λ e. subst Heard (sym signed-texts) (heard-by named _ _ (signed-reads .0) refl, (heard-by told _ _ (signed-reads .1) refl, tt)))
+
+-- its sheet, of the readings of the two
+abbrev signed-with : Answer → Answer → List ℕ
+signed-with a b =
+    sheet
+    (typeRecord 202 ∷ field (bytes "20") (bytes "+B2" ∷ []) ∷ field (bytes "21") (bytes "NONREF" ∷ []) ∷ field (bytes "32A") (bytes "240301RUB1000," ∷ [])
+    ∷ field (bytes "53B") (bytes "/D/30111810500000100000" ∷ []) ∷ field (bytes "58D") (bytes "/30101810400000000225" ∷ bytes "INN7707083893" ∷ textOf a ∷ [])
+    ∷ field (bytes "72") (bytes "7.240301.5.ELEK.240301" ∷ bytes "10100" ∷ textOf b ∷ []) ∷ [])
+
+signed-sheet : sheetOf 202 (bytes signed202) ≡ desk signedSheet
+unfolding sheetOf recordsOf gather contentParts body cut upto past grouped fields signOf shapeOf shape103 shape202 cast isTax same isIn digit speeches-of.behind
+signed-sheet = ap₂ signed-with (signed-reads .0) (signed-reads .1)
+
+signed-fine : verdictOf 202 (bytes signed202) ≡ Fine
+signed-fine = fine-by 202 (bytes signed202) signed-easy signed-14
+
 pub worked : AllHold trips
-unfolding trips contentParts gather recordsOf sheetOf long short isIn digit capital letter marks shared xset same message body cut upto past grouped fields rule1 framed rule2 scan rule3 tagged lineBad badLine rule4 shaped form103 form202 forms placesOf find wrong walk rule18 walked signOf verdictOf sign member run counted apart notPlus wayFirst purpose meets fits cell tookOf right formats rows firstWrong starts103 starts202 stateOf rightField rule8 onward leap daysIn isDay yearOf realDay dated behindDigits payment pointIn datesBehind rpp bothParts parties taxPlace isTax withKpp taxes valuesOf firstBad rule9 rule10 rule11 rule12 rule13 shape103 shape202 shapeOf cast names details noted speeches speeches-of.behind hidden isInn taxLike breaks unheard spoken rule14 grid kind signs.sign reads plainly latinNext best bad writes pieces recordOf records rest begun digits general untaxed sound badFrom judge sheetSign sheetType rule19 opens last broken breaking.breaks linesFor sizeFor contentLines spread unsaid rule15 crowded rule16 fieldsOf messageFor isAs holds lives behind widest
-worked = (refl, refl, refl, refl) also (refl, refl, refl, refl) also (refl, refl, refl, refl) also refl also (refl, refl, refl, refl) also tt
+unfolding trips
+worked =
+    there-and-back 103 (bytes sample) (desk sheet103) (bytes sample) (all-fine .0) (all-read .0) (all-written .0) (all-fine .0)
+    also there-and-back 202 (bytes plain202) (desk plainSheet) (bytes plain202) (all-fine .1) (all-read .1) (all-written .1) (all-fine .1)
+    also there-and-back 202 (bytes signed202) (desk signedSheet) (bytes signed202) signed-fine signed-sheet (all-written .2) signed-fine
+    also (read-fine 103 (bytes sample) (desk sheet103) (replicate 166 0) (all-fine .0) (all-read .0) ∙ short-by-one)
+    also there-and-back 103 (bytes otherwise103) (desk otherwiseSheet) (bytes best103) (all-fine .2) (all-read .2) (all-written .3) (all-fine .3)
+    also tt
 
 -- ---- the idle pair
 -- a run of - reads as itself, whatever follows
@@ -67,10 +178,6 @@ dashes (suc n) b d e = ap (after 45) (dashes n b d e)
 idle-reads : reads false (replicate 23 45 ++ bytes "''--") ≡ said (replicate 23 45 ++ bytes "--")
 unfolding reads signs.sign isIn digit marks shared
 idle-reads = dashes 23 (bytes "''--") (bytes "--") refl
-
-told-heard : (b d : List ℕ) → reads false b ≡ said d → empty d ≡ false → breaks told b ≡ false
-unfolding breaks
-told-heard b d e n = ap mute e ∙ n
 
 -- its fields: before the details, the details, behind them
 abbrev fore : List Field
@@ -101,23 +208,14 @@ names-heard = (refl, refl)
 idle-14 : rule14 103 (fields (bytes idle)) ≡ Fine
 idle-14 =
     rule14-fine 103 (fields (bytes idle)) .1
-    (λ e. subst Heard (sym (ap (spoken 103 5) idle-fields ∙ idle-texts)) (names-heard .0, (names-heard .1, (told-heard _ _ idle-reads refl, tt))))
+    (λ e. subst Heard (sym (ap (spoken 103 5) idle-fields ∙ idle-texts)) (names-heard .0, (names-heard .1, (heard-by told _ _ idle-reads refl, tt))))
 
-idle-frame : (rule18 103 ≡ Fine) × (rule1 (bytes idle) ≡ Fine) × (rule2 (bytes idle) ≡ Fine) × (rule3 (bytes idle) ≡ Fine) × (rule4 (bytes idle) ≡ Fine) × (walked 103 (bytes idle) ≡ Fine)
-unfolding rule18 form103 form202 forms placesOf long rule1 framed body same rule2 scan xset isIn digit capital letter marks shared rule3 cut tagged lineBad badLine rule4 upto past grouped fields find wrong walk walked
-idle-frame = (refl, refl, refl, refl, refl, refl)
-
-idle-inner : (rule8 103 (bytes idle) ≡ Fine) × (rule9 (fields (bytes idle)) ≡ Fine) × (rule10 (fields (bytes idle)) ≡ Fine) × (rule11 (fields (bytes idle)) ≡ Fine)
-    × (rule12 (fields (bytes idle)) ≡ Fine) × (rule13 (fields (bytes idle)) ≡ Fine)
-unfolding isIn digit capital letter marks shared xset same body cut upto past grouped fields signOf form103 form202 forms placesOf find sign member run counted apart notPlus wayFirst purpose meets fits cell isAs holds tookOf right lives behind widest formats rows firstWrong starts103 starts202 stateOf rightField rule8 onward leap daysIn isDay yearOf realDay dated behindDigits payment pointIn datesBehind rpp bothParts parties taxPlace isTax withKpp taxes valuesOf firstBad rule9 rule10 rule11 rule12 rule13
-idle-inner = (refl, refl, refl, refl, refl, refl)
+idle-easy : Easy 103 (bytes idle)
+unfolding rule18 form103 form202 forms placesOf long rule1 framed body same rule2 scan xset isIn digit capital letter marks shared rule3 cut tagged lineBad badLine rule4 upto past grouped fields find wrong walk walked signOf sign member run counted apart notPlus wayFirst purpose meets fits cell isAs holds tookOf right lives behind widest formats rows firstWrong starts103 starts202 stateOf rightField rule8 onward leap daysIn isDay yearOf realDay dated behindDigits payment pointIn datesBehind rpp bothParts parties taxPlace isTax withKpp taxes valuesOf firstBad rule9 rule10 rule11 rule12 rule13
+idle-easy = (refl, refl, refl, refl, refl, refl, refl, refl, refl, refl, refl, refl)
 
 idle-fine : verdictOf 103 (bytes idle) ≡ Fine
-unfolding verdictOf
-idle-fine =
-    clean-first (messageRules 103 (bytes idle))
-    (idle-frame .0 also idle-frame .1 also idle-frame .2 also idle-frame .3 also idle-frame .4 also idle-frame .5
-    also idle-inner .0 also idle-inner .1 also idle-inner .2 also idle-inner .3 also idle-inner .4 also idle-inner .5 also idle-14 also tt)
+idle-fine = fine-by 103 (bytes idle) idle-easy idle-14
 
 -- ---- its sheet
 details-record : (kind : ℕ) (t l : List ℕ) (ls : List (List ℕ)) (b d : List ℕ) → shapeOf kind t ≡ Details → drop 11 l ++ speeches-of.behind 0 ls ≡ b → reads false b ≡ said d

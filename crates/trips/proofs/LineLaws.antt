@@ -2,15 +2,15 @@
 -- begins with it (Cparty, Crpp, C72, N8). Assumes nothing.
 use Prim.Native.Nat.{ℕ, zero, suc, _+_, _-_, _*_, _≤_, _<_}
 use mathlib.Core.Path.{_≡_, refl, sym, ap, ap₂, _∙_, subst}
-use mathlib.Core.Bool.{Bool, true, false, not, _&&_, _||_, and-false, false≢true, true≢false}
+use mathlib.Core.Bool.{Bool, true, false, not, _&&_, and-false, false≢true, true≢false}
 use mathlib.Core.List.{List, [], _∷_, _++_, map, append-assoc, append-nil}
 use mathlib.Core.Logic.{_⊎_, inl, inr}
 use native.Mathlib.Omega.{arith}
 use native.Mathlib.Decide.{decLe}
-use lib.Dec.{eqb, leb, ltb}
+use lib.Dec.{eqb, leb}
 use lib.ListN.{length, take, drop, length-append, length-take, length-drop, List·getD-append, List·getD-eq-default, take-append-drop}
 use lib.Seq.{take-append-le, drop-append-le, drop-append-add, drop-at, getD-append-add}
-use borrow.Author.Tests.{eqb-true, leb-true, le-leb, lt-leb, ne-eqb}
+use borrow.Author.Tests.{leb-true, le-leb, lt-leb, ne-eqb}
 use Rattle.base.specs.Choice.{pick, all}
 use Rattle.base.specs.Bytes.{byte, begins, empty, other, without}
 use Rattle.base.specs.Quoted.{bytes}
@@ -23,34 +23,10 @@ use Rattle.formats.specs.Format.{member, run, counted, meets, fits}
 use Rattle.forms.specs.Formats.{formats, partyBik, partyAccount, rppLine}
 use Rattle.forms.specs.States.{rows, agentD, rpp103, at72, at72Signed}
 use Rattle.machine.specs.Machine.{cell, isAs, holds, rowsOf, tookOf, tookFrom, right as goesRight}
+use Rattle.trips.proofs.StepLaws.{headed}
 use Rattle.values.specs.Values.{Kind, date, party, at, kindOf, stands, starts, part, pointIn, dateAt, datesBehind, rpp, bothParts, parties}
 
 -- ---- what a format's words take of a text
-abbrev low : ℕ → Bool
-low c = ltb c 128
-
-record Behind (w f s : List ℕ) : Type 0 where
-  rest : List ℕ
-  is : s ≡ w ++ rest
-  on : fits f rest ≡ true
-  size : length s ≡ length w + length rest
-
-by-first : (b x y : Bool) → b ≡ true → pick b x y ≡ true → x ≡ true
-by-first true x y e h = h
-by-first false x y e h = absurd (false≢true e)
-
-word-first : (w f s : List ℕ) → all low w ≡ true → fits (each w ++ f) s ≡ true → Behind w f s
-unfolding fits
-word-first [] f s a e = record { rest = s; is = refl; on = e; size = omega arith }
-word-first (c ∷ w) f s a e =
-    go s (by-first (low c) (begins c s && fits (each w ++ f) (drop 1 s)) _ (left (low c) _ a) e) (λ r h. word-first w f r (right (low c) _ a) h)
-  where
-    go : (s : List ℕ) → (begins c s && fits (each w ++ f) (drop 1 s)) ≡ true → ((r : List ℕ) → fits (each w ++ f) r ≡ true → Behind w f r) → Behind (c ∷ w) f s
-    go [] h k = absurd (false≢true h)
-    go (x ∷ s) h k =
-        let b = k s (right (eqb x c) _ h) in
-        record { rest = b .rest; is = ap₂ (λ (y : ℕ) (ys : List ℕ). y ∷ ys) (eqb-true x c (left (eqb x c) _ h)) (b .is); on = b .on; size = omega arith }
-
 record Ran (c a n : ℕ) (f s : List ℕ) : Type 0 where
   front : List ℕ
   rest : List ℕ
@@ -99,7 +75,20 @@ run-first c a n f s e =
       size = omega arith;
     }
 
-perhaps-first : (f s : List ℕ) → (empty s || fits f s) ≡ true → (s ≡ []) ⊎ (fits f s ≡ true)
+digits-first : (a n : ℕ) (f s : List ℕ) → fits (132 ∷ a ∷ n ∷ f) s ≡ true → Ran 132 a n f s
+unfolding fits counted
+digits-first a n f s e = run-first 132 a n f s e
+
+capitals-first : (a n : ℕ) (f s : List ℕ) → fits (133 ∷ a ∷ n ∷ f) s ≡ true → Ran 133 a n f s
+unfolding fits counted
+capitals-first a n f s e = run-first 133 a n f s e
+
+such-first : (k : ℕ) (f s : List ℕ) → fits (131 ∷ k ∷ 0 ∷ f) s ≡ true → fits f s ≡ true
+unfolding fits
+such-first k f s e = right (meets k s) (fits f s) e
+
+perhaps-first : (f s : List ℕ) → fits (130 ∷ 0 ∷ 0 ∷ f) s ≡ true → (s ≡ []) ⊎ (fits f s ≡ true)
+unfolding fits
 perhaps-first f [] e = inl refl
 perhaps-first f (x ∷ s) e = inr e
 
@@ -116,16 +105,15 @@ unfolding member
 no-point x e = let r = digit-range x e .0 in ap not (ne-eqb x 46 (λ q. omega arith))
 
 pub rpp-line : (l : List ℕ) → fits rppLine l ≡ true → Rpp l
-unfolding fits counted
 rpp-line l e =
-    let a = word-first (bytes "/RPP/") (drop 15 rppLine) l refl e in
-    let b = run-first 132 1 3 (drop 18 rppLine) (a .rest) (a .on) in
-    let c = word-first (bytes ".") (drop 21 rppLine) (b .rest) refl (b .on) in
-    let d = run-first 132 6 6 (drop 24 rppLine) (c .rest) (c .on) in
-    let g = word-first (bytes ".") (drop 27 rppLine) (d .rest) refl (d .on) in
-    let h = run-first 132 1 1 (drop 30 rppLine) (g .rest) (g .on) in
-    let i = word-first (bytes ".") (drop 33 rppLine) (h .rest) refl (h .on) in
-    let j = run-first 133 4 4 (drop 39 rppLine) (i .rest) (right (meets 3 (i .rest)) (fits (drop 36 rppLine) (i .rest)) (i .on)) in
+    let a = headed (bytes "/RPP/") (drop 15 rppLine) l refl e in
+    let b = digits-first 1 3 (drop 18 rppLine) (a .rest) (a .fit) in
+    let c = headed (bytes ".") (drop 21 rppLine) (b .rest) refl (b .on) in
+    let d = digits-first 6 6 (drop 24 rppLine) (c .rest) (c .fit) in
+    let g = headed (bytes ".") (drop 27 rppLine) (d .rest) refl (d .on) in
+    let h = digits-first 1 1 (drop 30 rppLine) (g .rest) (g .fit) in
+    let i = headed (bytes ".") (drop 33 rppLine) (h .rest) refl (h .on) in
+    let j = capitals-first 4 4 (drop 39 rppLine) (i .rest) (such-first 3 (drop 36 rppLine) (i .rest) (i .fit)) in
     let n : length (c .rest) ≡ 13 + length (j .rest) = omega arith in
     record {
       number = b .front;
@@ -138,8 +126,8 @@ rpp-line l e =
     go : (r s : List ℕ) → length s ≡ 13 + length r → (r ≡ []) ⊎ (fits (drop 42 rppLine) r ≡ true) → (length s ≡ 13) ⊎ (20 ≤ length s)
     go r s n (inl z) = let y = ap length z in inl (omega arith)
     go r s n (inr e) =
-        let a = word-first (bytes ".") (drop 45 rppLine) r refl e in
-        let b = run-first 132 6 6 (drop 48 rppLine) (a .rest) (a .on) in
+        let a = headed (bytes ".") (drop 45 rppLine) r refl e in
+        let b = digits-first 6 6 (drop 48 rppLine) (a .rest) (a .fit) in
         inr (omega arith)
 
 -- ---- a party line, as far as 12 looks
@@ -149,18 +137,17 @@ pub data Party (l : List ℕ) : Type 0 where
   account : 2 ≤ length l → eqb (byte l 1) 47 ≡ false → Party l
 
 pub party-bik : (f l : List ℕ) → fits (partyBik ++ f) l ≡ true → Party l
-unfolding fits counted
 party-bik f l e =
-    let a = word-first (bytes "//RU04") (drop 18 partyBik ++ f) l refl e in
-    let b = run-first 132 7 7 (drop 21 partyBik ++ f) (a .rest) (a .on) in
+    let a = headed (bytes "//RU04") (drop 18 partyBik ++ f) l refl e in
+    let b = digits-first 7 7 (drop 21 partyBik ++ f) (a .rest) (a .fit) in
     let n : length l ≡ 13 + length (b .rest) = omega arith in
     go (b .rest) n (perhaps-first (drop 24 partyBik ++ f) (b .rest) (b .on))
   where
     go : (r : List ℕ) → length l ≡ 13 + length r → (r ≡ []) ⊎ (fits (drop 24 partyBik ++ f) r ≡ true) → Party l
     go r n (inl z) = let y = ap length z in bik (omega arith)
     go r n (inr e) =
-        let a = word-first (bytes ".") (drop 27 partyBik ++ f) r refl e in
-        let b = run-first 132 20 20 (drop 30 partyBik ++ f) (a .rest) (a .on) in
+        let a = headed (bytes ".") (drop 27 partyBik ++ f) r refl e in
+        let b = digits-first 20 20 (drop 30 partyBik ++ f) (a .rest) (a .fit) in
         whole (omega arith)
 
 no-slash : (x : ℕ) → member 132 x ≡ true → eqb x 47 ≡ false
@@ -168,10 +155,9 @@ unfolding member
 no-slash x e = let r = digit-range x e .0 in ne-eqb x 47 (λ q. omega arith)
 
 pub party-account : (f l : List ℕ) → fits (partyAccount ++ f) l ≡ true → Party l
-unfolding fits counted
 party-account f l e =
-    let a = word-first (bytes "/") (drop 3 partyAccount ++ f) l refl e in
-    let b = run-first 132 20 20 (drop 6 partyAccount ++ f) (a .rest) (a .on) in
+    let a = headed (bytes "/") (drop 3 partyAccount ++ f) l refl e in
+    let b = digits-first 20 20 (drop 6 partyAccount ++ f) (a .rest) (a .fit) in
     let n : 2 ≤ length l = omega arith in
     account n (go l (b .front) (b .rest) (a .is ∙ ap (λ (x : List ℕ). 47 ∷ x) (b .is)) (b .members) (b .least))
   where
@@ -394,7 +380,7 @@ pub data Note (l : List ℕ) : Type 0 where
   nzp : (r : List ℕ) → l ≡ 47 ∷ 78 ∷ r → Note l
 
 nzp-line : (f l : List ℕ) → fits (each (bytes "/N") ++ f) l ≡ true → Note l
-nzp-line f l e = let a = word-first (bytes "/N") f l refl e in nzp (a .rest) (a .is)
+nzp-line f l e = let a = headed (bytes "/N") f l refl e in nzp (a .rest) (a .is)
 
 pub note103-rpp : (l : List ℕ) (ls : List (List ℕ)) → goesRight formats rows rpp103 (l ∷ ls) ≡ true → Rpp l
 unfolding rows cell isAs formats

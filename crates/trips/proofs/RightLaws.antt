@@ -38,8 +38,9 @@ use Rattle.details.specs.declared.Place.the-variants.{In70, In72, BehindRpp}
 use Rattle.details.specs.declared.Size.{Size}
 use Rattle.details.specs.declared.Size.the-variants.{Bytes, Unfit}
 use Rattle.details.proofs.Theorems.{Fitted, fitted}
-use Rattle.writer.specs.Spread.{castParts, code, told, rppLine, notePlace, contentLines}
-use Rattle.writer.specs.Sheet.{isUnfit, crowded}
+use Rattle.lines.specs.Spread.{castParts, code, told, rppLine, notePlace, contentLines}
+use Rattle.lines.specs.Steps.{isUnfit}
+use Rattle.drafts.specs.Sheet.{crowded}
 use Rattle.written.proofs.SpeltLaws.{said-is, spelt-empty}
 use Rattle.written.proofs.ReadyLaws as ready
 use Rattle.written.proofs.ReadyLaws.{speaks, Laid, Ready}

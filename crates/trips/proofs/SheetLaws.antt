@@ -42,13 +42,11 @@ use Rattle.records.proofs.PieceLaws.{some-piece}
 use Rattle.records.proofs.PlaceLaws.{size-sheet}
 use Rattle.records.proofs.SheetLaws.{records-sheet, rest-sheet}
 use Rattle.records.proofs.RuleLaws.{sound-fine, named-size}
-use Rattle.writer.specs.Spread.{fieldFor, spread}
-use Rattle.writer.specs.Sheet.{someCrowded, rule15, rule16, fieldsOf, messageFor, sheetRules}
+use Rattle.drafts.specs.Sheet.{someCrowded, rule15, rule16, sheetRules}
 use Rattle.written.specs.Sentences.{Every}
 use Rattle.written.proofs.BuiltLaws.{shape-20}
 use Rattle.written.proofs.ReadyLaws.{speaking, roomy, rule15-fine, rule16-fine}
 use Rattle.sheets.specs.Gather.{partFor, contentParts, recordFor, gather, typeRecord, recordsOf, sheetOf}
-use Rattle.trips.specs.Again.{fieldAgain}
 use Rattle.trips.proofs.Held.{SheetedField}
 
 -- ---- the type is one of the two
@@ -192,18 +190,6 @@ module _ (kind : ℕ) (s : Bool) (fs : List Field) (eighteen : rule18 kind ≡ F
   read-as : {A : Type 0} (f : ℕ → Bool → List Record → A) → f (sheetType sheetFor) (sheetSign sheetFor) (records sheetFor) ≡ f kind s (typeRecord kind ∷ gather kind s fs)
   read-as f = ap (λ (k : ℕ). f k (sheetSign sheetFor) (records sheetFor)) its-type ∙ ap₂ (f kind) its-sign its-records
 
-  pub its-fields : fieldsOf sheetFor ≡ map (fieldAgain kind s) fs
-  unfolding fieldsOf spread gather
-  its-fields = read-as (λ (k : ℕ) (b : Bool) (rs : List Record). map (fieldFor k b) (tail rs)) ∙ go fs
-    where
-      go : (gs : List Field) → map (fieldFor kind s) (map (recordFor kind s) gs) ≡ map (fieldAgain kind s) gs
-      go [] = refl
-      go (field t ls ∷ gs) = ap (λ (k : List Field). fieldAgain kind s (field t ls) ∷ k) (go gs)
-
-  pub its-message : messageFor sheetFor ≡ message (map (fieldAgain kind s) fs)
-  unfolding messageFor
-  its-message = ap message its-fields
-
   -- ---- rule by rule
   pub its-sound : Sound sheetFor
   unfolding gather
@@ -295,10 +281,6 @@ module _ (kind : ℕ) (m : List ℕ) (fine : verdictOf kind m ≡ Fine) (each : 
   pub accepted-sign : sheetSign (sheetOf kind m) ≡ signOf (fields m)
   unfolding sheetOf recordsOf
   accepted-sign = its-sign kind (signOf (fields m)) (fields m) (clean .0) refl tags each
-
-  pub accepted-message : messageFor (sheetOf kind m) ≡ message (map (fieldAgain kind (signOf (fields m))) (fields m))
-  unfolding sheetOf recordsOf
-  accepted-message = its-message kind (signOf (fields m)) (fields m) (clean .0) refl tags each
 
   pub accepted-passes : Clean (sheetRules (sheetOf kind m)) ⊎ ((first (sheetRules (sheetOf kind m)) ≡ Broken 16 0) × (signOf (fields m) ≡ true))
   unfolding sheetOf recordsOf

@@ -1,6 +1,6 @@
 -- What a line is that has a format of details or of an RPP line, and the row of a table that a line takes (C70, C72, Cdetails, Crpp). Assumes
 -- nothing.
-use Prim.Native.Nat.{ℕ, zero, suc, _-_, _≤_}
+use Prim.Native.Nat.{ℕ, zero, suc, _+_, _-_, _≤_}
 use mathlib.Core.Path.{_≡_, refl, sym, ap, ap₂, _∙_}
 use mathlib.Core.Bool.{Bool, true, false, _&&_, true≢false, false≢true}
 use mathlib.Core.List.{List, [], _∷_, _++_}
@@ -26,15 +26,16 @@ pub record Headed (w f l : List ℕ) : Type 0 where
   pub rest : List ℕ
   pub is : l ≡ w ++ rest
   pub fit : fits f rest ≡ true
+  pub size : length l ≡ length w + length rest
 
 pub headed : (w f l : List ℕ) → all low w ≡ true → fits (each w ++ f) l ≡ true → Headed w f l
 unfolding fits
-headed [] f l e h = record { rest = l; is = refl; fit = h }
+headed [] f l e h = record { rest = l; is = refl; fit = h; size = omega arith }
 headed (b ∷ w) f [] e h = absurd (false≢true (rw (left (low b) _ e) at h))
 headed (b ∷ w) f (x ∷ l) e h =
     let g : (eqb x b && fits (each w ++ f) l) ≡ true = rw (left (low b) _ e) at h in
     let r = headed w f l (right (low b) _ e) (right (eqb x b) _ g) in
-    record { rest = r .rest; is = ap₂ (λ (y : ℕ) (k : List ℕ). y ∷ k) (eqb-true x b (left (eqb x b) _ g)) (r .is); fit = r .fit }
+    record { rest = r .rest; is = ap₂ (λ (y : ℕ) (k : List ℕ). y ∷ k) (eqb-true x b (left (eqb x b) _ g)) (r .is); fit = r .fit; size = omega arith }
 
 -- n digits come first
 ran : (n : ℕ) (l : List ℕ) → n ≤ run 132 n l → (run 132 n l ≡ n) × (length (take n l) ≡ n) × (all digit (take n l) ≡ true)

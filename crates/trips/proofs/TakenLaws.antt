@@ -24,7 +24,7 @@ use Rattle.details.specs.Breaking.{opens}
 use Rattle.details.specs.Layouts.{layout, marked}
 use Rattle.details.specs.declared.Place.{Place}
 use Rattle.details.specs.declared.Place.the-variants.{In70, In72, BehindRpp}
-use Rattle.writer.specs.Spread.{code, rppLine}
+use Rattle.lines.specs.Spread.{code, rppLine}
 use Rattle.trips.proofs.StepLaws.{low, headed, between, some-byte, some-digit, ended, Takes, Row, here, next, row, only, taken}
 
 -- ---- later lines: each stands behind its mark

@@ -23,7 +23,8 @@ use Rattle.roles.specs.Role.{shapeOf}
 use Rattle.roles.specs.declared.Shape.{Shape}
 use Rattle.roles.specs.declared.Shape.the-variants.{Plain, Payer, Payee, Agent, Details, Note103, Note202}
 use Rattle.judge.specs.Message.{messageRules, verdictOf}
-use Rattle.writer.specs.Sheet.{messageFor, sheetRules, ownRule, atStart, writeRules, MessageTo}
+use Rattle.drafts.specs.Sheet.{messageFor, sheetRules}
+use Rattle.writer.specs.Sheet.{ownRule, atStart, writeRules, MessageTo}
 use Rattle.written.specs.Sentences.{Every}
 use Rattle.sheets.specs.Gather.{sheetOf}
 use Rattle.sheets.specs.Calls.{readRules, SheetTo}

@@ -36,11 +36,13 @@ use Rattle.details.specs.declared.Place.the-variants.{In70, In72, BehindRpp}
 use Rattle.details.specs.declared.Size.{Size}
 use Rattle.details.specs.declared.Size.the-variants.{Bytes, Unfit}
 use Rattle.details.proofs.Theorems.{unfit-none}
-use Rattle.writer.specs.Spread.{castParts, coded, code, told, rppLine, notePlace}
-use Rattle.writer.specs.Sheet.{isUnfit, crowded}
+use Rattle.lines.specs.Spread.{castParts, coded, code, told, rppLine, notePlace}
+use Rattle.lines.specs.Steps.{isUnfit}
+use Rattle.drafts.specs.Sheet.{crowded}
 use Rattle.written.proofs.ReadyLaws.{speaks}
 use Rattle.written.proofs.CastLaws.{behind-code, code-size, unmarked}
-use Rattle.sheets.specs.Gather.{codeDigits, toldParts, noteParts, contentParts}
+use Rattle.contents.specs.Contents.{codeDigits}
+use Rattle.sheets.specs.Gather.{toldParts, noteParts, contentParts}
 use Rattle.trips.proofs.Held.{Held, Noted, details, note103, note202, Sheeted}
 use Rattle.trips.proofs.TakenLaws.{Told, told-lines, rpp-alone, Note, with-rpp, without, note-lines}
 use Rattle.trips.proofs.SaidLaws.{Says, says-plain, says-signed, says-written, plain-said, says-short, set-text, says-text, digits-set}

@@ -17,7 +17,7 @@ use Rattle.formats.specs.Format.{member, run, counted, fits, formatAt}
 use Rattle.machine.specs.Machine.{isAs}
 use Rattle.forms.specs.Formats.{formats, #slash, #innDigit, #rppMark, #account, #taxLine, #taxLine10, #rppLine}
 use Rattle.values.specs.Values.{stands, starts, isTax, isRpp}
-use Rattle.writer.specs.Spread.{rppLine}
+use Rattle.lines.specs.Spread.{rppLine}
 
 -- ---- words
 -- a byte of a word

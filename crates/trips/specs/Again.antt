@@ -7,7 +7,7 @@ use Rattle.alphabets.specs.Bank.{reading}
 use Rattle.alphabets.specs.Best.{writing}
 use Rattle.fields.specs.Field.{Field, field}
 use Rattle.roles.specs.Role.{shapeOf, Part, copy, name, taxName}
-use Rattle.writer.specs.Spread.{contentLines}
+use Rattle.lines.specs.Spread.{contentLines}
 use Rattle.sheets.specs.Gather.{contentParts}
 
 -- a text as it is written for what it says

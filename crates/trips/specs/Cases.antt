@@ -11,7 +11,8 @@ use Rattle.base.specs.declared.Verdict.the-variants.{Fine, Broken}
 use Rattle.frame.specs.Cases.{sample}
 use Rattle.judge.specs.Message.{verdictOf}
 use Rattle.records.specs.Cases.{desk}
-use Rattle.writer.specs.Sheet.{messageFor, sheetRules, writeRules}
+use Rattle.drafts.specs.Sheet.{messageFor, sheetRules}
+use Rattle.writer.specs.Sheet.{writeRules}
 use Rattle.written.specs.Cases.{sheet103}
 use Rattle.sheets.specs.Gather.{sheetOf}
 use Rattle.sheets.specs.Calls.{readRules}
@@ -43,23 +44,37 @@ abbrev pub signed202 : String
 signed202 =
     "{4:\r\n:20:+B2\r\n:21:NONREF\r\n:32A:240301RUB1000,\r\n:53B:/D/30111810500000100000\r\n:58D:/30101810400000000225\r\nINN7707083893\r\nSBERBANK 'OOO'\r\n:72:/RPP/7.240301.5.ELEK.240301\r\n/NZP/'(VO10100)'PEREVOD SREDSTV PO \r\n//DOGOVORU 'A'\r\n-}"
 
+abbrev pub plainSheet : String
+plainSheet =
+    "MT\t202\n20\tB3\n21\tNONREF\n32A\t991231RUB0,01\n53B\t/D/30111810500000100000\n58A\t/30101810400000000225\tSABRRUMM\n72\t\t10100\tPAYMENT\n"
+
+abbrev pub signedSheet : String
+signedSheet =
+    "MT\t202\n20\t+B2\n21\tNONREF\n32A\t240301RUB1000,\n53B\t/D/30111810500000100000\n58D\t/30101810400000000225\tINN7707083893\tСБЕРБАНК OOO\n72\t7.240301.5.ELEK.240301\t10100\tПЕРЕВОД СРЕДСТВ ПО ДОГОВОРУ A\n"
+
+-- names and details that are spelt otherwise than they are written, and broken otherwise; and as they are written
+abbrev pub otherwise103 : String
+otherwise103 =
+    "{4:\r\n:20:+A17\r\n:23B:CRED\r\n:32A:240229RUB1500,5\r\n:50K:/40702\r\n'NO''RD'\r\n:53B:/D/30111810500000100000\r\n:59:/40702810700000099079\r\nOOO ' 'PoTR\r\n:70:'(VO10100)'OPLATA\r\n 'CNTR 5'\r\n:71A:OUR\r\n-}"
+
+abbrev pub otherwiseSheet : String
+otherwiseSheet =
+    "MT\t103\n20\t+A17\n23B\tCRED\n32A\t240229RUB1500,5\n50K\t/40702\tNORD\n53B\t/D/30111810500000100000\n59\t/40702810700000099079\tООО  ПЁТР\n70\t10100\tОПЛАТА CNTR 5\n71A\tOUR\n"
+
+abbrev pub best103 : String
+best103 =
+    "{4:\r\n:20:+A17\r\n:23B:CRED\r\n:32A:240229RUB1500,5\r\n:50K:/40702\r\n'NORD'\r\n:53B:/D/30111810500000100000\r\n:59:/40702810700000099079\r\nOOO  PoTR\r\n:70:'(VO10100)'OPLATA 'CNTR' 5\r\n:71A:OUR\r\n-}"
+
 unfoldable pub trips : List Case
 trips =
     -- the example of the rules
     trip 103 sample sheet103 sample
-    ∷ trip 202 plain202
-    "MT\t202\n20\tB3\n21\tNONREF\n32A\t991231RUB0,01\n53B\t/D/30111810500000100000\n58A\t/30101810400000000225\tSABRRUMM\n72\t\t10100\tPAYMENT\n"
-    plain202
-    ∷ trip 202 signed202
-    "MT\t202\n20\t+B2\n21\tNONREF\n32A\t240301RUB1000,\n53B\t/D/30111810500000100000\n58D\t/30101810400000000225\tINN7707083893\tСБЕРБАНК OOO\n72\t7.240301.5.ELEK.240301\t10100\tПЕРЕВОД СРЕДСТВ ПО ДОГОВОРУ A\n"
-    signed202
+    ∷ trip 202 plain202 plainSheet plain202
+    ∷ trip 202 signed202 signedSheet signed202
     -- N17: one unit short, and the whole length named
     ∷ narrow 103 sample 166 167
-    -- K7: names and details that are spelt otherwise than they are written, and broken otherwise
-    ∷ trip 103
-    "{4:\r\n:20:+A17\r\n:23B:CRED\r\n:32A:240229RUB1500,5\r\n:50K:/40702\r\n'NO''RD'\r\n:53B:/D/30111810500000100000\r\n:59:/40702810700000099079\r\nOOO ' 'PoTR\r\n:70:'(VO10100)'OPLATA\r\n 'CNTR 5'\r\n:71A:OUR\r\n-}"
-    "MT\t103\n20\t+A17\n23B\tCRED\n32A\t240229RUB1500,5\n50K\t/40702\tNORD\n53B\t/D/30111810500000100000\n59\t/40702810700000099079\tООО  ПЁТР\n70\t10100\tОПЛАТА CNTR 5\n71A\tOUR\n"
-    "{4:\r\n:20:+A17\r\n:23B:CRED\r\n:32A:240229RUB1500,5\r\n:50K:/40702\r\n'NORD'\r\n:53B:/D/30111810500000100000\r\n:59:/40702810700000099079\r\nOOO  PoTR\r\n:70:'(VO10100)'OPLATA 'CNTR' 5\r\n:71A:OUR\r\n-}"
+    -- K7
+    ∷ trip 103 otherwise103 otherwiseSheet best103
     ∷ []
 
 -- K7: two lines hold 25 - only by an idle pair of apostrophes in front of the second; without the pair they can't be broken

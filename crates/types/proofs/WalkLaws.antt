@@ -93,15 +93,6 @@ pub data Refused (ps : List Place) (next o : ℕ) (fs : List Field) (n p : ℕ) 
   atEnd : Missing ps next o fs n p → Refused ps next o fs n p
 
 -- ---- a tag's place
-pub find-within : (ps : List Place) (t : List ℕ) → find ps t ≤ length ps
-unfolding find
-find-within [] t = omega arith
-find-within (p ∷ ps) t = go (isOf t p) (find-within ps t)
-  where
-    go : (b : Bool) → find ps t ≤ length ps → pick b 0 (suc (find ps t)) ≤ suc (length ps)
-    go true h = omega arith
-    go false h = omega arith
-
 -- where one place more stands in front
 further : {ps : List Place} {t : List ℕ} {q : ℕ} (p : Place) → isOf t p ≡ false → Stands ps t q → Stands (p ∷ ps) t (suc q)
 further {ps} {t} {q} p e s = record { within = omega (arith, s .within); has = s .has; before = go }

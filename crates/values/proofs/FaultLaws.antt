@@ -1,20 +1,20 @@
 -- What a field's content is judged by its tag's number. Assumes nothing.
 use Prim.Native.Nat.{ℕ, _+_, _≤_, _<_}
 use mathlib.Core.Path.{_≡_, refl, sym, ap, ap₂, _∙_}
-use mathlib.Core.Bool.{Bool, true, false, not, _&&_, _||_, false≢true, true≢false, or-false}
+use mathlib.Core.Bool.{Bool, true, false, not, _||_, false≢true, true≢false, or-false}
 use mathlib.Core.List.{List, [], _∷_}
 use native.Mathlib.Omega.{arith}
 use lib.Dec.{eqb, leb}
 use lib.ListN.{length, drop}
 use borrow.Author.Tests.{eq-eqb, ne-eqb, le-leb, lt-leb}
 use Rattle.base.specs.Choice.{pick}
-use Rattle.base.specs.Bytes.{byte, same}
+use Rattle.base.specs.Bytes.{same}
 use Rattle.base.specs.Quoted.{bytes}
 use Rattle.base.proofs.ByteLaws.{same-is}
 use Rattle.fields.specs.Shapes.{unpack}
 use Rattle.fields.proofs.PackLaws.{same-unpack}
 use Rattle.types.specs.Walk.{among}
-use Rattle.values.specs.Values.{Kind, date, money, party, at, part, payment, rpp, bothParts, parties, partyTags, valuesOf}
+use Rattle.values.specs.Values.{Kind, date, money, party, at, stands, part, payment, rpp, bothParts, parties, partyTags, valuesOf}
 use Rattle.values.specs.Judged.{has, noDay, foreign, apart}
 use Rattle.values.specs.Answers.{dayAt, faultOf}
 use Rattle.values.proofs.TextLaws.{part-three}
@@ -42,17 +42,14 @@ module _ (c : List ℕ) where
       go true = refl
       go false = refl
 
-  pub paid-rub : 9 ≤ length c → faultOf foreign (payment c) ≡ pick (eqb (byte c 6) 82) (pick (eqb (byte c 7) 85) (pick (eqb (byte c 8) 66) 0 7) 7) 7
+  pub paid-rub : 9 ≤ length c → (b : Bool) → stands (bytes "RUB") 6 c ≡ b → faultOf foreign (payment c) ≡ pick b 0 7
   unfolding faultOf same
-  paid-rub h =
-      ap (faultOf foreign) (paid true (le-leb 9 (length c) h)) ∙ ap (λ (s : List ℕ). pick (not (same s (bytes "RUB"))) 7 0) (part-three c 6 h)
-      ∙ go (eqb (byte c 6) 82) (eqb (byte c 7) 85) (eqb (byte c 8) 66)
+  paid-rub h b e =
+      ap (faultOf foreign) (paid true (le-leb 9 (length c) h)) ∙ ap (λ (s : List ℕ). pick (not (same s (bytes "RUB"))) 7 0) (part-three c 6 h) ∙ ap (λ (q : Bool). pick (not q) 7 0) e ∙ go b
     where
-      go : (x y z : Bool) → _≡_ {A = ℕ} (pick (not (x && (y && (z && true)))) 7 0) (pick x (pick y (pick z 0 7) 7) 7)
-      go true true true = refl
-      go true true false = refl
-      go true false z = refl
-      go false y z = refl
+      go : (q : Bool) → _≡_ {A = ℕ} (pick (not q) 7 0) (pick q 0 7)
+      go true = refl
+      go false = refl
 
 -- ---- by the number
 tag-is : (n k : ℕ) → n ≡ k → same (unpack n) (unpack k) ≡ true

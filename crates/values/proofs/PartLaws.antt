@@ -1,7 +1,7 @@
 -- RPP lines, party lines and tax lines, test by test. Assumes nothing.
 use Prim.Native.Nat.{ℕ, suc, _+_, _-_, _≤_, _<_}
 use mathlib.Core.Path.{_≡_, refl, sym, ap, ap₂, _∙_}
-use mathlib.Core.Bool.{Bool, true, false, not, _&&_, and-false, and-true, or-false}
+use mathlib.Core.Bool.{Bool, true, false, not, _&&_, and-false, or-false}
 use mathlib.Core.List.{List, [], _∷_, _++_}
 use native.Mathlib.Omega.{arith}
 use lib.Dec.{eqb, leb}
@@ -9,15 +9,15 @@ use lib.ListN.{length, take, drop, drop-of-length-le, length-drop, List·getD-eq
 use lib.Seq.{take-all}
 use borrow.Author.Tests.{eq-eqb, ne-eqb, le-leb, lt-leb}
 use Rattle.base.specs.Choice.{pick}
-use Rattle.base.specs.Bytes.{byte, digit, same}
+use Rattle.base.specs.Bytes.{upTo, byte, digit, same}
 use Rattle.base.specs.Quoted.{bytes}
 use Rattle.base.proofs.ByteLaws.{begins-byte}
 use Rattle.fields.specs.Field.{upto}
 use Rattle.values.specs.Day.{realDay}
-use Rattle.values.specs.Values.{party, at, starts, numbered, part, lineAt, behindDigits, pointIn, dateAt, datesBehind, isRpp, rpp, bothParts, parties, taxPlace, isTax, withKpp}
+use Rattle.values.specs.Values.{stands, party, at, starts, numbered, part, lineAt, behindDigits, pointIn, dateAt, datesBehind, isRpp, rpp, bothParts, parties, taxPlace, isTax, withKpp}
 use Rattle.values.specs.Judged.{has, noDay, apart}
 use Rattle.values.specs.Answers.{dayAt, kppOf, faultOf}
-use Rattle.values.proofs.TextLaws.{part-three, take-upto}
+use Rattle.values.proofs.TextLaws.{upto-length, part-three, take-upto}
 use Rattle.values.proofs.DayLaws.{day-within}
 
 -- ---- the dates of an RPP line
@@ -88,35 +88,43 @@ module _ (c : List ℕ) where
       go true e = rpp-is e ∙ dates-none (pointIn c) c (omega arith)
       go false e = rpp-not e
 
+pub point-is : (c : List ℕ) (n : ℕ) → n ≡ 5 + upTo 46 (drop 5 c) → n ≡ pointIn c
+unfolding pointIn
+point-is c n e = e ∙ ap (λ (k : ℕ). 5 + k) (upto-length 46 (drop 5 c))
+
 -- ---- party lines
 module _ (c : List ℕ) where
   pub both-short : length c < 34 → bothParts c ≡ false
   unfolding bothParts
   both-short h = ap (λ (b : Bool). b && (starts (bytes "//RU") c && eqb (byte c 13) 46)) (lt-leb 34 (length c) h)
 
+  pub both-by : 34 ≤ length c → {x y : Bool} → eqb (byte c 0) 47 ≡ x → stands (47 ∷ 82 ∷ 85 ∷ []) 1 c ≡ y → bothParts c ≡ ((x && y) && eqb (byte c 13) 46)
+  unfolding bothParts
+  both-by h p q = ap (λ (b : Bool). b && (starts (bytes "//RU") c && eqb (byte c 13) 46)) (le-leb 34 (length c) h) ∙ ap₂ (λ (x y : Bool). (x && y) && eqb (byte c 13) 46) p q
+
   pub not-both : bothParts c ≡ false → has apart (parties c) ≡ false
   unfolding parties
   not-both e = ap (λ (b : Bool). has apart (pick b (at 0 (party (part 10 3 c) (part 31 3 c)) ∷ []) [])) e
 
-  -- digit by digit
-  pub both-apart : 34 ≤ length c → bothParts c ≡ true
-      → has apart (parties c) ≡ pick (eqb (byte c 10) (byte c 31)) (pick (eqb (byte c 11) (byte c 32)) (not (eqb (byte c 12) (byte c 33))) true) true
+  pub both-apart : 34 ≤ length c → bothParts c ≡ true → {r : Bool} → r ≡ stands (byte c 31 ∷ byte c 32 ∷ byte c 33 ∷ []) 10 c → not r ≡ has apart (parties c)
   unfolding parties same
-  both-apart h e =
-      ap (λ (b : Bool). has apart (pick b (at 0 (party (part 10 3 c) (part 31 3 c)) ∷ []) [])) e
+  both-apart h e q =
+      ap not q
+      ∙ sym (ap (λ (b : Bool). has apart (pick b (at 0 (party (part 10 3 c) (part 31 3 c)) ∷ []) [])) e
       ∙ or-false (not (same (part 10 3 c) (part 31 3 c)))
-      ∙ ap₂ (λ (a b : List ℕ). not (same a b)) (part-three c 10 (omega arith)) (part-three c 31 (omega arith))
-      ∙ go (eqb (byte c 10) (byte c 31)) (eqb (byte c 11) (byte c 32)) (eqb (byte c 12) (byte c 33))
-    where
-      go : (x y z : Bool) → not (x && (y && (z && true))) ≡ pick x (pick y (not z) true) true
-      go true true z = ap not (and-true z)
-      go true false z = refl
-      go false y z = refl
+      ∙ ap₂ (λ (a b : List ℕ). not (same a b)) (part-three c 10 (omega arith)) (part-three c 31 (omega arith)))
 
 -- ---- tax lines
 pub numbered-short : (w l : List ℕ) → length l < 4 → numbered w l ≡ false
 unfolding digit
 numbered-short w l h = let g : length l ≤ 3 = omega arith in ap (λ (x : ℕ). starts w l && digit x) (List·getD-eq-default l 0 g) ∙ and-false (starts w l)
+
+-- by the three letters
+pub numbered-by : (w l : List ℕ) {b : Bool} → starts w l ≡ b → numbered w l ≡ (b && digit (byte l 3))
+numbered-by w l e = ap (λ (b : Bool). b && digit (byte l 3)) e
+
+pub kpp-by : (s : List ℕ) {x : Bool} → eqb (byte s 0) 46 ≡ x → starts (bytes ".KPP") s ≡ (x && stands (75 ∷ 80 ∷ 80 ∷ []) 1 s)
+kpp-by s e = ap (λ (b : Bool). b && stands (75 ∷ 80 ∷ 80 ∷ []) 1 s) e
 
 pub kpp-behind : (l : List ℕ) (i : ℕ) → behindDigits (drop 3 l) ≡ drop i l → withKpp l ≡ starts (bytes ".KPP") (drop i l)
 unfolding withKpp
@@ -149,8 +157,8 @@ module _ (payer : Bool) (c : List ℕ) where
   kpp-empty h = kpp-past (taxPlace payer c) refl (omega arith)
 
 -- the line at the front, and the tax place behind it, where a loop found its end
-pub front-line : (s : List ℕ) (n : ℕ) → n ≡ 0 + length (upto 13 s) → take n s ≡ upto 13 s
-front-line s n e = let f : n ≡ length (upto 13 s) = omega arith in ap (λ (k : ℕ). take k s) f ∙ take-upto 13 s
+pub front-line : (s : List ℕ) (n : ℕ) → n ≡ 0 + upTo 13 s → take n s ≡ upto 13 s
+front-line s n e = let f : n ≡ length (upto 13 s) = omega (arith, upto-length 13 s) in ap (λ (k : ℕ). take k s) f ∙ take-upto 13 s
 
-pub place-behind : (payer : Bool) (c : List ℕ) (n : ℕ) → n ≡ 0 + length (upto 13 c) → (payer && not (eqb (byte c 0) 47)) ≡ false → taxPlace payer c ≡ n + 2
-place-behind payer c n e f = let g : length (upto 13 c) + 2 ≡ n + 2 = omega arith in place-second payer c f ∙ g
+pub place-behind : (payer : Bool) (c : List ℕ) (n : ℕ) → n ≡ 0 + upTo 13 c → (payer && not (eqb (byte c 0) 47)) ≡ false → taxPlace payer c ≡ n + 2
+place-behind payer c n e f = let g : length (upto 13 c) + 2 ≡ n + 2 = omega (arith, upto-length 13 c) in place-second payer c f ∙ g

@@ -1,6 +1,6 @@
 -- Texts looked at by their bytes: words, parts, lines and digits. Assumes nothing.
 use Prim.Native.Nat.{ℕ, suc, _+_, _≤_, _<_}
-use mathlib.Core.Path.{_≡_, refl, sym, ap, _∙_}
+use mathlib.Core.Path.{_≡_, refl, sym, ap, ap₂, _∙_}
 use mathlib.Core.Bool.{Bool, true, false, _&&_, and-false, and-true}
 use mathlib.Core.List.{List, [], _∷_}
 use native.Mathlib.Omega.{arith}
@@ -10,7 +10,7 @@ use lib.ListN.{length, take, drop, drop-of-length-le}
 use lib.Seq.{drop-cons}
 use borrow.Author.Tests.{eq-eqb, ne-eqb, eqb-false}
 use Rattle.base.specs.Choice.{pick, all}
-use Rattle.base.specs.Bytes.{byte, digit, other}
+use Rattle.base.specs.Bytes.{byte, digit, other, upTo}
 use Rattle.base.proofs.Bools.{left, right, isnt}
 use Rattle.fields.specs.Field.{upto}
 use Rattle.values.specs.Values.{stands, starts, part, behindDigits}
@@ -27,9 +27,32 @@ starts-short (y ∷ w) [] e h = rw (ne-eqb 0 y (λ q. eqb-false y 0 (isnt (eqb y
 starts-short (y ∷ w) (x ∷ s) e h =
     ap (λ (b : Bool). eqb x y && b) (stands-tail w 0 x s ∙ starts-short w s (right (other 0 y) (all (other 0) w) e) (omega arith)) ∙ and-false (eqb x y)
 
--- the last test of a word
-pub and-end : {s : Bool} (a : Bool) → s ≡ a → s ≡ (a && true)
-and-end a e = e ∙ sym (and-true a)
+-- three bytes one by one
+pub three-stand : (s : List ℕ) (i a b c : ℕ) {r : Bool} → r ≡ pick (eqb (byte s i) a) (pick (eqb (byte s (i + 1)) b) (eqb (byte s (i + 2)) c) false) false → r ≡ stands (a ∷ b ∷ c ∷ []) i s
+three-stand s i a b c e =
+    let x : i + 1 ≡ suc i = omega arith in
+    let y : i + 2 ≡ suc (suc i) = omega arith in
+    e ∙ ap₂ (λ (j k : ℕ). pick (eqb (byte s i) a) (pick (eqb (byte s j) b) (eqb (byte s k) c) false) false) x y ∙ go (eqb (byte s i) a) (eqb (byte s (suc i)) b) (eqb (byte s (suc (suc i))) c)
+  where
+    go : (x y z : Bool) → pick x (pick y z false) false ≡ (x && (y && (z && true)))
+    go true true z = sym (and-true z)
+    go true false z = refl
+    go false y z = refl
+
+-- a byte more in front and one more behind
+pub three-within : (s : List ℕ) (a b c d e : ℕ) {r : Bool} → r ≡ pick (eqb (byte s 0) a) (pick (eqb (byte s 4) e) (stands (b ∷ c ∷ d ∷ []) 1 s) false) false → r ≡ starts (a ∷ b ∷ c ∷ d ∷ e ∷ []) s
+three-within s a b c d e q = q ∙ go (eqb (byte s 0) a) (eqb (byte s 1) b) (eqb (byte s 2) c) (eqb (byte s 3) d) (eqb (byte s 4) e)
+  where
+    go : (v w x y z : Bool) → pick v (pick z (w && (x && (y && true))) false) false ≡ (v && (w && (x && (y && (z && true)))))
+    go true true true true true = refl
+    go true true true true false = refl
+    go true true true false true = refl
+    go true true true false false = refl
+    go true true false y true = refl
+    go true true false y false = refl
+    go true false x y true = refl
+    go true false x y false = refl
+    go false w x y z = refl
 
 -- ---- parts
 part-cons : (c : List ℕ) (i n : ℕ) → i < length c → part i (suc n) c ≡ byte c i ∷ part (i + 1) n c
@@ -72,7 +95,16 @@ pub upto-end : (c : ℕ) (s : List ℕ) (i : ℕ) → length s ≤ i → upto c 
 unfolding upto
 upto-end c s i h = rw (drop-of-length-le s h)
 
--- so far is the line
+-- so far is the mark, and so far is the line
+pub upto-length : (c : ℕ) (s : List ℕ) → upTo c s ≡ length (upto c s)
+unfolding upto upTo
+upto-length c [] = refl
+upto-length c (x ∷ s) = go (eqb x c) (upto-length c s)
+  where
+    go : (b : Bool) → upTo c s ≡ length (upto c s) → pick b 0 (suc (upTo c s)) ≡ length (pick b [] (x ∷ upto c s))
+    go true h = refl
+    go false h = ap suc h
+
 pub take-upto : (c : ℕ) (s : List ℕ) → take (length (upto c s)) s ≡ upto c s
 unfolding upto
 take-upto c [] = refl

@@ -7,6 +7,7 @@ ghost use Rattle.values.specs.Values.{payment, partyTags, valuesOf};
 ghost use Rattle.values.specs.Judged.{noDay, foreign, apart, tags56, tags57};
 ghost use Rattle.values.specs.Answers.{faultOf};
 use super::days::is_day;
+use super::parts::has_three;
 use super::parts::is_apart;
 use super::parts::rpp_fault;
 
@@ -61,16 +62,10 @@ pub fn currency_fault(tag: u32, content: &[u8]) -> usize
     if content.len() < 9 {
         return 0;
     }
-    if content[6] != 82 {
-        return 7;
+    if has_three(content, 6, 82, 85, 66) {
+        return 0;
     }
-    if content[7] != 85 {
-        return 7;
-    }
-    if content[8] != 66 {
-        return 7;
-    }
-    0
+    7
 }
 
 fn has_party(tag: u32) -> bool

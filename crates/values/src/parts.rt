@@ -7,11 +7,26 @@ ghost use lib.Dec.{eqb};
 ghost use lib.ListN.{length, drop};
 ghost use Rattle.base.specs.Quoted.{bytes};
 ghost use Rattle.fields.specs.Field.{upto};
-ghost use Rattle.values.specs.Values.{starts, numbered, datesBehind, isRpp, rpp, bothParts, parties, behindDigits, isTax, withKpp};
+ghost use Rattle.values.specs.Values.{stands, starts, numbered, datesBehind, isRpp, rpp, bothParts, parties, behindDigits, isTax, withKpp};
 ghost use Rattle.values.specs.Judged.{has, noDay, apart};
 ghost use Rattle.values.specs.Answers.{kppOf, faultOf};
 use super::days::is_day;
 use base::bytes::is_digit;
+use base::marks::mark_at;
+
+// Whether these three bytes stand at that place.
+pub(crate) fn has_three(s: &[u8], i: usize, a: u8, b: u8, c: u8) -> bool
+    requires { ⌜ i + 3 ≤ length (now s) ⌝ }
+    ensures { λ r. ⌜ r ≡ stands (a ∷ b ∷ c ∷ []) i (now (s .entry)) ⌝ }
+{
+    if s[i] != a {
+        return false;
+    }
+    if s[i + 1] != b {
+        return false;
+    }
+    s[i + 2] == c
+}
 
 // An RPP line, or a content that begins with one.
 pub fn is_rpp(content: &[u8]) -> bool
@@ -23,31 +38,10 @@ pub fn is_rpp(content: &[u8]) -> bool
     if content[0] != 47 {
         return false;
     }
-    if content[1] != 82 {
+    if content[4] != 47 {
         return false;
     }
-    if content[2] != 80 {
-        return false;
-    }
-    if content[3] != 80 {
-        return false;
-    }
-    content[4] == 47
-}
-
-// The first place from that one on where the byte is this one, or the length.
-fn end_of(s: &[u8], stop: u8, from: usize) -> usize
-    requires { ⌜ from ≤ length (now s) ⌝ }
-    ensures { λ r. ⌜ (r ≡ from + length (upto stop (drop from (now (s .entry))))) × (r ≤ length (now (s .entry))) ⌝ }
-{
-    let mut i = from;
-    while i < s.len() {
-        if s[i] == stop {
-            return i;
-        }
-        i += 1;
-    }
-    i
+    has_three(content, 1, 82, 80, 80)
 }
 
 // One more than the place of the first date behind that point that is no day, or 0.
@@ -83,25 +77,17 @@ pub fn rpp_fault(content: &[u8]) -> usize
     if !is_rpp(content) {
         return 0;
     }
-    dates_fault(content, end_of(content, 46, 5))
+    dates_fault(content, mark_at(46, content, 5))
 }
 
 fn has_both(content: &[u8]) -> bool
+    requires { ⌜ 34 ≤ length (now content) ⌝ }
     ensures { λ r. ⌜ r ≡ bothParts (now (content .entry)) ⌝ }
 {
-    if content.len() < 34 {
-        return false;
-    }
     if content[0] != 47 {
         return false;
     }
-    if content[1] != 47 {
-        return false;
-    }
-    if content[2] != 82 {
-        return false;
-    }
-    if content[3] != 85 {
+    if !has_three(content, 1, 47, 82, 85) {
         return false;
     }
     content[13] == 46
@@ -117,13 +103,7 @@ pub fn is_apart(content: &[u8]) -> bool
     if !has_both(content) {
         return false;
     }
-    if content[10] != content[31] {
-        return true;
-    }
-    if content[11] != content[32] {
-        return true;
-    }
-    content[12] != content[33]
+    !has_three(content, 10, content[31], content[32], content[33])
 }
 
 // Where the digits from that place on end.
@@ -150,13 +130,7 @@ fn is_kpp(s: &[u8]) -> bool
     if s[0] != 46 {
         return false;
     }
-    if s[1] != 75 {
-        return false;
-    }
-    if s[2] != 80 {
-        return false;
-    }
-    s[3] == 80
+    has_three(s, 1, 75, 80, 80)
 }
 
 // Whether a text begins with these three letters and a digit.
@@ -166,13 +140,7 @@ pub fn is_numbered(s: &[u8], a: u8, b: u8, c: u8) -> bool
     if s.len() < 4 {
         return false;
     }
-    if s[0] != a {
-        return false;
-    }
-    if s[1] != b {
-        return false;
-    }
-    if s[2] != c {
+    if !has_three(s, 0, a, b, c) {
         return false;
     }
     is_digit(s[3])
@@ -202,7 +170,7 @@ fn is_kpp_line(line: &[u8]) -> bool
 fn is_kpp_front(s: &[u8]) -> bool
     ensures { λ r. ⌜ r ≡ (isTax (upto 13 (now (s .entry))) && withKpp (upto 13 (now (s .entry)))) ⌝ }
 {
-    let n = end_of(s, 13, 0);
+    let n = mark_at(13, s, 0);
     is_kpp_line(&s[..n])
 }
 
@@ -226,7 +194,7 @@ pub fn has_kpp(content: &[u8], payer: bool) -> bool
     if is_first(payer, content[0]) {
         return is_kpp_front(content);
     }
-    let n = end_of(content, 13, 0);
+    let n = mark_at(13, content, 0);
     if content.len() - n < 2 {
         return false;
     }

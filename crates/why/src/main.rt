@@ -6,16 +6,19 @@ mod lines;
 mod meanings;
 mod show;
 
-use asked::Form;
-use asked::Question;
-use asked::form_of;
+use asked::is_whole;
 use asked::message_of;
+use base::bytes::is_same;
+use base::bytes::past;
 use libc::STDIN_FILENO;
 use libc::STDOUT_FILENO;
-use lines::find;
-use lines::front;
 use meanings::tell_number;
 use show::show;
+use stored::behind;
+use stored::line_at;
+use stored::number;
+use stored::rest;
+use stored::word;
 
 fn tell_usage() {
     io::write_all(
@@ -24,29 +27,31 @@ fn tell_usage() {
     );
 }
 
-fn explain(question: Question, input: &[u8]) {
-    let sheet = question.sheet;
-    let number = question.number;
-    let place = question.place;
-    tell_number(number);
-    if sheet {
-        show(true, number, place, input);
+fn explain(program: &[u8], rule: usize, place: usize, input: &[u8]) {
+    if is_same(program, b"tomessage") {
+        tell_number(rule);
+        show(true, rule, place, input);
         return;
     }
-    show(false, number, place, message_of(input));
+    if is_same(program, b"tosheet") {
+        tell_number(rule);
+        show(false, rule, place, message_of(input));
+        return;
+    }
+    tell_usage();
 }
 
+// Three words with tabs between, and behind their LF the input.
 fn answer(all: &[u8]) {
-    let end = find(all, 0, b'\n');
-    if end == all.len() {
+    let line = line_at(all, 0);
+    let input = behind(all, 0, line.len());
+    let rule = number(word(b'\t', line, 1));
+    let place = number(rest(b'\t', line, 2));
+    if !is_whole(input, rule, place) {
         tell_usage();
         return;
     }
-    let Form::Right(question) = form_of(front(all, end)) else {
-        tell_usage();
-        return;
-    };
-    explain(question, &all[end + 1..]);
+    explain(word(b'\t', line, 0), rule, place, past(all, input));
 }
 
 // Room for the line and for an input that is a little too long.

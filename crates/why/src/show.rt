@@ -1,11 +1,11 @@
 // The field and the line that hold the place, and the mark under it.
 ghost use Prim.Native.Nat.{_<_};
 ghost use lib.ListN.{length};
-use crate::lines::find;
-use crate::lines::front;
 use crate::lines::last_start;
 use crate::lines::line_from;
+use base::bytes::front;
 use libc::STDOUT_FILENO;
+use stored::up_to;
 
 // The place of this number is a byte of the sheet or message.
 fn is_byte(sheet: bool, number: usize) -> bool {
@@ -18,9 +18,8 @@ fn is_byte(sheet: bool, number: usize) -> bool {
 
 // The tag is what stands before the first b, three bytes at most.
 fn tell_tag(text: &[u8], b: u8) {
-    let n = find(text, 0, b);
     io::write_all(STDOUT_FILENO, b"field\t");
-    io::write_all(STDOUT_FILENO, front(front(text, n), 3));
+    io::write_all(STDOUT_FILENO, front(up_to(b, text), 3));
     io::write_all(STDOUT_FILENO, b"\n");
 }
 

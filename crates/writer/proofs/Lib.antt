@@ -1,5 +1,1 @@
-pub mod StepLaws
-pub mod PartLaws
-pub mod NoteLaws
-pub mod PutLaws
 pub mod CallLaws

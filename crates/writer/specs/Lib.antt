@@ -1,3 +1,2 @@
-pub mod Spread
 pub mod Sheet
 pub mod Steps

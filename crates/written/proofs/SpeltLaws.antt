@@ -17,11 +17,11 @@ use Rattle.base.proofs.ByteLaws.{begins-byte}
 use Rattle.base.proofs.CallLaws.{not-said}
 use Rattle.alphabets.specs.Grid.{grid, Kind, unwritable, russian, latin, common, kind, spell, allowed, sign}
 use Rattle.alphabets.specs.Bank.{after, reads, plainly}
-use Rattle.alphabets.specs.Best.{latinNext, sideFor, cross, best, Spot, nowhere, at, spotAfter, bad, orStuck, writes, writing}
+use Rattle.alphabets.specs.Best.{latinNext, sideFor, cross, best, nowhere, spotAfter, bad, writing}
 use Rattle.alphabets.proofs.GridLaws.{Back, write-read}
 use Rattle.alphabets.proofs.Back.{never}
 use Rattle.alphabets.proofs.Shortest.{Came, turned, signed, came}
-use Rattle.alphabets.proofs.Theorems.{plain-only, plain-iff, reads-back}
+use Rattle.alphabets.proofs.Theorems.{Written, written, plain-only, plain-iff, reads-back}
 use Rattle.fields.specs.Shapes.{goesOn}
 use Rattle.values.specs.Values.{starts, isTax}
 use Rattle.roles.specs.Rule14.{hidden, isInn}
@@ -143,18 +143,6 @@ best-empty (x ∷ xs) = go (sideFor (kind x) false (latinNext xs))
     go : (t : Bool) → empty (cross false t (spell (kind x) t x ∷ best t xs)) ≡ false
     go true = refl
     go false = refl
-
-record Written (d t : List ℕ) : Type 0 where
-  whole : bad d ≡ nowhere
-  is : t ≡ best false d
-
-written-by : (p : Spot) (d t : List ℕ) → bad d ≡ p → orStuck p (best false d) ≡ said t → Written d t
-written-by nowhere d t b e = record { whole = b; is = cc }
-written-by (at k) d t b e = absurd (not-said k t e)
-
-written : (d t : List ℕ) → writes d ≡ said t → Written d t
-unfolding writes
-written d t e = written-by (bad d) d t refl e
 
 -- a mark stands at the front exactly if it stands at the desk text's
 pub spelt-head : (s : Bool) (c : ℕ) (d t : List ℕ) → Mark c → writing s d ≡ said t → begins c t ≡ begins c d

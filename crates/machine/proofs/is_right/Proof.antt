@@ -6,14 +6,14 @@ use borrow.Author.Needs.{needs}
 use lib.ListN.{length, drop}
 use Rattle.machine.specs.Lines.{linesIn}
 use Rattle.machine.specs.Machine.{endsAt, right}
-use Rattle.machine.proofs.LineLaws.{len-rest}
+use Rattle.base.proofs.MarkLaws.{up-rest}
 use Rattle.machine.proofs.MachineLaws.{right-last, right-more, right-stuck}
 use Rattle.machine.proofs.is_right.Statement.{statement}
 use Rattle.machine.proofs.is_right.Tie as tie
 use Rattle.machine.proofs.is_right.Reads as reads
 use Rattle.machine.proofs.is_right.Lts as lts
 use Rattle.machine.proofs.ends_at.Reads as ends-at-reads
-use Rattle.machine.proofs.lines.line_end.Reads as line-end-reads
+use Rattle.base.proofs.marks.mark_at.Reads as mark-at-reads
 use Rattle.machine.proofs.lines.next_line.Reads as next-line-reads
 use Rattle.machine.proofs.next_at.Reads as next-at-reads
 use Rattle.machine.proofs.took_row.Reads as took-row-reads
@@ -29,8 +29,8 @@ loop-holds : tie.Need-loop-holds Inv-loop μ-loop
 loop-holds c = (search needs, refl)
 
 -- src/lib.rt:91:13
-line-end-requires : tie.Need-line-end-requires Inv-loop μ-loop
-line-end-requires c κs = search needs
+mark-at-requires : tie.Need-mark-at-requires Inv-loop μ-loop
+mark-at-requires c κs = search needs
 
 -- src/lib.rt:92:39
 sub-took-row : tie.Need-sub-took-row Inv-loop μ-loop
@@ -42,7 +42,7 @@ part-took-row-start c = search needs
 
 -- src/lib.rt:92:39
 part-took-row-end : tie.Need-part-took-row-end Inv-loop μ-loop
-part-took-row-end c = let l = c .before in omega (arith, len-rest (l .before .before .before .before .args .content .now) (l .loop .at) (l .loop .inv .0))
+part-took-row-end c = let l = c .before in omega (arith, up-rest 13 (l .before .before .before .before .args .content .now) (l .loop .at) (l .loop .inv .0))
 
 -- src/lib.rt:92:13
 took-row-requires : tie.Need-took-row-requires Inv-loop μ-loop
@@ -51,7 +51,7 @@ took-row-requires c κs = search needs
 -- src/lib.rt:94:13
 returns : tie.Need-returns Inv-loop μ-loop
 returns c = let t = c .before in let n = t .before .before in let l = n .before in let a = l .before .before .before .before .args in
-    sym (l .loop .inv .1 ∙ right-stuck (a .f .now) (a .m .now) (l .loop .state) (a .content .now) (l .loop .at) (n .line-end .result) (t .took-row .result) (l .loop .inv .0) (n .line-end .ensures) (t .took-row .ensures) (c .if1 .taken))
+    sym (l .loop .inv .1 ∙ right-stuck (a .f .now) (a .m .now) (l .loop .state) (a .content .now) (l .loop .at) (n .mark-at .result) (t .took-row .result) (l .loop .inv .0) (n .mark-at .ensures) (t .took-row .ensures) (c .if1 .taken))
 
 -- src/lib.rt:96:9
 next-at-requires : tie.Need-next-at-requires Inv-loop μ-loop
@@ -65,7 +65,7 @@ ends-at-requires c κs = search needs
 returns-2 : tie.Need-returns-2 Inv-loop μ-loop
 returns-2 c = let x = c .before .before in let e = x .before in let t = e .before in let n = t .before .before in let l = n .before in let a = l .before .before .before .before .args in
     c .ends-at .ensures ∙ ap (λ (k : ℕ). endsAt (a .m .now) k) (x .next-at .ensures)
-    ∙ sym (l .loop .inv .1 ∙ right-last (a .f .now) (a .m .now) (l .loop .state) (a .content .now) (l .loop .at) (n .line-end .result) (t .took-row .result) (l .loop .inv .0) (n .line-end .ensures) (t .took-row .ensures) (c .before .if2 .taken) (e .if1 .left))
+    ∙ sym (l .loop .inv .1 ∙ right-last (a .f .now) (a .m .now) (l .loop .state) (a .content .now) (l .loop .at) (n .mark-at .result) (t .took-row .result) (l .loop .inv .0) (n .mark-at .ensures) (t .took-row .ensures) (c .before .if2 .taken) (e .if1 .left))
 
 -- src/lib.rt:100:9
 next-line-requires : tie.Need-next-line-requires Inv-loop μ-loop
@@ -80,8 +80,8 @@ loop-again : tie.Need-loop-again Inv-loop μ-loop
 loop-again c = let x = c .before .before in let e = x .before in let t = e .before in let n = t .before .before in let l = n .before in let a = l .before .before .before .before .args in (
   omega arith,
   l .loop .inv .1
-      ∙ right-more (a .f .now) (a .m .now) (l .loop .state) (a .content .now) (l .loop .at) (n .line-end .result) (t .took-row .result) (l .loop .inv .0) (n .line-end .ensures) (t .took-row .ensures) (c .before .if2 .left) (e .if1 .left)
-      ∙ ap (λ (k : ℕ). right (a .f .now) (a .m .now) k (linesIn (drop (min (n .line-end .result + 2) (length (a .content .now))) (a .content .now)))) (sym (x .next-at .ensures))
+      ∙ right-more (a .f .now) (a .m .now) (l .loop .state) (a .content .now) (l .loop .at) (n .mark-at .result) (t .took-row .result) (l .loop .inv .0) (n .mark-at .ensures) (t .took-row .ensures) (c .before .if2 .left) (e .if1 .left)
+      ∙ ap (λ (k : ℕ). right (a .f .now) (a .m .now) k (linesIn (drop (min (n .mark-at .result + 2) (length (a .content .now))) (a .content .now)))) (sym (x .next-at .ensures))
       ∙ ap (λ (k : ℕ). right (a .f .now) (a .m .now) (x .next-at .result) (linesIn (drop k (a .content .now)))) (sym (c .next-line .ensures)),
 )
 
@@ -92,7 +92,7 @@ is-right-spec =
     Inv-loop
     μ-loop
     loop-holds
-    line-end-requires
+    mark-at-requires
     sub-took-row
     part-took-row-start
     part-took-row-end

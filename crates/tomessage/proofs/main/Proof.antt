@@ -6,6 +6,9 @@ use borrow.Author.Needs.{needs}
 use Rattle.tomessage.proofs.main.Statement.{statement}
 use Rattle.tomessage.proofs.main.Tie as tie
 
+sheet-room-requires : tie.Need-sheet-room-requires
+sheet-room-requires c κs = search needs
+
 slice-aggregate-read-full : tie.Need-slice-aggregate-read-full
 slice-aggregate-read-full c = search needs
 
@@ -49,6 +52,7 @@ pub main-spec : {M : Type 1} → statement M
 main-spec =
     tie.close
     (tie.spec
+    sheet-room-requires
     slice-aggregate-read-full
     read-full-requires
     array-share-prefix-sheet

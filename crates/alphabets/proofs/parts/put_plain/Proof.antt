@@ -1,49 +1,42 @@
-use mathlib.Core.Path.{_≡_, sym, ap, _∙_}
-use Rattle.base.specs.Calls.{placed}
+use Prim.Native.Nat.{ℕ}
+use mathlib.Core.Path.{_≡_, refl, _∙_, ap}
+use mathlib.Core.List.{List}
+use native.Mathlib.Omega.{arith}
+use Rattle.base.specs.Bytes.{lead, classes}
+use Rattle.base.proofs.ByteLaws.{Bytes}
 use Rattle.alphabets.specs.Bank.{plainly}
-use Rattle.alphabets.specs.Steps.{sizeOf}
-use Rattle.alphabets.specs.declared.Size.the-variants.{Units, Bad}
-use Rattle.alphabets.proofs.PartLaws.{none-room, bad-text, plain-text}
+use Rattle.alphabets.proofs.PartLaws.{stuck-put, said-put}
+use Rattle.alphabets.proofs.TextLaws.{plain-stuck, plain-said}
 use borrow.Author.Needs.{needs}
 use Rattle.alphabets.proofs.parts.put_plain.Statement.{statement}
 use Rattle.alphabets.proofs.parts.put_plain.Tie as tie
 
--- what was measured
-bad : (c : tie.After-known-told) → Bad (c .before .k .given .0 .0) ≡ sizeOf (plainly (c .before .before .before .before .before .before .args .text .now))
-bad c = sym (c .before .k .given .1) ∙ c .before .before .before .plain-size .ensures
+-- the text is bytes, and its front is what the table says
+bytes : (c : tie.After-lead-of) → Bytes (c .before .before .before .before .before .args .text .now)
+bytes c = λ i. omega (arith, c .before .before .before .before .shared-slice-known .given i)
 
-units : (c : tie.After-known-told2) → Units (c .before .n .given .0 .0) ≡ sizeOf (plainly (c .before .before .before .before .before .before .args .text .now))
-units c = sym (c .before .n .given .1) ∙ c .before .before .before .plain-size .ensures
+front : (c : tie.After-lead-of) → c .lead-of .result ≡ lead classes (c .before .before .before .before .before .args .text .now)
+front c = c .lead-of .ensures ∙ ap (λ (t : List ℕ). lead t (c .before .before .before .before .before .args .text .now)) (c .before .before .x-classes .ensures)
 
-plain-size-requires : tie.Need-plain-size-requires
-plain-size-requires c κs = search needs
+x-classes-requires : tie.Need-x-classes-requires
+x-classes-requires c κs = search needs
 
-enum-known-k : tie.Need-enum-known-k
-enum-known-k c = search needs
+lead-of-requires : tie.Need-lead-of-requires
+lead-of-requires c κs = search needs
 
-enum-known-n : tie.Need-enum-known-n
-enum-known-n c = search needs
+returns : tie.Need-returns
+returns c = let f = c .before in let a = f .before .before .before .before .before .args in stuck-put (plainly (a .text .now)) (a .out .now) (a .at) _ (plain-stuck (a .text .now) (bytes f) (f .lead-of .result) (front f) (c .if1 .taken))
 
 put-requires : tie.Need-put-requires
 put-requires c κs = search needs
-
-returns : tie.Need-returns
-returns c = let a = c .before .before .before .before .before .before .args in (bad c, none-room (a .out .now) (a .at) _ (bad-text (plainly (a .text .now)) _ (bad c)))
 
 same-length : tie.Need-same-length
 same-length c = search needs
 
 returns-2 : tie.Need-returns-2
-returns-2 c = let p = c .before .before in let k = p .before .before in let a = k .before .before .before .before .before .before .args in (units k, p .put .ensures ∙ ap (placed (a .out .now) (a .at)) (sym (plain-text (a .text .now) _ (units k))))
+returns-2 c = let p = c .before .before in let e = p .before .before in let f = e .before in let a = f .before .before .before .before .before .args in said-put (plainly (a .text .now)) (a .out .now) (a .at) (a .text .now) _ _ (plain-said (a .text .now) (bytes f) (f .lead-of .result) (front f) (e .if1 .left)) refl (p .put .ensures)
 
 pub put-plain-spec : {M : Type 1} → statement M
 put-plain-spec =
     tie.close
-    (tie.spec
-    plain-size-requires
-    enum-known-k
-    enum-known-n
-    put-requires
-    returns
-    same-length
-    returns-2)
+    (tie.spec x-classes-requires lead-of-requires returns put-requires same-length returns-2)

@@ -6,7 +6,7 @@ use borrow.Author.Needs.{needs}
 use lib.ListN.{length, drop}
 use Rattle.runs.specs.Runs.{run}
 use Rattle.alphabets.specs.Pieces.{floorOf}
-use Rattle.alphabets.proofs.PieceLaws.{Taking, taking-start, taking-end, taking-ended, taking-run, taking-stops, taking-on}
+use Rattle.alphabets.proofs.PieceLaws.{Taking, taking-start, taking-end, taking-run, taking-stops, taking-on}
 use Rattle.alphabets.proofs.pieces.read_piece.Statement.{statement}
 use Rattle.alphabets.proofs.pieces.read_piece.Tie as tie
 

@@ -1,11 +1,10 @@
 -- `alphabets::pieces::sign_from` meets its contract: the sign from i on is the sign from the start on. Assumes nothing.
-use Prim.Native.Nat.{ℕ, _-_, _+_, _<_, _≤_}
-use mathlib.Core.Path.{_≡_, refl, sym, _∙_, ap, subst}
+use Prim.Native.Nat.{_-_, _≤_}
+use mathlib.Core.Path.{_≡_, refl, sym, _∙_}
 use native.Mathlib.Omega.{arith}
 use borrow.Author.Needs.{needs}
 use lib.ListN.{length, getD}
-use Rattle.alphabets.specs.Pieces.{floorOf, heardOf, signFrom}
-use Rattle.alphabets.specs.declared.pieces.Sign.{Sign}
+use Rattle.alphabets.specs.Pieces.{floorOf, signFrom}
 use Rattle.alphabets.proofs.PieceLaws.{sign-here, sign-stops, sign-on, sign-end, sign-made}
 use Rattle.alphabets.proofs.pieces.sign_from.Statement.{statement}
 use Rattle.alphabets.proofs.pieces.sign_from.Tie as tie

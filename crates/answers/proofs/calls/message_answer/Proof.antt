@@ -1,6 +1,6 @@
 -- `answers::calls::message_answer` meets its contract: the call on the sheet, and its answer shown. Assumes nothing.
 use lib.ListN.{replicate}
-use Rattle.answers.proofs.CallLaws.{answer-held, answered}
+use Rattle.answers.proofs.CallLaws.{answered}
 use borrow.Author.Needs.{needs}
 use Rattle.answers.proofs.calls.message_answer.Statement.{statement}
 use Rattle.answers.proofs.calls.message_answer.Tie as tie
@@ -18,7 +18,7 @@ slice-aggregate-put-shown : tie.Need-slice-aggregate-put-shown
 slice-aggregate-put-shown c = search needs
 
 put-shown-requires : tie.Need-put-shown-requires
-put-shown-requires c κs = let a = c .before .before .before .before .before .before .before .before .args in answer-held (a .sheet .now) (replicate 10000 0) (c .before .before .before .before .to-message .last .1 .0) (search needs) (c .before .before .before .before .to-message .result) (c .before .before .before .before .to-message .ensures) (c .before .before .past-room .ensures)
+put-shown-requires c κs = search needs
 
 same-length : tie.Need-same-length
 same-length c = search needs

@@ -1,7 +1,6 @@
 -- `answers::calls::read_named` meets its contract: 18 where no type is named, else the call on what stands behind it. Assumes nothing.
 use mathlib.Core.Path.{refl}
-use native.Mathlib.Omega.{arith}
-use Rattle.answers.proofs.LineLaws.{rest-of}
+use Rattle.refusals.proofs.LineLaws.{rest-of}
 use Rattle.answers.proofs.TypeLaws.{off, on, named}
 use Rattle.answers.proofs.SheetLaws.{reads-untyped, reads-typed}
 use borrow.Author.Needs.{needs}

@@ -1,6 +1,6 @@
 -- `answers::calls::sheet_answer` meets its contract: the call on the input, and its answer shown. Assumes nothing.
 use lib.ListN.{replicate}
-use Rattle.answers.proofs.SheetLaws.{sheet-held, sheet-answered}
+use Rattle.answers.proofs.SheetLaws.{sheet-answered}
 use borrow.Author.Needs.{needs}
 use Rattle.answers.proofs.calls.sheet_answer.Statement.{statement}
 use Rattle.answers.proofs.calls.sheet_answer.Tie as tie
@@ -15,7 +15,7 @@ slice-aggregate-put-shown : tie.Need-slice-aggregate-put-shown
 slice-aggregate-put-shown c = search needs
 
 put-shown-requires : tie.Need-put-shown-requires
-put-shown-requires c κs = sheet-held (c .before .before .before .before .before .before .before .args .input .now) (replicate 10000 0) (c .before .before .before .read-named .last .1 .0) (search needs) (c .before .before .before .read-named .result) (c .before .before .before .read-named .ensures)
+put-shown-requires c κs = search needs
 
 same-length : tie.Need-same-length
 same-length c = search needs

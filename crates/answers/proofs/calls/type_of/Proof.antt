@@ -1,6 +1,6 @@
 -- `answers::calls::type_of` meets its contract: the digits are there, and are digits. Assumes nothing.
 use native.Mathlib.Omega.{arith}
-use Rattle.answers.proofs.TypeLaws.{Named, named}
+use Rattle.answers.proofs.TypeLaws.{named}
 use borrow.Author.Needs.{needs}
 use Rattle.answers.proofs.calls.type_of.Statement.{statement}
 use Rattle.answers.proofs.calls.type_of.Tie as tie

@@ -15,9 +15,6 @@ tell-kopecks-requires c κs = search needs
 tell-date-requires : tie.Need-tell-date-requires
 tell-date-requires c κs = search needs
 
-tell-sheet-requires : tie.Need-tell-sheet-requires
-tell-sheet-requires c κs = search needs
-
 returns : tie.Need-returns
 returns c = search needs
 
@@ -29,5 +26,4 @@ answer-spec =
     tell-parts-requires
     tell-kopecks-requires
     tell-date-requires
-    tell-sheet-requires
     returns)

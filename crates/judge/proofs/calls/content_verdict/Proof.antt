@@ -1,5 +1,6 @@
 -- `judge::calls::content_verdict` meets its contract. Assumes nothing.
 use Rattle.judge.proofs.CallLaws.{sign-is, content-refused, content-inner}
+use Rattle.judge.proofs.PartLaws.{signed-is}
 use mathlib.Core.Path.{_∙_}
 use borrow.Author.Needs.{needs}
 use Rattle.judge.proofs.calls.content_verdict.Statement.{statement}
@@ -10,7 +11,7 @@ use Rattle.judge.proofs.calls.inner_verdict.Reads as inner-verdict-read
 use Rattle.judge.proofs.contents.contents_rule.Reads as contents-rule-reads
 use Rattle.forms.proofs.format_table.Reads as format-table-reads
 use Rattle.forms.proofs.row_table.Reads as row-table-reads
-use Rattle.judge.proofs.parts.is_signed.Reads as is-signed-reads
+use Rattle.judge.proofs.sign.is_signed.Reads as is-signed-reads
 
 is-signed-requires : tie.Need-is-signed-requires
 is-signed-requires c κs = search needs
@@ -28,19 +29,19 @@ enum-known-v : tie.Need-enum-known-v
 enum-known-v c = search needs
 
 returns : tie.Need-returns
-returns c = let s = (c .before .before .before .before .before .before .before .before .before .before) in let a = s .args in content-refused (a .kind) (a .m .now) (sign-is (a .kind) (a .m .now) (s .pre .2) (c .before .before .before .before .before .before .before .before .is-signed .ensures)) (c .before .before .before .contents-rule .ensures) (c .before .v .given .1)
+returns c = let s = (c .before .before .before .before .before .before .before .before .before .before) in let a = s .args in content-refused (a .kind) (a .m .now) (sign-is (a .kind) (a .m .now) (s .pre .2) (c .before .before .before .before .before .before .before .before .is-signed .ensures ∙ signed-is (s .pre .0))) (c .before .before .before .contents-rule .ensures) (c .before .v .given .1)
 
 enum-told : tie.Need-enum-told
 enum-told c = search needs
 
 inner-verdict-requires : tie.Need-inner-verdict-requires
-inner-verdict-requires c κs = let s = (c .before .before .before .before .before .before .before .before .before) in let a = s .args in (s .pre .0, s .pre .1, sign-is (a .kind) (a .m .now) (s .pre .2) (c .before .before .before .before .before .before .before .is-signed .ensures))
+inner-verdict-requires c κs = let s = (c .before .before .before .before .before .before .before .before .before) in let a = s .args in (s .pre .0, s .pre .1, sign-is (a .kind) (a .m .now) (s .pre .2) (c .before .before .before .before .before .before .before .is-signed .ensures ∙ signed-is (s .pre .0)))
 
 returns-2 : tie.Need-returns-2
 returns-2 c =
     let s = (c .before .before .before .before .before .before .before .before .before .before) in
     let a = s .args in
-    content-inner (a .kind) (a .m .now) (sign-is (a .kind) (a .m .now) (s .pre .2) (c .before .before .before .before .before .before .before .before .is-signed .ensures)) (c .before .before .before .contents-rule .ensures) (c .before .enum-told .given .1) (c .inner-verdict .ensures)
+    content-inner (a .kind) (a .m .now) (sign-is (a .kind) (a .m .now) (s .pre .2) (c .before .before .before .before .before .before .before .before .is-signed .ensures ∙ signed-is (s .pre .0))) (c .before .before .before .contents-rule .ensures) (c .before .enum-told .given .1) (c .inner-verdict .ensures)
 
 pub content-verdict-spec : {M : Type 1} → statement M
 content-verdict-spec =

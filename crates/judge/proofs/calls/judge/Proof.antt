@@ -14,59 +14,57 @@ use Rattle.judge.proofs.calls.content_verdict.Reads as content-verdict-
 frame-requires : tie.Need-frame-requires
 frame-requires c κs = search needs
 
-enum-known-verdict : tie.Need-enum-known-verdict
-enum-known-verdict c = search needs
-
-refused-requires : tie.Need-refused-requires
-refused-requires c κs = search needs
-
-returns : tie.Need-returns
-returns c = let a = (c .before .before .before .before .before .before .before .args) in frame-refused (a .kind) (a .m .now) (refused-by (a .kind) (a .m .now) (c .before .before .before .before .before .frame .ensures) (c .before .before .verdict .given .1)) (c .refused .ensures)
-
 enum-told : tie.Need-enum-told
 enum-told c = search needs
+
+returns : tie.Need-returns
+returns c =
+    let a = (c .before .before .before .before .before .args) in
+    let e = (c .before .before .before .frame .ensures) in
+    frame-refused (a .kind) (a .m .now) e (refused-by (a .kind) (a .m .now) e (c .enum-told .given .1))
+
+enum-told-2 : tie.Need-enum-told-2
+enum-told-2 c = search needs
 
 content-verdict-requires : tie.Need-content-verdict-requires
 content-verdict-requires c κs =
     let a = (c .before .before .before .before .before .before .args) in
     let e = (c .before .before .before .before .frame .ensures) in
-    let q = (c .before .enum-told .given .1) in
+    let q = (c .before .enum-told2 .given .1) in
     let f = found (a .kind) (a .m .now) e q in
     (settled f, fields-counted (a .kind) (a .m .now) e q, taken (a .kind) (a .m .now) (f .clean) .walk-fine)
 
 enum-known-v : tie.Need-enum-known-v
 enum-known-v c = search needs
 
-refused-requires-2 : tie.Need-refused-requires-2
-refused-requires-2 c κs = search needs
+refused-requires : tie.Need-refused-requires
+refused-requires c κs = search needs
 
 returns-2 : tie.Need-returns-2
 returns-2 c =
     let a = (c .before .before .before .before .before .before .before .before .before .before .before .args) in
-    judged-refused (a .kind) (a .m .now) (refused-by (a .kind) (a .m .now) (c .before .before .before .before .before .before .before .before .before .frame .ensures) (c .before .before .before .before .before .before .enum-told .given .1)) (c .before .before .before .before .content-verdict .ensures) (c .before .before .v .given .1) (c .refused2 .ensures)
+    judged-refused (a .kind) (a .m .now) (refused-by (a .kind) (a .m .now) (c .before .before .before .before .before .before .before .before .before .frame .ensures) (c .before .before .before .before .before .before .enum-told2 .given .1)) (c .before .before .before .before .content-verdict .ensures) (c .before .before .v .given .1) (c .refused .ensures)
 
-enum-told-2 : tie.Need-enum-told-2
-enum-told-2 c = search needs
+enum-told-3 : tie.Need-enum-told-3
+enum-told-3 c = search needs
 
 returns-3 : tie.Need-returns-3
 returns-3 c =
     let a = (c .before .before .before .before .before .before .before .before .before .args) in
     let e = (c .before .before .before .before .before .before .before .frame .ensures) in
-    let q = (c .before .before .before .before .enum-told .given .1) in
-    judged-fine (a .kind) (a .m .now) (refused-by (a .kind) (a .m .now) e q) (c .before .before .content-verdict .ensures) (c .enum-told2 .given .1) (fields-counted (a .kind) (a .m .now) e q) (found (a .kind) (a .m .now) e q)
+    judged-fine (a .kind) (a .m .now) (refused-by (a .kind) (a .m .now) e (c .before .before .before .before .enum-told2 .given .1)) (c .before .before .content-verdict .ensures) e (c .enum-told3 .given .1)
 
 pub judge-spec : {M : Type 1} → statement M
 judge-spec =
     tie.close
     (tie.spec
     frame-requires
-    enum-known-verdict
-    refused-requires
-    returns
     enum-told
+    returns
+    enum-told-2
     content-verdict-requires
     enum-known-v
-    refused-requires-2
+    refused-requires
     returns-2
-    enum-told-2
+    enum-told-3
     returns-3)

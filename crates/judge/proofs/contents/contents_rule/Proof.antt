@@ -6,7 +6,7 @@ use Rattle.forms.specs.FieldRules.{firstWrong}
 use Rattle.fields.specs.Places.{startOf}
 use Rattle.fields.specs.Field.{fields}
 use Rattle.base.specs.Bytes.{byte}
-use lib.ListN.{length, drop}
+use lib.ListN.{drop}
 use native.Mathlib.Omega.{arith}
 use borrow.Author.Tests.{not-true, not-false}
 use mathlib.Core.Path.{_≡_, sym, _∙_}
@@ -16,9 +16,8 @@ use Rattle.judge.proofs.contents.contents_rule.Statement.{statement}
 use Rattle.judge.proofs.contents.contents_rule.Tie as tie
 use Rattle.judge.proofs.contents.contents_rule.Reads as reads
 use Rattle.judge.proofs.contents.contents_rule.Lts as lts
-use Rattle.forms.proofs.state_of.Reads as state-of-reads
 use Rattle.judge.proofs.parts.field_at.Reads as field-at-reads
-use Rattle.machine.proofs.is_right.Reads as is-right-reads
+use Rattle.forms.proofs.is_right_field.Reads as is-right-field-reads
 
 abbrev Inv-loop : tie.InvT-loop
 Inv-loop kind sign f r m spots n k₀ k = (k ≤ n) × (firstWrong 8 (rightField kind sign) startOf 5 (fields m) ≡ firstWrong 8 (rightField kind sign) startOf (byte spots k) (drop k (fields m)))
@@ -32,40 +31,37 @@ loop-holds c = let a = (c .before .args) in (omega arith, walk-start ((c .before
 field-at-requires : tie.Need-field-at-requires Inv-loop μ-loop
 field-at-requires c κs = ((c .before .before .before .pre .2), omega (arith, (c .loop-test .taken), (c .before .before .before .pre .3)))
 
-state-of-requires : tie.Need-state-of-requires Inv-loop μ-loop
-state-of-requires c κs = search needs
+sub-is-right-field : tie.Need-sub-is-right-field Inv-loop μ-loop
+sub-is-right-field c = let h = (c .before .before .field-at .ensures) in omega (arith, h .low, h .high)
 
-sub-is-right : tie.Need-sub-is-right Inv-loop μ-loop
-sub-is-right c = let h = (c .before .before .before .field-at .ensures) in omega (arith, h .low, h .high)
+part-is-right-field-start : tie.Need-part-is-right-field-start Inv-loop μ-loop
+part-is-right-field-start c = let h = (c .before .before .field-at .ensures) in omega (arith, h .low, h .high)
 
-part-is-right-start : tie.Need-part-is-right-start Inv-loop μ-loop
-part-is-right-start c = let h = (c .before .before .before .field-at .ensures) in omega (arith, h .low, h .high)
+part-is-right-field-end : tie.Need-part-is-right-field-end Inv-loop μ-loop
+part-is-right-field-end c = let h = (c .before .before .field-at .ensures) in omega (arith, h .low, h .high)
 
-part-is-right-end : tie.Need-part-is-right-end Inv-loop μ-loop
-part-is-right-end c = let h = (c .before .before .before .field-at .ensures) in omega (arith, h .low, h .high)
-
-is-right-requires : tie.Need-is-right-requires Inv-loop μ-loop
-is-right-requires c κs = search needs
+is-right-field-requires : tie.Need-is-right-field-requires Inv-loop μ-loop
+is-right-field-requires c κs = search needs
 
 returns : tie.Need-returns Inv-loop μ-loop
 returns c =
-    let s = (c .before .before .before .before .before .before .before .before .before .before) in
+    let s = (c .before .before .before .before .before .before .before .before .before) in
     let a = s .args in
-    let h = (c .before .before .before .before .before .before .field-at .ensures) in
-    sym ((c .before .before .before .before .before .before .before .before .loop .inv .1) ∙ sym (wrong-here h (a .kind) (a .sign) (right-is h (a .kind) (a .sign) (s .pre .0) (s .pre .1) (c .before .before .before .state-of .ensures) (c .before .is-right .ensures)) (not-true _ (c .if1 .taken))))
+    let h = (c .before .before .before .before .before .field-at .ensures) in
+    sym ((c .before .before .before .before .before .before .before .loop .inv .1) ∙ sym (wrong-here h (a .kind) (a .sign) (right-is h (a .kind) (a .sign) (s .pre .0) (s .pre .1) (c .before .is-right-field .ensures)) (not-true _ (c .if1 .taken))))
 
 add-k : tie.Need-add-k Inv-loop μ-loop
-add-k c = omega (arith, (c .before .before .before .before .before .before .before .loop-test .taken))
+add-k c = omega (arith, (c .before .before .before .before .before .before .loop-test .taken))
 
 loop-less : tie.Need-loop-less Inv-loop μ-loop
-loop-less c = omega (arith, (c .before .before .before .before .before .before .before .loop-test .taken))
+loop-less c = omega (arith, (c .before .before .before .before .before .before .loop-test .taken))
 
 loop-again : tie.Need-loop-again Inv-loop μ-loop
 loop-again c =
-    let s = (c .before .before .before .before .before .before .before .before .before .before) in
+    let s = (c .before .before .before .before .before .before .before .before .before) in
     let a = s .args in
-    let h = (c .before .before .before .before .before .before .field-at .ensures) in
-    (omega (arith, (c .before .before .before .before .before .before .before .loop-test .taken)), (c .before .before .before .before .before .before .before .before .loop .inv .1) ∙ right-on h (a .kind) (a .sign) (right-is h (a .kind) (a .sign) (s .pre .0) (s .pre .1) (c .before .before .before .state-of .ensures) (c .before .is-right .ensures)) (not-false _ (c .if1 .left)))
+    let h = (c .before .before .before .before .before .field-at .ensures) in
+    (omega (arith, (c .before .before .before .before .before .before .loop-test .taken)), (c .before .before .before .before .before .before .before .loop .inv .1) ∙ right-on h (a .kind) (a .sign) (right-is h (a .kind) (a .sign) (s .pre .0) (s .pre .1) (c .before .is-right-field .ensures)) (not-false _ (c .if1 .left)))
 
 returns-2 : tie.Need-returns-2 Inv-loop μ-loop
 unfolding firstWrong
@@ -79,11 +75,10 @@ contents-rule-spec =
     μ-loop
     loop-holds
     field-at-requires
-    state-of-requires
-    sub-is-right
-    part-is-right-start
-    part-is-right-end
-    is-right-requires
+    sub-is-right-field
+    part-is-right-field-start
+    part-is-right-field-end
+    is-right-field-requires
     returns
     add-k
     loop-less

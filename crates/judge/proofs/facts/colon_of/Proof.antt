@@ -1,8 +1,5 @@
 use borrow.Author.Needs.{needs}
 use Rattle.judge.proofs.FactLaws.{else-old, colon-is}
-use Rattle.base.specs.Choice.{pick}
-use mathlib.Core.Bool.{Bool}
-use mathlib.Core.Path.{refl, ap}
 use Rattle.judge.proofs.facts.colon_of.Statement.{statement}
 use Rattle.judge.proofs.facts.colon_of.Tie as tie
 use Rattle.judge.proofs.facts.colon_of.Reads as reads

@@ -4,9 +4,9 @@ use Rattle.judge.proofs.LoopLaws.{noted-on}
 use Rattle.judge.proofs.PartLaws.{walk-start, walk-end}
 use Rattle.judge.specs.Facts.{nothingYet, factsFrom}
 use Rattle.judge.specs.declared.facts.Facts.{Facts}
-use Rattle.fields.specs.Field.{Field, fields}
+use Rattle.fields.specs.Field.{fields}
 use Rattle.base.specs.Bytes.{byte}
-use lib.ListN.{length, drop}
+use lib.ListN.{drop}
 use native.Mathlib.Omega.{arith}
 use mathlib.Core.Path.{_≡_, sym, ap, _∙_}
 use Prim.Native.Nat.{_-_, _≤_}

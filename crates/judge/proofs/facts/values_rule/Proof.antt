@@ -1,53 +1,49 @@
 use borrow.Author.Needs.{needs}
-use Rattle.judge.proofs.FactLaws.{then-told, then-on, then-end}
-use Rattle.judge.specs.Facts.{toldAs, taxRule, valueRules}
+use Rattle.judge.proofs.FactLaws.{told-some, then-told, then-on, then-end}
+use Rattle.judge.specs.Facts.{toldAs, valueRules}
+use native.Mathlib.Omega.{arith}
 use mathlib.Core.Path.{sym, ap, _∙_}
 use Rattle.judge.proofs.facts.values_rule.Statement.{statement}
 use Rattle.judge.proofs.facts.values_rule.Tie as tie
 use Rattle.judge.proofs.facts.values_rule.Reads as reads
 use Rattle.judge.proofs.facts.values_rule.Lts as lts
-use Rattle.judge.proofs.facts.both.Reads as both-reads
 use Rattle.judge.proofs.facts.open_bank.Reads as open-bank-reads
-use Rattle.judge.proofs.facts.tax_rule.Reads as tax-rule-reads
-use Rattle.judge.proofs.facts.told.Reads as told-reads
+use Rattle.judge.proofs.taxes.tax_rule.Reads as tax-rule-reads
 
 open-bank-requires : tie.Need-open-bank-requires
 open-bank-requires c κs = search needs
 
-told-requires : tie.Need-told-requires
-told-requires c κs = search needs
+sub-t7 : tie.Need-sub-t7
+sub-t7 c = omega (arith, (c .before .if1 .taken))
 
 returns : tie.Need-returns
 unfolding valueRules
-returns c = (c .told .ensures) ∙ then-told 9 _ (c .before .if1 .taken)
+returns c = told-some 9 (c .before .if1 .taken) ∙ then-told 9 _ (c .before .if1 .taken)
 
-told-requires-2 : tie.Need-told-requires-2
-told-requires-2 c κs = search needs
+sub-t8 : tie.Need-sub-t8
+sub-t8 c = omega (arith, (c .before .if2 .taken))
 
 returns-2 : tie.Need-returns-2
 unfolding valueRules
-returns-2 c = then-on 9 (c .before .before .before .if1 .left) ((c .told2 .ensures) ∙ then-told 10 _ (c .before .if2 .taken))
+returns-2 c = then-on 9 (c .before .before .before .if1 .left) (told-some 10 (c .before .if2 .taken) ∙ then-told 10 _ (c .before .if2 .taken))
 
-told-requires-3 : tie.Need-told-requires-3
-told-requires-3 c κs = search needs
+sub-t9 : tie.Need-sub-t9
+sub-t9 c = omega (arith, (c .if3 .taken))
 
 returns-3 : tie.Need-returns-3
 unfolding valueRules
 returns-3 c =
-    let b = (c .before .before .before .before .before .before .open-bank .ensures) in
-    then-on 9 (c .before .before .before .before .if1 .left) (then-on 10 (c .before .before .if2 .left) ((c .told3 .ensures) ∙ ap (toldAs 11) b ∙ then-told 11 _ (λ z. (c .before .if3 .taken) (b ∙ z))))
+    let b = (c .before .before .before .before .before .open-bank .ensures) in
+    then-on 9 (c .before .before .before .if1 .left) (then-on 10 (c .before .if2 .left) (told-some 11 (c .if3 .taken) ∙ ap (toldAs 11) b ∙ then-told 11 _ (λ z. (c .if3 .taken) (b ∙ z))))
 
-told-requires-4 : tie.Need-told-requires-4
-told-requires-4 c κs = search needs
+sub-t10 : tie.Need-sub-t10
+sub-t10 c = omega (arith, (c .before .if4 .taken))
 
 returns-4 : tie.Need-returns-4
 unfolding valueRules
 returns-4 c =
     let b = (c .before .before .before .before .before .before .before .before .open-bank .ensures) in
-    then-on 9 (c .before .before .before .before .before .before .if1 .left) (then-on 10 (c .before .before .before .before .if2 .left) (then-on 11 (sym b ∙ (c .before .before .before .if3 .left)) ((c .told4 .ensures) ∙ then-told 12 _ (c .before .if4 .taken))))
-
-both-requires : tie.Need-both-requires
-both-requires c κs = search needs
+    then-on 9 (c .before .before .before .before .before .before .if1 .left) (then-on 10 (c .before .before .before .before .if2 .left) (then-on 11 (sym b ∙ (c .before .before .before .if3 .left)) (told-some 12 (c .before .if4 .taken) ∙ then-told 12 _ (c .before .if4 .taken))))
 
 tax-rule-requires : tie.Need-tax-rule-requires
 tax-rule-requires c κs = search needs
@@ -55,24 +51,22 @@ tax-rule-requires c κs = search needs
 returns-5 : tie.Need-returns-5
 unfolding valueRules
 returns-5 c =
-    let b = (c .before .before .before .before .before .before .before .before .before .open-bank .ensures) in
-    let f = (c .before .before .before .before .before .before .before .before .before .before .args .f) in
-    then-on 9 (c .before .before .before .before .before .before .before .if1 .left) (then-on 10 (c .before .before .before .before .before .if2 .left) (then-on 11 (sym b ∙ (c .before .before .before .before .if3 .left)) (then-on 12 (c .before .before .if4 .left)
-    (then-end ((c .tax-rule .ensures) ∙ ap (taxRule (f .purpose) (f .budget)) (c .before .both .ensures))))))
+    let b = (c .before .before .before .before .before .before .before .before .open-bank .ensures) in
+    then-on 9 (c .before .before .before .before .before .before .if1 .left) (then-on 10 (c .before .before .before .before .if2 .left) (then-on 11 (sym b ∙ (c .before .before .before .if3 .left)) (then-on 12 (c .before .if4 .left)
+    (then-end (c .tax-rule .ensures)))))
 
 pub values-rule-spec : {M : Type 1} → statement M
 values-rule-spec =
     tie.close
     (tie.spec
     open-bank-requires
-    told-requires
+    sub-t7
     returns
-    told-requires-2
+    sub-t8
     returns-2
-    told-requires-3
+    sub-t9
     returns-3
-    told-requires-4
+    sub-t10
     returns-4
-    both-requires
     tax-rule-requires
     returns-5)

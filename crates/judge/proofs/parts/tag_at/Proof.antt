@@ -1,6 +1,5 @@
 use borrow.Author.Needs.{needs}
 use Rattle.judge.proofs.PartLaws.{tag-short, tag-letter}
-use mathlib.Core.Path.{sym, ap, ap₂, _∙_}
 use Rattle.judge.proofs.parts.tag_at.Statement.{statement}
 use Rattle.judge.proofs.parts.tag_at.Tie as tie
 use Rattle.judge.proofs.parts.tag_at.Reads as reads

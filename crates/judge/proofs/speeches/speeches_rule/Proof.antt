@@ -5,7 +5,7 @@ use Rattle.judge.proofs.PartLaws.{walk-start, walk-end}
 use Rattle.roles.specs.Rule14.{unheard, spoken}
 use Rattle.fields.specs.Field.{fields}
 use Rattle.base.specs.Bytes.{byte}
-use lib.ListN.{length, drop}
+use lib.ListN.{drop}
 use native.Mathlib.Omega.{arith}
 use mathlib.Core.Path.{_≡_, sym, _∙_}
 use Prim.Native.Nat.{_-_, _≤_}

@@ -1,7 +1,6 @@
 -- `message::calls::cut` meets its contract. Assumes nothing.
 use Rattle.message.proofs.PartLaws.{inside-is}
 use Rattle.message.specs.Calls.{partOf}
-use Rattle.listing.specs.declared.Span.{Span}
 use native.Mathlib.Omega.{arith}
 use mathlib.Core.Path.{sym, ap}
 use borrow.Author.Needs.{needs}

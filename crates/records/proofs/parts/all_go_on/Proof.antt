@@ -19,14 +19,14 @@ Inv-loop l from i₀ i = all goesOn (piecesAt 9 l from) ≡ all goesOn (piecesAt
 abbrev μ-loop : tie.MeasureT-loop
 μ-loop l from i₀ i = length l + 1 - i
 
-within : (c : tie.After-piece-end Inv-loop μ-loop) → c .piece-end .result ≤ length (c .before .before .before .before .args .l .now)
-within c = let l = c .before .before in let a = l .before .before .args in end-within 9 (a .l .now) (l .loop .i) (c .piece-end .result) (c .before .loop-test .taken) (c .piece-end .ensures)
+within : (c : tie.After-mark-at Inv-loop μ-loop) → c .mark-at .result ≤ length (c .before .before .before .before .args .l .now)
+within c = let l = c .before .before in let a = l .before .before .args in end-within 9 (a .l .now) (l .loop .i) (c .mark-at .result) (c .before .loop-test .taken) (c .mark-at .ensures)
 
 loop-holds : tie.Need-loop-holds Inv-loop μ-loop
 loop-holds c = refl
 
-piece-end-requires : tie.Need-piece-end-requires Inv-loop μ-loop
-piece-end-requires c κs = search needs
+mark-at-requires : tie.Need-mark-at-requires Inv-loop μ-loop
+mark-at-requires c κs = search needs
 
 sub-goes-on : tie.Need-sub-goes-on Inv-loop μ-loop
 sub-goes-on c = omega arith
@@ -42,17 +42,17 @@ goes-on-requires c κs = search needs
 
 returns : tie.Need-returns Inv-loop μ-loop
 returns c = let n = c .before .before .before in let l = n .before .before in let a = l .before .before .args in
-    sym (l .loop .inv ∙ on-hit (a .l .now) (l .loop .i) (n .piece-end .result) (n .before .loop-test .taken) (n .piece-end .ensures) (sym (c .before .goes-on .ensures) ∙ not-true _ (c .if1 .taken)))
+    sym (l .loop .inv ∙ on-hit (a .l .now) (l .loop .i) (n .mark-at .result) (n .before .loop-test .taken) (n .mark-at .ensures) (sym (c .before .goes-on .ensures) ∙ not-true _ (c .if1 .taken)))
 
 add-i : tie.Need-add-i Inv-loop μ-loop
 add-i c = omega (arith, within (c .before .before .before))
 
 loop-less : tie.Need-loop-less Inv-loop μ-loop
-loop-less c = let n = c .before .before .before in omega (arith, within n, n .piece-end .ensures, n .before .loop-test .taken)
+loop-less c = let n = c .before .before .before in omega (arith, within n, n .mark-at .ensures, n .before .loop-test .taken)
 
 loop-again : tie.Need-loop-again Inv-loop μ-loop
 loop-again c = let n = c .before .before .before in let l = n .before .before in let a = l .before .before .args in
-    l .loop .inv ∙ on-miss (a .l .now) (l .loop .i) (n .piece-end .result) (n .before .loop-test .taken) (n .piece-end .ensures) (sym (c .before .goes-on .ensures) ∙ not-false _ (c .if1 .left))
+    l .loop .inv ∙ on-miss (a .l .now) (l .loop .i) (n .mark-at .result) (n .before .loop-test .taken) (n .mark-at .ensures) (sym (c .before .goes-on .ensures) ∙ not-false _ (c .if1 .left))
 
 returns-2 : tie.Need-returns-2 Inv-loop μ-loop
 returns-2 c = let l = c .before in let a = l .before .before .args in sym (l .loop .inv ∙ on-end (a .l .now) (l .loop .i) (c .loop-test .left))
@@ -64,7 +64,7 @@ all-go-on-spec =
     Inv-loop
     μ-loop
     loop-holds
-    piece-end-requires
+    mark-at-requires
     sub-goes-on
     part-goes-on-start
     part-goes-on-end

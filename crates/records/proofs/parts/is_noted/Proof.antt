@@ -8,14 +8,14 @@ use borrow.Author.Needs.{needs}
 use Rattle.records.proofs.parts.is_noted.Statement.{statement}
 use Rattle.records.proofs.parts.is_noted.Tie as tie
 
-within : (c : tie.After-piece-end) → c .piece-end .result ≤ length (c .before .before .before .args .l .now)
-within c = let a = c .before .before .before .args in end-within 9 (a .l .now) (a .i) (c .piece-end .result) (c .before .if1 .left) (c .piece-end .ensures)
+within : (c : tie.After-mark-at) → c .mark-at .result ≤ length (c .before .before .before .args .l .now)
+within c = let a = c .before .before .before .args in end-within 9 (a .l .now) (a .i) (c .mark-at .result) (c .before .if1 .left) (c .mark-at .ensures)
 
 returns : tie.Need-returns
 returns c = let a = c .before .before .args in noted-none (a .l .now) (a .i) (c .if1 .taken)
 
-piece-end-requires : tie.Need-piece-end-requires
-piece-end-requires c κs = search needs
+mark-at-requires : tie.Need-mark-at-requires
+mark-at-requires c κs = search needs
 
 add-is-detailed : tie.Need-add-is-detailed
 add-is-detailed c = omega (arith, within c)
@@ -24,8 +24,8 @@ is-detailed-requires : tie.Need-is-detailed-requires
 is-detailed-requires c κs = search needs
 
 returns-2 : tie.Need-returns-2
-returns-2 c = let n = c .before in let a = n .before .before .before .args in noted-on (a .l .now) (a .i) (n .piece-end .result) (n .before .if1 .left) (n .piece-end .ensures) (c .is-detailed .ensures)
+returns-2 c = let n = c .before in let a = n .before .before .before .args in noted-on (a .l .now) (a .i) (n .mark-at .result) (n .before .if1 .left) (n .mark-at .ensures) (c .is-detailed .ensures)
 
 pub is-noted-spec : {M : Type 1} → statement M
 is-noted-spec =
-    tie.close (tie.spec returns piece-end-requires add-is-detailed is-detailed-requires returns-2)
+    tie.close (tie.spec returns mark-at-requires add-is-detailed is-detailed-requires returns-2)

@@ -19,17 +19,17 @@ is-general-requires c κs = search needs
 returns : tie.Need-returns
 returns c = let a = c .before .before .before .args in payee-not (a .sign) (piecesAt 9 (a .l .now) (a .i)) (sym (c .before .is-general .ensures) ∙ not-true _ (c .if1 .taken))
 
-piece-end-requires : tie.Need-piece-end-requires
-piece-end-requires c κs = search needs
+mark-at-requires : tie.Need-mark-at-requires
+mark-at-requires c κs = search needs
 
 add-is-untaxed : tie.Need-add-is-untaxed
-add-is-untaxed c = let a = c .before .before .before .before .args in omega (arith, general-end (a .sign) (a .l .now) (a .i) (c .piece-end .result) (c .piece-end .ensures) (fine (c .before)))
+add-is-untaxed c = let a = c .before .before .before .before .args in omega (arith, general-end (a .sign) (a .l .now) (a .i) (c .mark-at .result) (c .mark-at .ensures) (fine (c .before)))
 
 is-untaxed-requires : tie.Need-is-untaxed-requires
 is-untaxed-requires c κs = search needs
 
 returns-2 : tie.Need-returns-2
-returns-2 c = let n = c .before in let a = n .before .before .before .before .args in payee-on (a .sign) (a .l .now) (a .i) (n .piece-end .result) (n .piece-end .ensures) (fine (n .before)) (c .is-untaxed .ensures)
+returns-2 c = let n = c .before in let a = n .before .before .before .before .args in payee-on (a .sign) (a .l .now) (a .i) (n .mark-at .result) (n .mark-at .ensures) (fine (n .before)) (c .is-untaxed .ensures)
 
 pub is-payee-spec : {M : Type 1} → statement M
 is-payee-spec =
@@ -37,7 +37,7 @@ is-payee-spec =
     (tie.spec
     is-general-requires
     returns
-    piece-end-requires
+    mark-at-requires
     add-is-untaxed
     is-untaxed-requires
     returns-2)

@@ -19,26 +19,26 @@ is-general-requires c κs = search needs
 returns : tie.Need-returns
 returns c = let a = c .before .before .before .args in payer-not (a .sign) (piecesAt 9 (a .l .now) (a .i)) (sym (c .before .is-general .ensures) ∙ not-true _ (c .if1 .taken))
 
-piece-end-requires : tie.Need-piece-end-requires
-piece-end-requires c κs = search needs
+mark-at-requires : tie.Need-mark-at-requires
+mark-at-requires c κs = search needs
 
 shared-slice-read-if2 : tie.Need-shared-slice-read-if2
 shared-slice-read-if2 c = let n = c .before in let a = n .before .before .before .before .args in general-within (a .l .now) (a .i) (fine (n .before))
 
 add-is-untaxed : tie.Need-add-is-untaxed
-add-is-untaxed c = let n = c .before .before in let a = n .before .before .before .before .args in omega (arith, general-end (a .sign) (a .l .now) (a .i) (n .piece-end .result) (n .piece-end .ensures) (fine (n .before)))
+add-is-untaxed c = let n = c .before .before in let a = n .before .before .before .before .args in omega (arith, general-end (a .sign) (a .l .now) (a .i) (n .mark-at .result) (n .mark-at .ensures) (fine (n .before)))
 
 is-untaxed-requires : tie.Need-is-untaxed-requires
 is-untaxed-requires c κs = search needs
 
 returns-2 : tie.Need-returns-2
-returns-2 c = let y = c .before in let n = y .before .before in let a = n .before .before .before .before .args in payer-account (a .sign) (a .l .now) (a .i) (n .piece-end .result) (n .piece-end .ensures) (fine (n .before)) (y .if2 .taken) (c .is-untaxed .ensures)
+returns-2 c = let y = c .before in let n = y .before .before in let a = n .before .before .before .before .args in payer-account (a .sign) (a .l .now) (a .i) (n .mark-at .result) (n .mark-at .ensures) (fine (n .before)) (y .if2 .taken) (c .is-untaxed .ensures)
 
 is-untaxed-requires-2 : tie.Need-is-untaxed-requires-2
 is-untaxed-requires-2 c κs = search needs
 
 returns-3 : tie.Need-returns-3
-returns-3 c = let y = c .before in let n = y .before .before in let a = n .before .before .before .before .args in payer-name (a .sign) (a .l .now) (a .i) (n .piece-end .result) (n .piece-end .ensures) (fine (n .before)) (y .if2 .left) (c .is-untaxed2 .ensures)
+returns-3 c = let y = c .before in let n = y .before .before in let a = n .before .before .before .before .args in payer-name (a .sign) (a .l .now) (a .i) (n .mark-at .result) (n .mark-at .ensures) (fine (n .before)) (y .if2 .left) (c .is-untaxed2 .ensures)
 
 pub is-payer-spec : {M : Type 1} → statement M
 is-payer-spec =
@@ -46,7 +46,7 @@ is-payer-spec =
     (tie.spec
     is-general-requires
     returns
-    piece-end-requires
+    mark-at-requires
     shared-slice-read-if2
     add-is-untaxed
     is-untaxed-requires

@@ -7,14 +7,14 @@ use Rattle.records.proofs.parts.is_sole.Tie as tie
 returns : tie.Need-returns
 returns c = let a = c .before .before .args in sole-none (a .l .now) (a .i) (c .if1 .taken)
 
-piece-end-requires : tie.Need-piece-end-requires
-piece-end-requires c κs = search needs
+mark-at-requires : tie.Need-mark-at-requires
+mark-at-requires c κs = search needs
 
 returns-2 : tie.Need-returns-2
-returns-2 c = let n = c .before in let a = n .before .before .before .args in sole-empty (a .l .now) (a .i) (n .piece-end .result) (n .before .if1 .left) (n .piece-end .ensures) (c .if2 .taken)
+returns-2 c = let n = c .before in let a = n .before .before .before .args in sole-empty (a .l .now) (a .i) (n .mark-at .result) (n .before .if1 .left) (n .mark-at .ensures) (c .if2 .taken)
 
 returns-3 : tie.Need-returns-3
-returns-3 c = let n = c .before in let a = n .before .before .before .args in sole-last (a .l .now) (a .i) (n .piece-end .result) (n .before .if1 .left) (n .piece-end .ensures) (c .if2 .left)
+returns-3 c = let n = c .before in let a = n .before .before .before .args in sole-last (a .l .now) (a .i) (n .mark-at .result) (n .before .if1 .left) (n .mark-at .ensures) (c .if2 .left)
 
 pub is-sole-spec : {M : Type 1} → statement M
-is-sole-spec = tie.close (tie.spec returns piece-end-requires returns-2 returns-3)
+is-sole-spec = tie.close (tie.spec returns mark-at-requires returns-2 returns-3)

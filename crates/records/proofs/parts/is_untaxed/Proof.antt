@@ -3,14 +3,15 @@ use native.Mathlib.Omega.{arith}
 use Prim.Native.Nat.{_≤_}
 use lib.ListN.{length}
 use borrow.Author.Tests.{not-true, not-false}
+use Rattle.roles.specs.Rule14.{isInn}
 use Rattle.records.proofs.PieceLaws.{end-within}
 use Rattle.records.proofs.FoundLaws.{untaxed-off, untaxed-none, untaxed-part}
 use borrow.Author.Needs.{needs}
 use Rattle.records.proofs.parts.is_untaxed.Statement.{statement}
 use Rattle.records.proofs.parts.is_untaxed.Tie as tie
 
-within : (c : tie.After-piece-end) → c .piece-end .result ≤ length (c .before .before .before .before .args .l .now)
-within c = let a = c .before .before .before .before .args in end-within 9 (a .l .now) (a .i) (c .piece-end .result) (c .before .if2 .left) (c .piece-end .ensures)
+within : (c : tie.After-mark-at) → c .mark-at .result ≤ length (c .before .before .before .before .args .l .now)
+within c = let a = c .before .before .before .before .args in end-within 9 (a .l .now) (a .i) (c .mark-at .result) (c .before .if2 .left) (c .mark-at .ensures)
 
 returns : tie.Need-returns
 returns c = untaxed-off _ _ (not-true _ (c .if1 .taken))
@@ -18,24 +19,25 @@ returns c = untaxed-off _ _ (not-true _ (c .if1 .taken))
 returns-2 : tie.Need-returns-2
 returns-2 c = let a = c .before .before .before .args in untaxed-none (a .l .now) (a .i) (c .if2 .taken) (a .sign)
 
-piece-end-requires : tie.Need-piece-end-requires
-piece-end-requires c κs = search needs
+mark-at-requires : tie.Need-mark-at-requires
+mark-at-requires c κs = search needs
 
-sub-is-inn : tie.Need-sub-is-inn
-sub-is-inn c = search needs
+sub-is-numbered : tie.Need-sub-is-numbered
+sub-is-numbered c = search needs
 
-part-is-inn-start : tie.Need-part-is-inn-start
-part-is-inn-start c = search needs
+part-is-numbered-start : tie.Need-part-is-numbered-start
+part-is-numbered-start c = search needs
 
-part-is-inn-end : tie.Need-part-is-inn-end
-part-is-inn-end c = omega (arith, within c)
+part-is-numbered-end : tie.Need-part-is-numbered-end
+part-is-numbered-end c = omega (arith, within c)
 
-is-inn-requires : tie.Need-is-inn-requires
-is-inn-requires c κs = search needs
+is-numbered-requires : tie.Need-is-numbered-requires
+is-numbered-requires c κs = search needs
 
 returns-3 : tie.Need-returns-3
+unfolding isInn
 returns-3 c = let n = c .before .before in let a = n .before .before .before .before .args in
-    untaxed-part (a .l .now) (a .i) (n .piece-end .result) (n .before .if2 .left) (n .piece-end .ensures) (a .sign) (not-false _ (n .before .before .if1 .left)) (c .is-inn .ensures)
+    untaxed-part (a .l .now) (a .i) (n .mark-at .result) (n .before .if2 .left) (n .mark-at .ensures) (a .sign) (not-false _ (n .before .before .if1 .left)) (c .is-numbered .ensures)
 
 pub is-untaxed-spec : {M : Type 1} → statement M
 is-untaxed-spec =
@@ -43,9 +45,9 @@ is-untaxed-spec =
     (tie.spec
     returns
     returns-2
-    piece-end-requires
-    sub-is-inn
-    part-is-inn-start
-    part-is-inn-end
-    is-inn-requires
+    mark-at-requires
+    sub-is-numbered
+    part-is-numbered-start
+    part-is-numbered-end
+    is-numbered-requires
     returns-3)

@@ -17,18 +17,18 @@ Inv-loop s kind sign from at₀ at = (at ≤ length s) × (badLine kind sign fro
 abbrev μ-loop : tie.MeasureT-loop
 μ-loop s kind sign from at₀ at = length s - at
 
-within : (c : tie.After-piece-end Inv-loop μ-loop) → c .piece-end .result ≤ length (c .before .before .before .before .args .s .now)
-within c = let l = c .before .before in let a = l .before .before .args in end-within 10 (a .s .now) (l .loop .at) (c .piece-end .result) (l .loop .inv .0) (c .piece-end .ensures)
+within : (c : tie.After-mark-at Inv-loop μ-loop) → c .mark-at .result ≤ length (c .before .before .before .before .args .s .now)
+within c = let l = c .before .before in let a = l .before .before .args in end-within 10 (a .s .now) (l .loop .at) (c .mark-at .result) (l .loop .inv .0) (c .mark-at .ensures)
 
 loop-holds : tie.Need-loop-holds Inv-loop μ-loop
 loop-holds c = (search needs, refl)
 
-piece-end-requires : tie.Need-piece-end-requires Inv-loop μ-loop
-piece-end-requires c κs = search needs
+mark-at-requires : tie.Need-mark-at-requires Inv-loop μ-loop
+mark-at-requires c κs = search needs
 
 returns : tie.Need-returns Inv-loop μ-loop
 returns c = let n = c .before in let l = n .before .before in let a = l .before .before .args in
-    bad-last (a .s .now) (l .loop .at) (n .piece-end .result) (l .loop .inv .0) (n .piece-end .ensures) (a .kind) (a .sign) (n .before .loop-test .taken) (c .if1 .taken) ∙ sym (l .loop .inv .1)
+    bad-last (a .s .now) (l .loop .at) (n .mark-at .result) (l .loop .inv .0) (n .mark-at .ensures) (a .kind) (a .sign) (n .before .loop-test .taken) (c .if1 .taken) ∙ sym (l .loop .inv .1)
 
 sub-is-good : tie.Need-sub-is-good Inv-loop μ-loop
 sub-is-good c = omega arith
@@ -44,17 +44,17 @@ is-good-requires c κs = search needs
 
 returns-2 : tie.Need-returns-2 Inv-loop μ-loop
 returns-2 c = let g = c .before in let f = g .before .before in let n = f .before in let l = n .before .before in let a = l .before .before .args in
-    bad-hit (a .s .now) (l .loop .at) (n .piece-end .result) (l .loop .inv .0) (n .piece-end .ensures) (a .kind) (a .sign) (f .if1 .left) (sym (g .is-good .ensures) ∙ not-true _ (c .if2 .taken)) ∙ sym (l .loop .inv .1)
+    bad-hit (a .s .now) (l .loop .at) (n .mark-at .result) (l .loop .inv .0) (n .mark-at .ensures) (a .kind) (a .sign) (f .if1 .left) (sym (g .is-good .ensures) ∙ not-true _ (c .if2 .taken)) ∙ sym (l .loop .inv .1)
 
 add-at : tie.Need-add-at Inv-loop μ-loop
 add-at c = omega (arith, within (c .before .before .before .before))
 
 loop-less : tie.Need-loop-less Inv-loop μ-loop
-loop-less c = let n = c .before .before .before .before in omega (arith, within n, n .piece-end .ensures, n .before .loop-test .taken)
+loop-less c = let n = c .before .before .before .before in omega (arith, within n, n .mark-at .ensures, n .before .loop-test .taken)
 
 loop-again : tie.Need-loop-again Inv-loop μ-loop
 loop-again c = let g = c .before in let f = g .before .before in let n = f .before in let l = n .before .before in let a = l .before .before .args in
-    (omega (arith, within n, f .if1 .left), l .loop .inv .1 ∙ bad-miss (a .s .now) (l .loop .at) (n .piece-end .result) (l .loop .inv .0) (n .piece-end .ensures) (a .kind) (a .sign) (f .if1 .left) (sym (g .is-good .ensures) ∙ not-false _ (c .if2 .left)))
+    (omega (arith, within n, f .if1 .left), l .loop .inv .1 ∙ bad-miss (a .s .now) (l .loop .at) (n .mark-at .result) (l .loop .inv .0) (n .mark-at .ensures) (a .kind) (a .sign) (f .if1 .left) (sym (g .is-good .ensures) ∙ not-false _ (c .if2 .left)))
 
 returns-3 : tie.Need-returns-3 Inv-loop μ-loop
 returns-3 c = let l = c .before in let a = l .before .before .args in bad-end (a .s .now) (l .loop .at) (a .kind) (a .sign) (l .loop .inv .0) (c .loop-test .left) ∙ sym (l .loop .inv .1)
@@ -66,7 +66,7 @@ bad-record-spec =
     Inv-loop
     μ-loop
     loop-holds
-    piece-end-requires
+    mark-at-requires
     returns
     sub-is-good
     part-is-good-start

@@ -1,41 +1,62 @@
--- `records::sheets::is_typed` meets its contract. Assumes nothing.
-use mathlib.Core.Path.{sym, _∙_}
+-- `records::sheets::is_typed` meets its contract: byte by byte. Assumes nothing.
+use mathlib.Core.Path.{sym, ap, _∙_}
 use native.Mathlib.Omega.{arith}
+use lib.ListN.{length, drop, length-drop}
+use lib.Seq.{length-take-le, take-all}
 use borrow.Author.Tests.{not-true, not-false}
-use Rattle.records.proofs.FoundLaws.{tag-size, tag-within, typed-not, typed-on}
+use Prim.Native.Nat.{_-_}
+use Rattle.records.specs.Rule19.{digits}
+use Rattle.records.proofs.TypeLaws.{typed-size, typed-tab, typed-mark, typed-six}
 use borrow.Author.Needs.{needs}
 use Rattle.records.proofs.sheets.is_typed.Statement.{statement}
 use Rattle.records.proofs.sheets.is_typed.Tie as tie
 
-piece-end-requires : tie.Need-piece-end-requires
-piece-end-requires c κs = search needs
+returns : tie.Need-returns
+returns c = typed-size (c .before .before .args .l .now) (c .if1 .taken)
+
+shared-slice-read-if2 : tie.Need-shared-slice-read-if2
+shared-slice-read-if2 c = search needs
+
+returns-2 : tie.Need-returns-2
+returns-2 c = typed-tab (c .before .before .before .before .args .l .now) (c .if2 .taken)
 
 slice-aggregate-is-two : tie.Need-slice-aggregate-is-two
-slice-aggregate-is-two c = let n = c .before in tag-size (n .before .before .args .l .now) (n .piece-end .result) (n .piece-end .ensures)
+slice-aggregate-is-two c = let f = c .before .before .before in sym (length-take-le 2 (f .before .before .args .l .now) (omega (arith, f .if1 .left)))
 
 is-two-requires : tie.Need-is-two-requires
 is-two-requires c κs = search needs
 
-returns : tie.Need-returns
-returns c = let n = c .before .before .before in typed-not (n .before .before .args .l .now) (n .piece-end .result) (n .piece-end .ensures) (sym (c .before .is-two .ensures) ∙ not-true _ (c .if1 .taken))
+returns-3 : tie.Need-returns-3
+returns-3 c = typed-mark (c .before .before .before .before .before .before .before .args .l .now) (sym (c .before .is-two .ensures) ∙ not-true _ (c .if3 .taken))
 
-add-is-numbered : tie.Need-add-is-numbered
-add-is-numbered c = let n = c .before .before .before in omega (arith, tag-within (n .before .before .args .l .now) (n .piece-end .result) (n .piece-end .ensures))
+sub-is-digits : tie.Need-sub-is-digits
+sub-is-digits c = search needs
 
-is-numbered-requires : tie.Need-is-numbered-requires
-is-numbered-requires c κs = search needs
+part-is-digits-start : tie.Need-part-is-digits-start
+part-is-digits-start c = search needs
 
-returns-2 : tie.Need-returns-2
-returns-2 c = let f = c .before in let n = f .before .before .before in typed-on (n .before .before .args .l .now) (n .piece-end .result) (n .piece-end .ensures) (sym (f .before .is-two .ensures) ∙ not-false _ (f .if1 .left)) (c .is-numbered .ensures)
+part-is-digits-end : tie.Need-part-is-digits-end
+part-is-digits-end c = search needs
+
+is-digits-requires : tie.Need-is-digits-requires
+is-digits-requires c κs = search needs
+
+returns-4 : tie.Need-returns-4
+returns-4 c = let g = c .before .before in let t = g .before in let f = t .before .before in let n = f .before .before in let l = n .before .before .args .l .now in
+    typed-six l (n .if1 .left) (f .if2 .left) (sym (t .is-two .ensures) ∙ not-false _ (g .if3 .left)) (c .is-digits .ensures ∙ ap (digits 3) (take-all (length l - 3) (drop 3 l) (omega (arith, length-drop 3 l))))
 
 pub is-typed-spec : {M : Type 1} → statement M
 is-typed-spec =
     tie.close
     (tie.spec
-    piece-end-requires
+    returns
+    shared-slice-read-if2
+    returns-2
     slice-aggregate-is-two
     is-two-requires
-    returns
-    add-is-numbered
-    is-numbered-requires
-    returns-2)
+    returns-3
+    sub-is-digits
+    part-is-digits-start
+    part-is-digits-end
+    is-digits-requires
+    returns-4)

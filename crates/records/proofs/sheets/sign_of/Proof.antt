@@ -20,14 +20,14 @@ Inv-loop s at₀ at = sheetSign s ≡ signOf (map recordOf (piecesAt 10 s at))
 abbrev μ-loop : tie.MeasureT-loop
 μ-loop s at₀ at = length s + 1 - at
 
-within : (c : tie.After-piece-end Inv-loop μ-loop) → c .piece-end .result ≤ length (c .before .before .before .before .args .s .now)
-within c = let l = c .before .before in let a = l .before .before .args in end-within 10 (a .s .now) (l .loop .at) (c .piece-end .result) (c .before .loop-test .taken) (c .piece-end .ensures)
+within : (c : tie.After-mark-at Inv-loop μ-loop) → c .mark-at .result ≤ length (c .before .before .before .before .args .s .now)
+within c = let l = c .before .before in let a = l .before .before .args in end-within 10 (a .s .now) (l .loop .at) (c .mark-at .result) (c .before .loop-test .taken) (c .mark-at .ensures)
 
 loop-holds : tie.Need-loop-holds Inv-loop μ-loop
 loop-holds c = sign-start (c .before .args .s .now)
 
-piece-end-requires : tie.Need-piece-end-requires Inv-loop μ-loop
-piece-end-requires c κs = search needs
+mark-at-requires : tie.Need-mark-at-requires Inv-loop μ-loop
+mark-at-requires c κs = search needs
 
 sub-is-twenty : tie.Need-sub-is-twenty Inv-loop μ-loop
 sub-is-twenty c = omega arith
@@ -55,17 +55,17 @@ has-plus-requires c κs = search needs
 
 returns : tie.Need-returns Inv-loop μ-loop
 returns c = let y = c .before .before in let n = y .before .before .before in let l = n .before .before in let a = l .before .before .args in
-    sign-hit (a .s .now) (l .loop .at) (n .piece-end .result) (n .before .loop-test .taken) (n .piece-end .ensures) (sym (y .before .is-twenty .ensures) ∙ y .if1 .taken) (c .has-plus .ensures) ∙ sym (l .loop .inv)
+    sign-hit (a .s .now) (l .loop .at) (n .mark-at .result) (n .before .loop-test .taken) (n .mark-at .ensures) (sym (y .before .is-twenty .ensures) ∙ y .if1 .taken) (c .has-plus .ensures) ∙ sym (l .loop .inv)
 
 add-at : tie.Need-add-at Inv-loop μ-loop
 add-at c = omega (arith, within (c .before .before .before))
 
 loop-less : tie.Need-loop-less Inv-loop μ-loop
-loop-less c = let n = c .before .before .before in omega (arith, within n, n .piece-end .ensures, n .before .loop-test .taken)
+loop-less c = let n = c .before .before .before in omega (arith, within n, n .mark-at .ensures, n .before .loop-test .taken)
 
 loop-again : tie.Need-loop-again Inv-loop μ-loop
 loop-again c = let n = c .before .before .before in let l = n .before .before in let a = l .before .before .args in
-    l .loop .inv ∙ sign-miss (a .s .now) (l .loop .at) (n .piece-end .result) (n .before .loop-test .taken) (n .piece-end .ensures) (sym (c .before .is-twenty .ensures) ∙ c .if1 .left)
+    l .loop .inv ∙ sign-miss (a .s .now) (l .loop .at) (n .mark-at .result) (n .before .loop-test .taken) (n .mark-at .ensures) (sym (c .before .is-twenty .ensures) ∙ c .if1 .left)
 
 returns-2 : tie.Need-returns-2 Inv-loop μ-loop
 returns-2 c = let l = c .before in let a = l .before .before .args in sym (l .loop .inv ∙ sign-end (a .s .now) (l .loop .at) (c .loop-test .left))
@@ -77,7 +77,7 @@ sign-of-spec =
     Inv-loop
     μ-loop
     loop-holds
-    piece-end-requires
+    mark-at-requires
     sub-is-twenty
     part-is-twenty-start
     part-is-twenty-end

@@ -4,7 +4,7 @@ use mathlib.Core.Path.{_≡_, refl, sym, _∙_}
 use native.Mathlib.Omega.{arith}
 use borrow.Author.Needs.{needs}
 use lib.ListN.{length}
-use Rattle.machine.proofs.LineLaws.{len-rest}
+use Rattle.base.proofs.MarkLaws.{up-rest}
 use Rattle.roles.specs.Speech.{names}
 use Rattle.roles.specs.Found.{linesPast, castFrom, found}
 use Rattle.roles.proofs.FoundLaws.{names-end, names-hit, names-miss}
@@ -17,8 +17,8 @@ Inv-loop back c end tax e₀ first₀ e first = found back (names (end + 2) (cas
 abbrev μ-loop : tie.MeasureT-loop
 μ-loop back c end tax e₀ first₀ e first = length c - e
 
-within : (c : tie.After-line-end Inv-loop μ-loop) → let a = c .before .before .before .before .before .args in c .line-end .result ≤ length (a .c .now)
-within c = let i = c .before in let a = i .before .before .before .before .args in omega (arith, len-rest (a .c .now) (i .next-line .result) (omega arith))
+within : (c : tie.After-mark-at Inv-loop μ-loop) → let a = c .before .before .before .before .before .args in c .mark-at .result ≤ length (a .c .now)
+within c = let i = c .before in let a = i .before .before .before .before .args in omega (arith, up-rest 13 (a .c .now) (i .next-line .result) (omega arith))
 
 loop-holds : tie.Need-loop-holds Inv-loop μ-loop
 loop-holds c = refl
@@ -26,8 +26,8 @@ loop-holds c = refl
 next-line-requires : tie.Need-next-line-requires Inv-loop μ-loop
 next-line-requires c κs = search needs
 
-line-end-requires : tie.Need-line-end-requires Inv-loop μ-loop
-line-end-requires c κs = search needs
+mark-at-requires : tie.Need-mark-at-requires Inv-loop μ-loop
+mark-at-requires c κs = search needs
 
 sub-breaks-line : tie.Need-sub-breaks-line Inv-loop μ-loop
 sub-breaks-line c = omega arith
@@ -46,14 +46,14 @@ add-t15 c = omega arith
 
 returns : tie.Need-returns Inv-loop μ-loop
 returns c = let b = c .before in let n = b .before .before in let i = n .before in let l = i .before .before in let a = l .before .before .args in
-    names-hit (a .back .now) (a .c .now) (l .loop .e) (l .loop .first) (i .next-line .result) (n .line-end .result) (i .before .loop-test .taken) (i .next-line .ensures) (n .line-end .ensures) (sym (c .if1 .taken) ∙ b .breaks-line .ensures) ∙ sym (l .loop .inv)
+    names-hit (a .back .now) (a .c .now) (l .loop .e) (l .loop .first) (i .next-line .result) (n .mark-at .result) (i .before .loop-test .taken) (i .next-line .ensures) (n .mark-at .ensures) (sym (c .if1 .taken) ∙ b .breaks-line .ensures) ∙ sym (l .loop .inv)
 
 loop-less : tie.Need-loop-less Inv-loop μ-loop
-loop-less c = let n = c .before .before .before in omega (arith, n .line-end .ensures, n .before .next-line .ensures)
+loop-less c = let n = c .before .before .before in omega (arith, n .mark-at .ensures, n .before .next-line .ensures)
 
 loop-again : tie.Need-loop-again Inv-loop μ-loop
 loop-again c = let b = c .before in let n = b .before .before in let i = n .before in let l = i .before .before in let a = l .before .before .args in
-    l .loop .inv ∙ names-miss (a .back .now) (a .c .now) (l .loop .e) (l .loop .first) (i .next-line .result) (n .line-end .result) (i .before .loop-test .taken) (i .next-line .ensures) (n .line-end .ensures) (sym (c .if1 .left) ∙ b .breaks-line .ensures)
+    l .loop .inv ∙ names-miss (a .back .now) (a .c .now) (l .loop .e) (l .loop .first) (i .next-line .result) (n .mark-at .result) (i .before .loop-test .taken) (i .next-line .ensures) (n .mark-at .ensures) (sym (c .if1 .left) ∙ b .breaks-line .ensures)
 
 returns-2 : tie.Need-returns-2 Inv-loop μ-loop
 returns-2 c = let l = c .before in let a = l .before .before .args in names-end (a .back .now) (a .c .now) (l .loop .e) (l .loop .first) (c .loop-test .left) ∙ sym (l .loop .inv)
@@ -66,7 +66,7 @@ in-names-spec =
     μ-loop
     loop-holds
     next-line-requires
-    line-end-requires
+    mark-at-requires
     sub-breaks-line
     part-breaks-line-start
     part-breaks-line-end

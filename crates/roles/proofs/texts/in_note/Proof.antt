@@ -7,11 +7,11 @@ use borrow.Author.Needs.{needs}
 use Rattle.roles.proofs.texts.in_note.Statement.{statement}
 use Rattle.roles.proofs.texts.in_note.Tie as tie
 
-line-end-requires : tie.Need-line-end-requires
-line-end-requires c κs = search needs
+mark-at-requires : tie.Need-mark-at-requires
+mark-at-requires c κs = search needs
 
 slice-aggregate-is-rpp : tie.Need-slice-aggregate-is-rpp
-slice-aggregate-is-rpp c = let n = c .before in head-size (n .before .before .args .c .now) (n .line-end .result) (n .line-end .ensures)
+slice-aggregate-is-rpp c = let n = c .before in head-size (n .before .before .args .c .now) (n .mark-at .result) (n .mark-at .ensures)
 
 is-rpp-requires : tie.Need-is-rpp-requires
 is-rpp-requires c κs = search needs
@@ -20,10 +20,10 @@ in-details-requires : tie.Need-in-details-requires
 in-details-requires c κs = search needs
 
 returns : tie.Need-returns
-returns c = let s = c .before .before in let n = s .before .before in let a = n .before .before .args in c .in-details .ensures ∙ note-none (a .back .now) (a .c .now) (n .line-end .result) (n .line-end .ensures) (sym (not-true _ (c .before .if1 .taken)) ∙ s .is-rpp .ensures)
+returns c = let s = c .before .before in let n = s .before .before in let a = n .before .before .args in c .in-details .ensures ∙ note-none (a .back .now) (a .c .now) (n .mark-at .result) (n .mark-at .ensures) (sym (not-true _ (c .before .if1 .taken)) ∙ s .is-rpp .ensures)
 
 returns-2 : tie.Need-returns-2
-returns-2 c = let s = c .before .before in let n = s .before .before in let a = n .before .before .args in note-alone (a .back .now) (a .c .now) (n .line-end .result) (n .line-end .ensures) (sym (not-false _ (c .before .if1 .left)) ∙ s .is-rpp .ensures) (c .if2 .taken)
+returns-2 c = let s = c .before .before in let n = s .before .before in let a = n .before .before .args in note-alone (a .back .now) (a .c .now) (n .mark-at .result) (n .mark-at .ensures) (sym (not-false _ (c .before .if1 .left)) ∙ s .is-rpp .ensures) (c .if2 .taken)
 
 add-in-details : tie.Need-add-in-details
 add-in-details c = search needs
@@ -32,13 +32,13 @@ in-details-requires-2 : tie.Need-in-details-requires-2
 in-details-requires-2 c κs = search needs
 
 returns-3 : tie.Need-returns-3
-returns-3 c = let s = c .before .before .before in let n = s .before .before in let a = n .before .before .args in c .in-details2 .ensures ∙ note-more (a .back .now) (a .c .now) (n .line-end .result) (n .line-end .ensures) (sym (not-false _ (c .before .before .if1 .left)) ∙ s .is-rpp .ensures) (c .before .if2 .left)
+returns-3 c = let s = c .before .before .before in let n = s .before .before in let a = n .before .before .args in c .in-details2 .ensures ∙ note-more (a .back .now) (a .c .now) (n .mark-at .result) (n .mark-at .ensures) (sym (not-false _ (c .before .before .if1 .left)) ∙ s .is-rpp .ensures) (c .before .if2 .left)
 
 pub in-note-spec : {M : Type 1} → statement M
 in-note-spec =
     tie.close
     (tie.spec
-    line-end-requires
+    mark-at-requires
     slice-aggregate-is-rpp
     is-rpp-requires
     in-details-requires

@@ -1,116 +1,32 @@
--- `sheets::built::put_sheet` meets its contract: from each field on as from the first. Assumes nothing.
+-- `sheets::built::put_sheet` meets its contract. Assumes nothing.
+use Rattle.sheets.proofs.CallLaws.{type-fine, sheet-put}
+use mathlib.Core.Path.{_∙_}
 use borrow.Author.Needs.{needs}
-use Rattle.sheets.proofs.StepLaws.{Leads}
-use Rattle.sheets.proofs.FieldLaws.{part, part-within, part-sound, sheet-on, sheet-end}
-use Rattle.sheets.specs.Steps.{tagEnd, sheetBy}
-use Rattle.fields.specs.Field.{fields}
-use Rattle.base.specs.Bytes.{byte}
-use lib.ListN.{length, drop}
-use native.Mathlib.Omega.{arith}
-use mathlib.Core.Path.{_≡_, refl}
-use Prim.Native.Nat.{_+_, _-_, _*_, _≤_, _<_}
 use Rattle.sheets.proofs.built.put_sheet.Statement.{statement}
 use Rattle.sheets.proofs.built.put_sheet.Tie as tie
 use Rattle.sheets.proofs.built.put_sheet.Reads as reads
 use Rattle.sheets.proofs.built.put_sheet.Lts as lts
-use Rattle.sheets.proofs.built.put_field.Reads as put-field-reads
-use Rattle.sheets.proofs.built.put_type.Reads as put-type-reads
+use Rattle.alphabets.proofs.pieces.back_table.Reads as back-table-reads
+use Rattle.judge.proofs.sign.is_signed.Reads as is-signed-reads
+use Rattle.judge.proofs.PartLaws.{signed-is}
+use Rattle.sheets.proofs.built.put_records.Reads as put-records-reads
 
-abbrev Inv-loop : tie.InvT-loop
-Inv-loop back kind sign m spots n out₀ at₀ k₀ out at k = (length out ≡ length out₀) × (k ≤ n) × (at ≤ at₀ + 30000 * k)
-    × Leads (sheetBy back kind sign (fields m)) out₀ at₀ (sheetBy back kind sign (drop k (fields m))) out at
+back-table-requires : tie.Need-back-table-requires
+back-table-requires c κs = search needs
 
-abbrev μ-loop : tie.MeasureT-loop
-μ-loop back kind sign m spots n out₀ at₀ k₀ out at k = n - k
+is-signed-requires : tie.Need-is-signed-requires
+is-signed-requires c κs = search needs
 
-near : (c : tie.In-loop Inv-loop μ-loop) → c .before .loop .k < length (fields (c .before .before .before .before .before .before .before .before .args .m .now))
-near c = omega (arith, c .loop-test .taken, c .before .before .before .before .before .before .before .before .pre .2)
+put-records-requires : tie.Need-put-records-requires
+put-records-requires c κs = let s = c .before .before .before .before .before .before in (type-fine (s .args .kind) (s .args .m .now) (s .pre .fine), s .pre .settled, s .pre .count)
 
-within : (c : tie.In-loop Inv-loop μ-loop) → let o = byte (c .before .before .before .before .before .before .before .before .args .spots .now) in let k = c .before .loop .k in (o k ≤ o (k + 1) - 2) × (2 ≤ o (k + 1)) × (o (k + 1) - 2 ≤ length (c .before .before .before .before .before .before .before .before .args .m .now)) × (o (k + 1) ≤ 10000)
-within c = part-within (c .before .before .before .before .before .before .before .before .pre .1) (c .before .loop .k) (near c)
-
-sound : (c : tie.In-loop Inv-loop μ-loop) → let f = part (c .before .before .before .before .before .before .before .before .pre .1) (c .before .loop .k) (near c) in (4 ≤ length f) × (tagEnd f < length f) × (length f ≤ 10000)
-sound c = part-sound (c .before .before .before .before .before .before .before .before .pre .1) (c .before .loop .k) (near c)
-
-put-type-requires : tie.Need-put-type-requires Inv-loop μ-loop
-put-type-requires c κs = (c .before .before .before .pre .0)
-
-loop-holds : tie.Need-loop-holds Inv-loop μ-loop
-loop-holds c = (refl, omega arith, omega arith, λ r after d. d)
-
-mul-o : tie.Need-mul-o Inv-loop μ-loop
-mul-o c = search needs
-
-element-copy-out-o : tie.Need-element-copy-out-o Inv-loop μ-loop
-element-copy-out-o c = omega (arith, (c .before .before .before .before .before .before .before .before .pre .1 .few), (c .before .before .before .before .before .before .before .before .pre .2), (c .loop-test .taken))
-
-cast-o : tie.Need-cast-o Inv-loop μ-loop
-cast-o c = omega (arith, within (c .before))
-
-add-e : tie.Need-add-e Inv-loop μ-loop
-add-e c = omega (arith, (c .before .before .before .before .before .before .before .before .before .pre .1 .few), (c .before .before .before .before .before .before .before .before .before .pre .2), (c .before .loop-test .taken))
-
-mul-e : tie.Need-mul-e Inv-loop μ-loop
-mul-e c = omega (arith, (c .before .before .before .before .before .before .before .before .before .pre .1 .few), (c .before .before .before .before .before .before .before .before .before .pre .2), (c .before .loop-test .taken))
-
-element-copy-out-e : tie.Need-element-copy-out-e Inv-loop μ-loop
-element-copy-out-e c = omega (arith, (c .before .before .before .before .before .before .before .before .before .pre .1 .few), (c .before .before .before .before .before .before .before .before .before .pre .2), (c .before .loop-test .taken))
-
-cast-e : tie.Need-cast-e Inv-loop μ-loop
-cast-e c = omega (arith, within (c .before .before))
-
-sub-put-field : tie.Need-sub-put-field Inv-loop μ-loop
-sub-put-field c = omega (arith, within (c .before .before))
-
-sub-put-field-2 : tie.Need-sub-put-field-2 Inv-loop μ-loop
-sub-put-field-2 c = omega (arith, within (c .before .before))
-
-part-put-field-start : tie.Need-part-put-field-start Inv-loop μ-loop
-part-put-field-start c = omega (arith, within (c .before .before))
-
-part-put-field-end : tie.Need-part-put-field-end Inv-loop μ-loop
-part-put-field-end c = omega (arith, within (c .before .before))
-
-put-field-requires : tie.Need-put-field-requires Inv-loop μ-loop
-put-field-requires c κs = let w = sound (c .before .before .before .before) in (w .0, w .1, w .2, omega (arith, (c .before .before .before .before .before .loop .inv .2), (c .before .before .before .before .before .before .before .before .put-type .ensures .0), (c .before .before .before .before .before .before .before .before .before .before .before .before .pre .1 .few), (c .before .before .before .before .before .before .before .before .before .before .before .before .pre .2), (c .before .before .before .before .loop-test .taken)))
-
-add-k : tie.Need-add-k Inv-loop μ-loop
-add-k c = omega (arith, (c .before .before .before .before .before .before .before .before .before .before .before .before .before .before .before .pre .1 .few), (c .before .before .before .before .before .before .before .before .before .before .before .before .before .before .before .pre .2), (c .before .before .before .before .before .before .before .loop-test .taken))
-
-loop-less : tie.Need-loop-less Inv-loop μ-loop
-loop-less c = omega (arith, (c .before .before .before .before .before .before .before .loop-test .taken))
-
-loop-again : tie.Need-loop-again Inv-loop μ-loop
-loop-again c = (search needs, omega (arith, (c .before .before .before .before .before .before .before .loop-test .taken)), omega (arith, sound (c .before .before .before .before .before .before .before), (c .before .before .before .before .before .before .before .before .loop .inv .2), (c .before .before .put-field .ensures .0)), sheet-on (c .before .before .before .before .before .before .before .before .before .before .before .before .before .before .before .pre .1) (c .before .before .before .before .before .before .before .before .loop .k) (near (c .before .before .before .before .before .before .before)) (c .before .before .before .before .before .before .before .before .before .before .before .before .before .before .before .args .back .now) (c .before .before .before .before .before .before .before .before .before .before .before .before .before .before .before .args .kind) (c .before .before .before .before .before .before .before .before .before .before .before .before .before .before .before .args .sign) (c .before .before .before .before .before .before .before .before .loop .inv .3) (c .before .before .put-field .ensures .1))
-
-same-length : tie.Need-same-length Inv-loop μ-loop
+same-length : tie.Need-same-length
 same-length c = search needs
 
-returns : tie.Need-returns Inv-loop μ-loop
-returns c = sheet-end (c .before .before .before .before .before .before .before .before .args .m .now) (c .before .loop .k) (c .before .before .before .before .before .before .before .before .args .n) (c .before .before .before .before .before .before .before .before .pre .2) (c .loop-test .left) (c .before .before .before .before .before .before .before .before .args .back .now) (c .before .before .before .before .before .before .before .before .args .kind) (c .before .before .before .before .before .before .before .before .args .sign) (c .before .before .before .before .put-type .ensures .1) (c .before .loop .inv .3)
+returns : tie.Need-returns
+returns c = let s = c .before .before .before .before .before .before .before .before .before in (c .before .before .put-records .ensures .0, sheet-put (s .args .kind) (s .args .m .now) (s .pre .fine) (c .before .before .before .before .before .before .back-table .ensures) (c .before .before .before .before .before .is-signed .ensures ∙ signed-is (s .pre .settled)) (c .before .before .put-records .ensures .1))
 
 pub put-sheet-spec : {M : Type 1} → statement M
 put-sheet-spec =
     tie.close
-    (tie.spec
-    Inv-loop
-    μ-loop
-    put-type-requires
-    loop-holds
-    mul-o
-    element-copy-out-o
-    cast-o
-    add-e
-    mul-e
-    element-copy-out-e
-    cast-e
-    sub-put-field
-    sub-put-field-2
-    part-put-field-start
-    part-put-field-end
-    put-field-requires
-    add-k
-    loop-less
-    loop-again
-    same-length
-    returns)
+    (tie.spec back-table-requires is-signed-requires put-records-requires same-length returns)

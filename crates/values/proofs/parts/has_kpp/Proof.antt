@@ -7,6 +7,7 @@ use native.Mathlib.Omega.{arith}
 use Rattle.fields.specs.Field.{upto}
 use Rattle.values.specs.Values.{isTax, withKpp}
 use Rattle.values.proofs.PartLaws.{kpp-empty, kpp-at, kpp-past, place-first, place-behind, rest-of}
+use Rattle.base.proofs.MarkLaws.{up-rest}
 use borrow.Author.Needs.{needs}
 use Rattle.values.proofs.parts.has_kpp.Statement.{statement}
 use Rattle.values.proofs.parts.has_kpp.Tie as tie
@@ -27,15 +28,15 @@ returns-2 : tie.Need-returns-2
 returns-2 c = let t = c .before in let f = t .before in let a = f .before .before .before .before .args in
     c .is-kpp-front .ensures ∙ sym (kpp-at (a .payer) (a .content .now) 0 (place-first (a .payer) (a .content .now) (sym (f .is-first .ensures) ∙ t .if2 .taken)))
 
-end-of-requires : tie.Need-end-of-requires
-end-of-requires c κs = search needs
+mark-at-requires : tie.Need-mark-at-requires
+mark-at-requires c κs = search needs
 
 sub-if3 : tie.Need-sub-if3
-sub-if3 c = search needs
+sub-if3 c = let a = c .before .before .before .before .before .before .args .content .now in omega (arith, up-rest 13 a 0 (omega arith), c .mark-at .ensures)
 
 returns-3 : tie.Need-returns-3
 returns-3 c = let n = c .before in let t = n .before in let f = t .before in let a = f .before .before .before .before .args in
-    sym (kpp-past (a .payer) (a .content .now) (n .end-of .result + 2) (place-behind (a .payer) (a .content .now) (n .end-of .result) (n .end-of .ensures .0) (sym (f .is-first .ensures) ∙ t .if2 .left)) (omega arith))
+    sym (kpp-past (a .payer) (a .content .now) (n .mark-at .result + 2) (place-behind (a .payer) (a .content .now) (n .mark-at .result) (n .mark-at .ensures) (sym (f .is-first .ensures) ∙ t .if2 .left)) (omega arith))
 
 add-is-kpp-front : tie.Need-add-is-kpp-front
 add-is-kpp-front c = search needs
@@ -54,8 +55,8 @@ is-kpp-front-requires-2 c κs = search needs
 
 returns-4 : tie.Need-returns-4
 returns-4 c = let n = c .before .before .before in let t = n .before in let f = t .before in let a = f .before .before .before .before .args in
-    c .is-kpp-front2 .ensures ∙ ap (λ (s : List ℕ). isTax (upto 13 s) && withKpp (upto 13 s)) (rest-of (a .content .now) (n .end-of .result + 2))
-    ∙ sym (kpp-at (a .payer) (a .content .now) (n .end-of .result + 2) (place-behind (a .payer) (a .content .now) (n .end-of .result) (n .end-of .ensures .0) (sym (f .is-first .ensures) ∙ t .if2 .left)))
+    c .is-kpp-front2 .ensures ∙ ap (λ (s : List ℕ). isTax (upto 13 s) && withKpp (upto 13 s)) (rest-of (a .content .now) (n .mark-at .result + 2))
+    ∙ sym (kpp-at (a .payer) (a .content .now) (n .mark-at .result + 2) (place-behind (a .payer) (a .content .now) (n .mark-at .result) (n .mark-at .ensures) (sym (f .is-first .ensures) ∙ t .if2 .left)))
 
 pub has-kpp-spec : {M : Type 1} → statement M
 has-kpp-spec =
@@ -66,7 +67,7 @@ has-kpp-spec =
     is-first-requires
     is-kpp-front-requires
     returns-2
-    end-of-requires
+    mark-at-requires
     sub-if3
     returns-3
     add-is-kpp-front

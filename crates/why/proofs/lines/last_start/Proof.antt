@@ -3,6 +3,7 @@ use Prim.Native.Nat.{_+_, _-_, _≤_}
 use mathlib.Core.Logic.{⊎-elim}
 use native.Mathlib.Omega.{arith}
 use borrow.Author.Needs.{needs}
+use Rattle.base.proofs.MarkLaws.{up-rest}
 use Rattle.why.proofs.lines.last_start.Statement.{statement}
 use Rattle.why.proofs.lines.last_start.Tie as tie
 
@@ -21,11 +22,11 @@ shared-slice-read-is-wanted c = omega arith
 is-wanted-requires : tie.Need-is-wanted-requires Inv-loop μ-loop
 is-wanted-requires c κs = search needs
 
-find-requires : tie.Need-find-requires Inv-loop μ-loop
-find-requires c κs = search needs
+mark-at-requires : tie.Need-mark-at-requires Inv-loop μ-loop
+mark-at-requires c κs = search needs
 
 add-at : tie.Need-add-at Inv-loop μ-loop
-add-at c = omega arith
+add-at c = let l = c .before .before .before .before .before in omega (arith, up-rest 10 (l .before .before .args .s .now) (l .loop .at) (omega arith))
 
 loop-less : tie.Need-loop-less Inv-loop μ-loop
 loop-less c = omega arith
@@ -45,7 +46,7 @@ last-start-spec =
     loop-holds
     shared-slice-read-is-wanted
     is-wanted-requires
-    find-requires
+    mark-at-requires
     add-at
     loop-less
     loop-again

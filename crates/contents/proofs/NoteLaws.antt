@@ -1,0 +1,82 @@
+-- The steps of details and of the note of a 202. Assumes nothing.
+use Prim.Native.Nat.{ℕ, _+_, _-_, _≤_, _<_, min}
+use mathlib.Core.Path.{_≡_, sym, ap, ap₂, _∙_}
+use mathlib.Core.Bool.{Bool, true, false}
+use mathlib.Core.List.{List, [], _∷_, _++_, append-nil}
+use native.Mathlib.Omega.{arith}
+use lib.ListN.{length, take, drop, length-drop}
+use Rattle.base.proofs.ByteLaws.{past-in}
+use Rattle.base.specs.Choice.{pick}
+use Rattle.base.specs.Bytes.{upTo}
+use Rattle.base.specs.Calls.{placed}
+use Rattle.machine.specs.Lines.{linesIn}
+use Rattle.values.specs.Values.{isRpp}
+use Rattle.roles.specs.Speech.{codeSize}
+use Rattle.roles.specs.Found.{linesPast}
+use Rattle.roles.proofs.LineLaws.{lines-head, past-none, past-at, head-size, head-within}
+use Rattle.records.specs.Record.{tabbed, line}
+use Rattle.contents.specs.Contents.{codeDigits, cutBy, overBy, toldBy, noteBy}
+use Rattle.contents.specs.Steps.{Puts, far}
+use Rattle.contents.proofs.StepLaws.{puts-on, puts-by, tab-put, take-few, code-few}
+
+-- ---- details, of a content whose first line ends at e
+module _ (c : List ℕ) (e : ℕ) (q : e ≡ 0 + upTo 13 (drop 0 c)) (t : List ℕ) (s : Bool) where
+  pub told-put : (first mark : ℕ) {k v : List ℕ} → k ≡ drop first (take e c) → v ≡ codeDigits s k → {z : ℕ} → z ≡ codeSize s
+      → {out mid now after : List ℕ} {at n r : ℕ} → Puts (9 ∷ v) out at n mid → now ≡ placed mid n (9 ∷ []) → Puts (overBy t s false (cutBy (first + z) mark (linesIn c))) now (n + 1) r after
+      → n ≤ at + 1 + length v → r ≤ n + 1 + length c → (r ≤ at + length c + 7) × Puts (tabbed (toldBy t s first mark (linesIn c))) out at r after
+  told-put first mark {k} {v} hk hv {z} hz p f o i j =
+      let ls = linesPast c e in
+      let l = take e c in
+      let x : List ℕ = overBy t s false (cutBy (first + z) mark (linesIn c)) in
+      let y : List ℕ = overBy t s false (cutBy (first + codeSize s) mark (l ∷ ls)) in
+      let same : x ≡ y = ap₂ (λ (i : ℕ) (xs : List (List ℕ)). overBy t s false (cutBy (first + i) mark xs)) hz (lines-head c e q) in (
+        omega (arith, code-few s k hv),
+        puts-by (ap₂ (λ (a b : List ℕ). 9 ∷ (a ++ 9 ∷ b)) (hv ∙ ap (codeDigits s) hk) (same ∙ sym (append-nil y)) ∙ ap (λ (xs : List (List ℕ)). tabbed (toldBy t s first mark xs)) (sym (lines-head c e q)))
+            (puts-on (9 ∷ v) (9 ∷ x) p (tab-put f o)),
+      )
+
+  -- the VO digits are few
+  pub digits-need : (k : List ℕ) {v : List ℕ} → v ≡ codeDigits s k → (at : ℕ) → at + 200000 ≤ far → (length v ≤ 10000) × (at + 1 ≤ far)
+  digits-need k hv at a = (omega (arith, code-few s k hv), omega arith)
+
+  pub over-needs : (k : List ℕ) {v : List ℕ} → v ≡ codeDigits s k → (at : ℕ) {n : ℕ} → length c ≤ 10000 → at + 200000 ≤ far → n ≤ at + 1 + length v → (length c ≤ 10000) × (n + 1 + 100000 ≤ far)
+  over-needs k hv at h a b = (h, omega (arith, code-few s k hv))
+
+  head-small : (d : ℕ) {l : List ℕ} → l ≡ drop d (take e c) → (length l ≤ e) × (e ≤ length c)
+  head-small d z = (omega (arith, ap length z ∙ length-drop d (take e c), head-size c e q), head-within c e q)
+
+  -- 72 of a 202
+  note-is : {b : Bool} → b ≡ isRpp (take e c) → tabbed (pick b (drop 5 (take e c) ∷ toldBy t s 5 2 (linesPast c e)) ([] ∷ toldBy t s 5 2 (linesIn c))) ≡ tabbed (noteBy t s (linesIn c))
+  note-is {b} f =
+      ap (λ (xs : List (List ℕ)). tabbed (pick b (drop 5 (take e c) ∷ toldBy t s 5 2 (linesPast c e)) ([] ∷ toldBy t s 5 2 xs))) (lines-head c e q)
+      ∙ ap (λ (d : Bool). tabbed (pick d (drop 5 (take e c) ∷ toldBy t s 5 2 (linesPast c e)) ([] ∷ toldBy t s 5 2 (take e c ∷ linesPast c e)))) f
+      ∙ ap (λ (xs : List (List ℕ)). tabbed (noteBy t s xs)) (sym (lines-head c e q))
+
+  module _ {b : Bool} (f : b ≡ isRpp (take e c)) where
+    pub first-needs : (at : ℕ) → length c ≤ 10000 → at + 300000 ≤ far → (5 ≤ 5) × (length c ≤ 10000) × (at + 1 + 200000 ≤ far)
+    first-needs at h a = (omega arith, h, omega arith)
+
+    pub note-none : {out mid after : List ℕ} {at r : ℕ} → b ≡ false → mid ≡ placed out at (9 ∷ []) → r ≤ at + 1 + length c + 7 → Puts (tabbed (toldBy t s 5 2 (linesIn c))) mid (at + 1) r after
+        → (r ≤ at + length c + 8) × Puts (tabbed (noteBy t s (linesIn c))) out at r after
+    note-none g m k p = (omega arith, puts-by (note-is (sym g ∙ f)) (tab-put m p))
+
+    module _ (g : b ≡ true) {p : List ℕ} (h : p ≡ drop 5 (take e c)) where
+      pub rpp-needs : (at : ℕ) → length c ≤ 10000 → at + 300000 ≤ far → (length p ≤ 10000) × (at + 1 ≤ far)
+      rpp-needs at k a = (omega (arith, head-small 5 h), omega arith)
+
+      pub rest-needs : (at : ℕ) {n : ℕ} (i : ℕ) → length c ≤ 10000 → at + 300000 ≤ far → n ≤ at + 1 + length p → (5 ≤ 5) × (length (take (length c - i) (drop i c)) ≤ 10000) × (n + 200000 ≤ far)
+      rest-needs at i k a b = (omega arith, omega (arith, take-few (length c - i) (drop i c)), omega (arith, head-small 5 h))
+
+      pub note-alone : {out mid : List ℕ} {at n : ℕ} → length c ≤ e → n ≤ at + 1 + length p → Puts (9 ∷ p) out at n mid → (n ≤ at + length c + 8) × Puts (tabbed (noteBy t s (linesIn c))) out at n mid
+      note-alone k i a =
+          (omega (arith, head-small 5 h), puts-by (ap (λ (x : List ℕ). 9 ∷ x) (h ∙ sym (append-nil (drop 5 (take e c)))) ∙ ap (λ (xs : List (List ℕ)). 9 ∷ (drop 5 (take e c) ++ tabbed (toldBy t s 5 2 xs))) (sym (past-none c e k)) ∙ note-is (sym g ∙ f)) a)
+
+      pub note-more : {out mid after : List ℕ} {at n r : ℕ} (i : ℕ) → e < length c → i ≡ min (e + 2) (length c) → n ≤ at + 1 + length p → Puts (9 ∷ p) out at n mid
+          → r ≤ n + length (take (length c - i) (drop i c)) + 7 → Puts (tabbed (toldBy t s 5 2 (linesIn (take (length c - i) (drop i c))))) mid n r after
+          → (r ≤ at + length c + 8) × Puts (tabbed (noteBy t s (linesIn c))) out at r after
+      note-more i k j x a y d = (
+        omega (arith, head-small 5 h, take-few (length c - i) (drop i c)),
+        puts-by
+            (ap₂ (λ (x : List ℕ) (xs : List (List ℕ)). 9 ∷ (x ++ tabbed (toldBy t s 5 2 xs))) h (ap linesIn (past-in c i) ∙ sym (past-at c e i k j)) ∙ note-is (sym g ∙ f))
+            (puts-on (9 ∷ p) (tabbed (toldBy t s 5 2 (linesIn (take (length c - i) (drop i c))))) a d),
+      )

@@ -1,0 +1,106 @@
+-- `contents::notes::put_note` meets its contract: with an RPP line and without. Assumes nothing.
+use Rattle.contents.proofs.NoteLaws.{first-needs, note-none, rpp-needs, rest-needs, note-alone, note-more}
+use Rattle.roles.proofs.LineLaws.{head-size}
+use borrow.Author.Tests.{not-true, not-false}
+use Prim.Native.Nat.{_-_}
+use borrow.Author.Needs.{needs}
+use Rattle.contents.proofs.notes.put_note.Statement.{statement}
+use Rattle.contents.proofs.notes.put_note.Tie as tie
+use Rattle.contents.proofs.notes.put_note.Reads as reads
+use Rattle.contents.proofs.notes.put_note.Lts as lts
+use Rattle.base.proofs.bytes.put.Reads as put-reads
+use Rattle.base.proofs.marks.mark_at.Reads as mark-at-reads
+use Rattle.machine.proofs.lines.next_line.Reads as next-line-reads
+use Rattle.contents.proofs.notes.put_told.Reads as put-told-reads
+use Rattle.base.proofs.bytes.past.Reads as past-reads
+use Rattle.contents.proofs.texts.put_part.Reads as put-part-reads
+use Rattle.values.proofs.parts.is_rpp.Reads as is-rpp-reads
+
+mark-at-requires : tie.Need-mark-at-requires
+mark-at-requires c κs = search needs
+
+slice-aggregate-is-rpp : tie.Need-slice-aggregate-is-rpp
+slice-aggregate-is-rpp c = head-size (c .before .before .before .before .args .c .now) (c .before .mark-at .result) (c .before .mark-at .ensures)
+
+is-rpp-requires : tie.Need-is-rpp-requires
+is-rpp-requires c κs = search needs
+
+slice-aggregate-put : tie.Need-slice-aggregate-put
+slice-aggregate-put c = search needs
+
+put-requires : tie.Need-put-requires
+put-requires c κs = search needs
+
+add-put-told : tie.Need-add-put-told
+add-put-told c = search needs
+
+put-told-requires : tie.Need-put-told-requires
+put-told-requires c κs = let s = c .before .before .before .before .before .before .before .before .before .before .before .before in let a = s .args in first-needs (a .c .now) (c .before .before .before .before .before .before .before .before .before .mark-at .result) (c .before .before .before .before .before .before .before .before .before .mark-at .ensures) (a .back .now) (a .sign) (c .before .before .before .before .before .before .before .is-rpp .ensures) (a .at) (s .pre .0) (s .pre .1)
+
+same-length : tie.Need-same-length
+same-length c = search needs
+
+returns : tie.Need-returns
+returns c = let a = c .before .before .before .before .before .before .before .before .before .before .before .before .before .before .before .args in note-none (a .c .now) (c .before .before .before .before .before .before .before .before .before .before .before .before .mark-at .result) (c .before .before .before .before .before .before .before .before .before .before .before .before .mark-at .ensures) (a .back .now) (a .sign) (c .before .before .before .before .before .before .before .before .before .before .is-rpp .ensures) (not-true _ (c .before .before .before .before .before .before .before .before .before .if1 .taken)) (c .before .before .before .before .before .before .put .ensures) (c .before .before .put-told .ensures .0) (c .before .before .put-told .ensures .1)
+
+slice-aggregate-past : tie.Need-slice-aggregate-past
+slice-aggregate-past c = head-size (c .before .before .before .before .before .before .before .args .c .now) (c .before .before .before .before .mark-at .result) (c .before .before .before .before .mark-at .ensures)
+
+past-requires : tie.Need-past-requires
+past-requires c κs = search needs
+
+put-part-requires : tie.Need-put-part-requires
+put-part-requires c κs = let s = c .before .before .before .before .before .before .before .before .before in let a = s .args in rpp-needs (a .c .now) (c .before .before .before .before .before .before .mark-at .result) (c .before .before .before .before .before .before .mark-at .ensures) (a .back .now) (a .sign) (c .before .before .before .before .is-rpp .ensures) (not-false _ (c .before .before .before .if1 .left)) (c .before .past .ensures) (a .at) (s .pre .0) (s .pre .1)
+
+same-length-2 : tie.Need-same-length-2
+same-length-2 c = search needs
+
+returns-2 : tie.Need-returns-2
+returns-2 c = let a = c .before .before .before .before .before .before .before .before .before .before .before .before .before .args in note-alone (a .c .now) (c .before .before .before .before .before .before .before .before .before .before .mark-at .result) (c .before .before .before .before .before .before .before .before .before .before .mark-at .ensures) (a .back .now) (a .sign) (c .before .before .before .before .before .before .before .before .is-rpp .ensures) (not-false _ (c .before .before .before .before .before .before .before .if1 .left)) (c .before .before .before .before .before .past .ensures) (c .if2 .taken) (c .before .before .before .put-part .ensures .0) (c .before .before .before .put-part .ensures .1)
+
+next-line-requires : tie.Need-next-line-requires
+next-line-requires c κs = search needs
+
+sub-put-told : tie.Need-sub-put-told
+sub-put-told c = search needs
+
+part-put-told-start : tie.Need-part-put-told-start
+part-put-told-start c = search needs
+
+part-put-told-end : tie.Need-part-put-told-end
+part-put-told-end c = search needs
+
+put-told-requires-2 : tie.Need-put-told-requires-2
+put-told-requires-2 c κs = let s = c .before .before .before .before .before .before .before .before .before .before .before .before .before .before .before .before in let a = s .args in rest-needs (a .c .now) (c .before .before .before .before .before .before .before .before .before .before .before .before .before .mark-at .result) (c .before .before .before .before .before .before .before .before .before .before .before .before .before .mark-at .ensures) (a .back .now) (a .sign) (c .before .before .before .before .before .before .before .before .before .before .before .is-rpp .ensures) (not-false _ (c .before .before .before .before .before .before .before .before .before .before .if1 .left)) (c .before .before .before .before .before .before .before .before .past .ensures) (a .at) (c .before .before .next-line .result) (s .pre .0) (s .pre .1) (c .before .before .before .before .before .before .put-part .ensures .0)
+
+same-length-3 : tie.Need-same-length-3
+same-length-3 c = search needs
+
+returns-3 : tie.Need-returns-3
+returns-3 c = let a = c .before .before .before .before .before .before .before .before .before .before .before .before .before .before .before .before .before .before .before .args in note-more (a .c .now) (c .before .before .before .before .before .before .before .before .before .before .before .before .before .before .before .before .mark-at .result) (c .before .before .before .before .before .before .before .before .before .before .before .before .before .before .before .before .mark-at .ensures) (a .back .now) (a .sign) (c .before .before .before .before .before .before .before .before .before .before .before .before .before .before .is-rpp .ensures) (not-false _ (c .before .before .before .before .before .before .before .before .before .before .before .before .before .if1 .left)) (c .before .before .before .before .before .before .before .before .before .before .before .past .ensures) (c .before .before .before .before .before .next-line .result) (c .before .before .before .before .before .before .if2 .left) (c .before .before .before .before .before .next-line .ensures) (c .before .before .before .before .before .before .before .before .before .put-part .ensures .0) (c .before .before .before .before .before .before .before .before .before .put-part .ensures .1) (c .before .before .put-told2 .ensures .0) (c .before .before .put-told2 .ensures .1)
+
+pub put-note-spec : {M : Type 1} → statement M
+put-note-spec =
+    tie.close
+    (tie.spec
+    mark-at-requires
+    slice-aggregate-is-rpp
+    is-rpp-requires
+    slice-aggregate-put
+    put-requires
+    add-put-told
+    put-told-requires
+    same-length
+    returns
+    slice-aggregate-past
+    past-requires
+    put-part-requires
+    same-length-2
+    returns-2
+    next-line-requires
+    sub-put-told
+    part-put-told-start
+    part-put-told-end
+    put-told-requires-2
+    same-length-3
+    returns-3)

@@ -1,0 +1,74 @@
+-- `contents::notes::put_told` meets its contract. Assumes nothing.
+use Rattle.contents.proofs.StepLaws.{code-few}
+use Rattle.contents.proofs.NoteLaws.{digits-need, over-needs, told-put}
+use Rattle.roles.proofs.LineLaws.{head-size}
+use native.Mathlib.Omega.{arith}
+use borrow.Author.Needs.{needs}
+use Rattle.contents.proofs.notes.put_told.Statement.{statement}
+use Rattle.contents.proofs.notes.put_told.Tie as tie
+use Rattle.contents.proofs.notes.put_told.Reads as reads
+use Rattle.contents.proofs.notes.put_told.Lts as lts
+use Rattle.base.proofs.bytes.put.Reads as put-reads
+use Rattle.base.proofs.marks.mark_at.Reads as mark-at-reads
+use Rattle.contents.proofs.notes.code_size.Reads as code-size-reads
+use Rattle.contents.proofs.notes.digits_of.Reads as digits-of-reads
+use Rattle.base.proofs.bytes.past.Reads as past-reads
+use Rattle.contents.proofs.texts.put_over.Reads as put-over-reads
+use Rattle.contents.proofs.texts.put_part.Reads as put-part-reads
+
+mark-at-requires : tie.Need-mark-at-requires
+mark-at-requires c κs = search needs
+
+slice-aggregate-past : tie.Need-slice-aggregate-past
+slice-aggregate-past c = head-size (c .before .before .before .before .args .c .now) (c .before .mark-at .result) (c .before .mark-at .ensures)
+
+past-requires : tie.Need-past-requires
+past-requires c κs = search needs
+
+digits-of-requires : tie.Need-digits-of-requires
+digits-of-requires c κs = search needs
+
+put-part-requires : tie.Need-put-part-requires
+put-part-requires c κs = let s = c .before .before .before .before .before .before .before in digits-need (s .args .c .now) (c .before .before .before .before .mark-at .result) (c .before .before .before .before .mark-at .ensures) (s .args .back .now) (s .args .sign) _ (c .before .digits-of .ensures) (s .args .at) (s .pre .2)
+
+slice-aggregate-put : tie.Need-slice-aggregate-put
+slice-aggregate-put c = search needs
+
+put-requires : tie.Need-put-requires
+put-requires c κs = search needs
+
+code-size-requires : tie.Need-code-size-requires
+code-size-requires c κs = search needs
+
+add-put-over : tie.Need-add-put-over
+add-put-over c = search needs
+
+add-put-over-2 : tie.Need-add-put-over-2
+add-put-over-2 c = omega (arith, code-few (c .before .before .before .before .before .before .before .before .before .before .before .before .before .before .before .before .before .args .sign) _ (c .before .before .before .before .before .before .before .before .before .before .before .digits-of .ensures), (c .before .before .before .before .before .before .before .before .before .put-part .ensures .0), (c .before .before .before .before .before .before .before .before .before .before .before .before .before .before .before .before .before .pre))
+
+put-over-requires : tie.Need-put-over-requires
+put-over-requires c κs = let s = c .before .before .before .before .before .before .before .before .before .before .before .before .before .before .before .before .before in over-needs (s .args .c .now) (c .before .before .before .before .before .before .before .before .before .before .before .before .before .before .mark-at .result) (c .before .before .before .before .before .before .before .before .before .before .before .before .before .before .mark-at .ensures) (s .args .back .now) (s .args .sign) _ (c .before .before .before .before .before .before .before .before .before .before .before .digits-of .ensures) (s .args .at) (s .pre .1) (s .pre .2) (c .before .before .before .before .before .before .before .before .before .put-part .ensures .0)
+
+same-length : tie.Need-same-length
+same-length c = search needs
+
+returns : tie.Need-returns
+returns c = let s = c .before .before .before .before .before .before .before .before .before .before .before .before .before .before .before .before .before .before .before .before in let a = s .args in told-put (a .c .now) (c .before .before .before .before .before .before .before .before .before .before .before .before .before .before .before .before .before .mark-at .result) (c .before .before .before .before .before .before .before .before .before .before .before .before .before .before .before .before .before .mark-at .ensures) (a .back .now) (a .sign) (a .first) (a .mark) (c .before .before .before .before .before .before .before .before .before .before .before .before .before .before .before .past .ensures) (c .before .before .before .before .before .before .before .before .before .before .before .before .before .before .digits-of .ensures) (c .before .before .before .before .code-size .ensures .0) (c .before .before .before .before .before .before .before .before .before .before .before .before .put-part .ensures .1) (c .before .before .before .before .before .before .before .put .ensures) (c .before .before .put-over .ensures .1) (c .before .before .before .before .before .before .before .before .before .before .before .before .put-part .ensures .0) (c .before .before .put-over .ensures .0)
+
+pub put-told-spec : {M : Type 1} → statement M
+put-told-spec =
+    tie.close
+    (tie.spec
+    mark-at-requires
+    slice-aggregate-past
+    past-requires
+    digits-of-requires
+    put-part-requires
+    slice-aggregate-put
+    put-requires
+    code-size-requires
+    add-put-over
+    add-put-over-2
+    put-over-requires
+    same-length
+    returns)

@@ -1,0 +1,252 @@
+-- The ways out of the call. Assumes nothing.
+use Prim.Native.Nat.{ℕ, _+_, _-_, _≤_, _<_}
+use mathlib.Core.Path.{_≡_, refl, sym, ap, ap₂, subst, _∙_}
+use mathlib.Core.Bool.{Bool, true, false}
+use mathlib.Core.List.{List, [], _∷_, tail}
+use native.Mathlib.Omega.{arith}
+use native.Mathlib.Nat.{zero-add}
+use lib.Dec.{eqb}
+use lib.ListN.{length, take, drop, length-replicate}
+use Rattle.base.specs.Choice.{pick}
+use Rattle.base.specs.Bytes.{same, upTo}
+use Rattle.base.specs.Quoted.{bytes}
+use Rattle.base.specs.Rules.{then, first}
+use Rattle.base.specs.Calls.{Answer, said, stuck, long, over, room, placed}
+use Rattle.base.specs.declared.Verdict.{Verdict}
+use Rattle.base.specs.declared.Verdict.the-variants.{Fine, Broken}
+use Rattle.base.proofs.RuleLaws.{fine-broken, then-clean}
+use Rattle.base.proofs.Room.{over-sets}
+use Rattle.base.proofs.CallLaws.{is-long, not-long}
+use Rattle.fields.specs.Field.{field, opening, message}
+use Rattle.fields.specs.Frame.{limit}
+use Rattle.types.specs.Walk.{rule18}
+use Rattle.roles.specs.Role.{Part, cast, shape103, shape202, shapeOf, lineOf}
+use Rattle.roles.specs.declared.Shape.{Shape}
+use Rattle.roles.specs.declared.Shape.the-variants.{Plain}
+use Rattle.records.specs.Record.{Record, line, sheet, recordOf, records}
+use Rattle.records.specs.Places.{nextOf}
+use Rattle.records.specs.Found.{piecesAt, badLine}
+use Rattle.records.specs.Rule19.{typed, typeOf, sheetSign, sheetType, sheetVerdict, rule19, judged}
+use Rattle.records.specs.Sentences.{Sound}
+use Rattle.records.specs.declared.Judged.{Judged}
+use Rattle.records.proofs.SheetLaws.{line-record}
+use Rattle.records.proofs.RuleLaws.{named, named-size, sound-fine, fine-sheet}
+use Rattle.records.proofs.WalkLaws.{first-within, first-size, none-ended, head-record, judge-typed}
+use Rattle.records.proofs.SoundLaws.{sound-behind}
+use Rattle.lines.specs.Spread.{saidPart, castParts, spread}
+use Rattle.lines.specs.Steps.{stoppedAt, Adds}
+use Rattle.drafts.specs.Sheet.{unsaid, rule15, someCrowded, rule16, fieldsOf, messageFor, sheetRules}
+use Rattle.drafts.specs.declared.Draft.{Draft}
+use Rattle.drafts.specs.Draft.{blank, bare, draftBy, draftOf}
+use Rattle.lines.specs.declared.Step.{Step}
+use Rattle.lines.specs.declared.Step.the-variants.{Stuck, Unfit, Put}
+use Rattle.drafts.specs.Steps.{recordStops, recordsAt}
+use Rattle.lines.proofs.StepLaws.{fills-put, adds-front, movedBy, came-stuck, came-unfit, came-put}
+use Rattle.drafts.proofs.NoteLaws.{said-digits}
+use Rattle.drafts.proofs.PutLaws.{bodyOf, rule15-cons}
+
+-- ---- the message whole
+pub message-put : (kind : ℕ) (g : Bool) (rs : List Record) {v : Verdict} {b : Bool} {out mid after : List ℕ} {r : Step} → mid ≡ placed out 0 opening → Adds v b (bodyOf kind g rs) mid 5 r after
+    → Adds v b (message (spread kind g rs)) out 0 r after
+unfolding message
+message-put kind g rs {out = out} {mid = mid} e a = adds-front opening (bodyOf kind g rs) (fills-put out mid opening 0 e) refl a
+
+-- ---- 15 gives its own number alone
+then-number : (n : ℕ) (v w : Verdict) → ((j p : ℕ) → v ≡ Broken j p → j ≡ n) → ((j p : ℕ) → w ≡ Broken j p → j ≡ n) → (j p : ℕ) → then v w ≡ Broken j p → j ≡ n
+then-number n Fine w f g j p e = g j p e
+then-number n (Broken k q) w f g j p e = f j p e
+
+stopped-number : (o : ℕ) (a : Answer) (j p : ℕ) → stoppedAt o a ≡ Broken j p → j ≡ 15
+stopped-number o (said t) j p e = absurd (fine-broken j p e)
+stopped-number o (stuck k) j p e = cc
+
+unsaid-number : (s : Bool) (o : ℕ) (cs : List Part) (j p : ℕ) → unsaid s o cs ≡ Broken j p → j ≡ 15
+unfolding unsaid
+unsaid-number s o [] j p e = absurd (fine-broken j p e)
+unsaid-number s o (c ∷ cs) j p e =
+    then-number 15 (stoppedAt o (saidPart s c)) (unsaid s (o + length (lineOf c) + 1) cs) (stopped-number o (saidPart s c)) (unsaid-number s (o + length (lineOf c) + 1) cs) j p e
+
+rule15-number : (kind : ℕ) (s : Bool) (o : ℕ) (rs : List Record) (j p : ℕ) → rule15 kind s o rs ≡ Broken j p → j ≡ 15
+unfolding rule15
+rule15-number kind s o [] j p e = absurd (fine-broken j p e)
+rule15-number kind s o (field t ps ∷ rs) j p e =
+    then-number 15 (unsaid s (o + length t + 1) (castParts (shapeOf kind t) ps)) (rule15 kind s (nextOf o (field t ps)) rs) (unsaid-number s (o + length t + 1) (castParts (shapeOf kind t) ps)) (rule15-number kind s (nextOf o (field t ps)) rs) j p e
+
+-- ---- the first record can be written
+plain-mt : (kind : ℕ) → shapeOf kind (bytes "MT") ≡ Plain
+unfolding shapeOf shape103 shape202 same
+plain-mt kind = go (eqb kind 103) (eqb kind 202)
+  where
+    go : (a b : Bool) → pick a Plain (pick b Plain Plain) ≡ Plain
+    go true b = refl
+    go false true = refl
+    go false false = refl
+
+first-fine : (kind : ℕ) (s : Bool) (r : Record) → typed r ≡ true → recordStops kind s r ≡ Fine
+unfolding unsaid cast
+first-fine kind s r e =
+    let n = named r e in
+    ap (recordStops kind s) (n .is)
+    ∙ ap (λ (sh : Shape). unsaid s 3 (castParts sh (n .type ∷ []))) (plain-mt kind)
+    ∙ ap (λ (a : Answer). then (stoppedAt 3 a) Fine) (said-digits 3 (n .type) (n .three))
+
+-- ---- a draft by what the rules say
+abbrev pub held : Verdict → ℕ → ℕ → List ℕ → Draft
+held v kind n m = record { verdict = v; kind = kind; size = n; bytes = m }
+
+drafted : (s : List ℕ) {v : Verdict} → first (sheetRules s) ≡ v → draftBy v (sheetType s) (messageFor s) ≡ draftOf s
+unfolding draftOf
+drafted s e = ap (λ (v : Verdict). draftBy v (sheetType s) (messageFor s)) (sym e)
+
+blank-long : length blank ≡ limit
+unfolding blank
+blank-long = length-replicate {A = ℕ} limit 0
+
+made : {j k n l : ℕ} {a b : List ℕ} → j ≡ k → n ≡ l → a ≡ b → held Fine j n a ≡ held Fine k l b
+made {j} {k} {n} {l} {a} {b} p q r = ap₂ (λ (x y : ℕ). held Fine x y a) p q ∙ ap (held Fine k l) r
+
+three-fine : (a b c w : Verdict) → a ≡ Fine → b ≡ Fine → c ≡ Fine → then a (then b (then c w)) ≡ w
+three-fine a b c w p q r = rw (p, q, r)
+
+-- ---- a sheet that 19 and 18 let pass
+module _ (s : List ℕ) (v : sheetVerdict s ≡ Fine) where
+  h : Sound s
+  h = fine-sheet s v .0
+
+  pub type-fine : rule18 (sheetType s) ≡ Fine
+  type-fine = fine-sheet s v .1
+
+  abbrev ours : List Record
+  ours = recordsAt s 7
+
+  tail-is : tail (records s) ≡ ours
+  tail-is = ap tail (h .list) ∙ sound-behind s h
+
+  rule15-is : rule15 (sheetType s) (sheetSign s) 0 (records s) ≡ rule15 (sheetType s) (sheetSign s) 7 ours
+  rule15-is =
+      let z : nextOf 0 (h .head) ≡ 7 = omega (arith, named-size (h .head) (h .names)) in
+      ap (rule15 (sheetType s) (sheetSign s) 0) (h .list ∙ ap (λ (rs : List Record). h .head ∷ rs) (sound-behind s h))
+      ∙ sym (rule15-cons (sheetType s) (sheetSign s) 0 (h .head) ours)
+      ∙ ap₂ (λ (u : Verdict) (k : ℕ). then (movedBy 0 u) (rule15 (sheetType s) (sheetSign s) k ours)) (first-fine (sheetType s) (sheetSign s) (h .head) (h .names)) z
+
+  message-is : message (spread (sheetType s) (sheetSign s) ours) ≡ messageFor s
+  unfolding messageFor fieldsOf
+  message-is = ap (λ (rs : List Record). message (spread (sheetType s) (sheetSign s) rs)) (sym tail-is)
+
+  -- where its first line ends
+  abbrev end : ℕ
+  end = 0 + upTo 10 (drop 0 s)
+
+  goes-on : end ≡ length s → ⊥
+  goes-on z = let n : _≡_ {A = ℕ} 0 (length (h .head ∷ h .behind)) = ap length (sym (none-ended s end refl {g = sheetSign s} refl z) ∙ h .list) in absurd (omega arith)
+
+  abbrev headOr : List Record → Record
+  headOr [] = field [] []
+  headOr (r ∷ rs) = r
+
+  head-is : recordOf (take end s) ≡ h .head
+  head-is = ap headOr (sym (head-record s end refl {g = sheetSign s} refl goes-on) ∙ h .list)
+
+  end-six : end ≡ 6
+  end-six = first-size s end refl {g = sheetSign s} refl ∙ ap length (sym (line-record (take end s))) ∙ ap (λ (r : Record). length (line r)) head-is ∙ named-size (h .head) (h .names)
+
+  pub seven-within : 7 ≤ length s
+  seven-within = let k = goes-on in let w = first-within s end refl {g = sheetSign s} refl in let z = end-six in omega (arith, k)
+
+  pub lines-good : badLine (sheetType s) (sheetSign s) 7 (piecesAt 10 s 7) ≡ Fine
+  unfolding judged sheetType
+  lines-good =
+      let j = judge-typed s end refl {g = sheetSign s} refl goes-on {kind = sheetType s} (ap typed head-is ∙ h .names) (ap typeOf (head-record s end refl {g = sheetSign s} refl goes-on)) refl in
+      let b : badLine (sheetType s) (sheetSign s) (end + 1) (piecesAt 10 s (end + 1)) ≡ Fine
+      = then-clean (badLine (sheetType s) (sheetSign s) (end + 1) (piecesAt 10 s (end + 1))) (rule18 (sheetType s)) (ap (λ (x : Judged). x .verdict) j ∙ v) .0 in
+      subst (λ (k : ℕ). badLine (sheetType s) (sheetSign s) (k + 1) (piecesAt 10 s (k + 1)) ≡ Fine) end-six b
+
+  -- the type and the sign as they were told
+  module _ {kind : ℕ} {g : Bool} (k : kind ≡ sheetType s) (i : g ≡ sheetSign s) where
+    pub told-good : badLine kind g 7 (piecesAt 10 s 7) ≡ Fine
+    told-good = ap₂ (λ (n : ℕ) (b : Bool). badLine n b 7 (piecesAt 10 s 7)) k i ∙ lines-good
+
+    pub told-built : {m mid : List ℕ} {r : Step} → Adds (rule15 kind g 7 ours) (someCrowded kind g ours) (message (spread kind g ours)) m 0 r mid
+        → Adds (rule15 (sheetType s) (sheetSign s) 7 ours) (someCrowded (sheetType s) (sheetSign s) ours) (message (spread (sheetType s) (sheetSign s) ours)) m 0 r mid
+    told-built {m} {mid} {r} a =
+        subst (λ (n : ℕ). Adds (rule15 n (sheetSign s) 7 ours) (someCrowded n (sheetSign s) ours) (message (spread n (sheetSign s) ours)) m 0 r mid) k
+        (subst (λ (b : Bool). Adds (rule15 kind b 7 ours) (someCrowded kind b ours) (message (spread kind b ours)) m 0 r mid) i a)
+
+  module _ (w : length s ≤ limit) where
+    abbrev Left : Verdict
+    Left = then (rule15 (sheetType s) (sheetSign s) 0 (records s)) (then (rule16 (sheetType s) (sheetSign s) (tail (records s))) Fine)
+
+    past : first (sheetRules s) ≡ Left
+    past = three-fine (long limit s) (rule19 s) (rule18 (sheetType s)) Left (not-long limit s w) (sound-fine s h) type-fine
+
+    abbrev Built : List ℕ → Step → List ℕ → Type 0
+    Built m r after = Adds (rule15 (sheetType s) (sheetSign s) 7 ours) (someCrowded (sheetType s) (sheetSign s) ours) (message (spread (sheetType s) (sheetSign s) ours)) m 0 r after
+
+    abbrev size : ℕ
+    size = 0 + length (message (spread (sheetType s) (sheetSign s) ours))
+
+    pub sound-stuck : {m mid : List ℕ} {r : Step} {k : ℕ} → r ≡ Stuck k → Built m r mid → bare (Broken 15 k) 0 0 ≡ draftOf s
+    sound-stuck {m} {mid} {r} {k} e a =
+        let z = came-stuck (rule15 (sheetType s) (sheetSign s) 7 ours) (someCrowded (sheetType s) (sheetSign s) ours) size k (sym e ∙ a .answers) in
+        let n : z .0 ≡ 15 = rule15-number (sheetType s) (sheetSign s) 7 ours (z .0) k (z .1) in
+        drafted s (past ∙ ap (λ (u : Verdict). then u (then (rule16 (sheetType s) (sheetSign s) (tail (records s))) Fine)) (rule15-is ∙ z .1 ∙ ap (λ (j : ℕ). Broken j k) n))
+
+    left-is : {v : Verdict} {b : Bool} → rule15 (sheetType s) (sheetSign s) 7 ours ≡ v → someCrowded (sheetType s) (sheetSign s) ours ≡ b → Left ≡ then v (then (pick b (Broken 16 0) Fine) Fine)
+    unfolding rule16
+    left-is p q = ap₂ (λ (u v : Verdict). then u (then v Fine)) (rule15-is ∙ p) (ap (λ (rs : List Record). rule16 (sheetType s) (sheetSign s) rs) tail-is ∙ ap (λ (b : Bool). pick b (Broken 16 0) Fine) q)
+
+    pub sound-unfit : {m mid : List ℕ} {r : Step} → r ≡ Unfit → Built m r mid → bare (Broken 16 0) 0 0 ≡ draftOf s
+    sound-unfit e a =
+        let z = came-unfit (rule15 (sheetType s) (sheetSign s) 7 ours) (someCrowded (sheetType s) (sheetSign s) ours) size (sym e ∙ a .answers) in
+        drafted s (past ∙ left-is (z .0) (z .1))
+
+    module _ {m mid : List ℕ} {r : Step} {n : ℕ} (e : r ≡ Put n) (a : Built m r mid) where
+      known : (rule15 (sheetType s) (sheetSign s) 7 ours ≡ Fine) × (someCrowded (sheetType s) (sheetSign s) ours ≡ false) × (n ≡ size)
+      known = came-put (rule15 (sheetType s) (sheetSign s) 7 ours) (someCrowded (sheetType s) (sheetSign s) ours) size n (sym e ∙ a .answers)
+
+      sized : n ≡ length (messageFor s)
+      sized = known .2 ∙ zero-add (length (message (spread (sheetType s) (sheetSign s) ours))) ∙ ap length message-is
+
+      clean : draftBy Fine (sheetType s) (messageFor s) ≡ draftOf s
+      clean = drafted s (past ∙ left-is (known .0) (known .1))
+
+      pub sound-over : {kind : ℕ} → kind ≡ sheetType s → limit < n → bare Fine kind n ≡ draftOf s
+      sound-over {kind} k o =
+          let z : room (long limit (messageFor s)) (messageFor s) blank ≡ blank = ap (λ (v : Verdict). room v (messageFor s) blank) (is-long limit (messageFor s) (omega (arith, sized))) in
+          made k sized (sym z) ∙ clean
+
+      pub sound-put : {kind : ℕ} → kind ≡ sheetType s → n ≤ limit → m ≡ blank → held Fine kind n mid ≡ draftOf s
+      sound-put {kind} k o b =
+          let l : length m ≡ limit = ap length b ∙ blank-long in
+          let t : List ℕ = message (spread (sheetType s) (sheetSign s) ours) in
+          let y : n ≡ length t = known .2 ∙ zero-add (length t) in
+          let p : mid ≡ over t m = a .fills (known .0) (known .1) .puts (omega arith) ∙ sym (over-sets t m (omega arith)) in
+          let z : room (long limit (messageFor s)) (messageFor s) blank ≡ over (messageFor s) blank = ap (λ (v : Verdict). room v (messageFor s) blank) (not-long limit (messageFor s) (omega (arith, sized))) in
+          made k sized (p ∙ ap₂ (λ (x o : List ℕ). over x o) message-is b ∙ sym z) ∙ clean
+
+-- ---- a sheet that is refused
+pub too-long-sheet : (s : List ℕ) → limit < length s → bare (Broken 1 limit) 0 0 ≡ draftOf s
+too-long-sheet s h = drafted s (ap (λ (v : Verdict). then v (first (rule19 s ∷ rule18 (sheetType s) ∷ rule15 (sheetType s) (sheetSign s) 0 (records s) ∷ rule16 (sheetType s) (sheetSign s) (tail (records s)) ∷ []))) (is-long limit s h))
+
+then-two : (a b c : Verdict) {n p : ℕ} → then a (then b Fine) ≡ Broken n p → then a (then b c) ≡ Broken n p
+then-two Fine Fine c {n} {p} e = absurd (fine-broken n p e)
+then-two Fine (Broken k q) c e = e
+then-two (Broken k q) b c e = e
+
+pub bad-sheet : (s : List ℕ) {n p : ℕ} → length s ≤ limit → sheetVerdict s ≡ Broken n p → bare (Broken n p) 0 0 ≡ draftOf s
+unfolding sheetVerdict
+bad-sheet s w e = drafted s (ap (λ (v : Verdict). then v (first (rule19 s ∷ rule18 (sheetType s) ∷ rule15 (sheetType s) (sheetSign s) 0 (records s) ∷ rule16 (sheetType s) (sheetSign s) (tail (records s)) ∷ []))) (not-long limit s w) ∙ then-two (rule19 s) (rule18 (sheetType s)) _ e)
+
+-- ---- what a judged sheet says
+module _ (s : List ℕ) {j : Judged} (e : j ≡ judged s) where
+  pub verdict-is : {v : Verdict} → j .verdict ≡ v → sheetVerdict s ≡ v
+  unfolding judged
+  verdict-is q = sym (ap (λ (x : Judged). x .verdict) e) ∙ q
+
+  pub kind-is : j .kind ≡ sheetType s
+  unfolding judged
+  kind-is = ap (λ (x : Judged). x .kind) e
+
+  pub sign-is : j .sign ≡ sheetSign s
+  unfolding judged
+  sign-is = ap (λ (x : Judged). x .sign) e

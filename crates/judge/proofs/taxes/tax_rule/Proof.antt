@@ -1,0 +1,41 @@
+use borrow.Author.Needs.{needs}
+use Rattle.judge.proofs.FactLaws.{no-purpose, no-budget, tax-whole, tax-part}
+use Rattle.judge.specs.Facts.{bothTaxed}
+use Rattle.fields.specs.Field.{fields}
+use mathlib.Core.Path.{sym, _∙_}
+use Rattle.judge.proofs.taxes.tax_rule.Statement.{statement}
+use Rattle.judge.proofs.taxes.tax_rule.Tie as tie
+use Rattle.judge.proofs.taxes.tax_rule.Reads as reads
+use Rattle.judge.proofs.taxes.tax_rule.Lts as lts
+use Rattle.judge.proofs.taxes.told.Reads as told-reads
+use Rattle.judge.proofs.taxes.are_both_taxed.Reads as are-both-taxed-reads
+
+told-requires : tie.Need-told-requires
+told-requires c κs = search needs
+
+returns : tie.Need-returns
+returns c = let a = c .before .before .before .args in (c .told .ensures) ∙ no-purpose (a .budget) (bothTaxed (fields (a .m .now))) (c .before .if1 .taken)
+
+told-requires-2 : tie.Need-told-requires-2
+told-requires-2 c κs = search needs
+
+returns-2 : tie.Need-returns-2
+returns-2 c = let a = c .before .before .before .before .args in (c .told2 .ensures) ∙ no-budget (a .budget) (bothTaxed (fields (a .m .now))) (c .before .before .if1 .left) (c .before .if2 .taken)
+
+are-both-taxed-requires : tie.Need-are-both-taxed-requires
+are-both-taxed-requires c κs = search needs
+
+returns-3 : tie.Need-returns-3
+returns-3 c = let t = c .before in let a = t .before .before .before .before .args in tax-whole (a .budget) (bothTaxed (fields (a .m .now))) (t .before .before .if1 .left) (t .before .if2 .left) (sym (t .are-both-taxed .ensures) ∙ c .if3 .taken)
+
+told-requires-3 : tie.Need-told-requires-3
+told-requires-3 c κs = search needs
+
+returns-4 : tie.Need-returns-4
+returns-4 c = let t = c .before .before in let a = t .before .before .before .before .args in
+    (c .told3 .ensures) ∙ tax-part (a .budget) (bothTaxed (fields (a .m .now))) (t .before .before .if1 .left) (t .before .if2 .left) (sym (t .are-both-taxed .ensures) ∙ c .before .if3 .left)
+
+pub tax-rule-spec : {M : Type 1} → statement M
+tax-rule-spec =
+    tie.close
+    (tie.spec told-requires returns told-requires-2 returns-2 are-both-taxed-requires returns-3 told-requires-3 returns-4)

@@ -1,0 +1,4 @@
+pub mod StepLaws
+pub mod TextLaws
+pub mod PurposeLaws
+pub mod Theorems

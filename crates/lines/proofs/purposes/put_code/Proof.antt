@@ -1,0 +1,72 @@
+-- `lines::purposes::put_code` meets its contract: three parts, with the sign and without. Assumes nothing.
+use native.Mathlib.Omega.{arith}
+use Rattle.lines.proofs.PurposeLaws.{three-puts, code-on, code-off}
+use Rattle.base.specs.Quoted.{bytes}
+use mathlib.Core.Path.{refl}
+use borrow.Author.Needs.{needs}
+use Rattle.lines.proofs.purposes.put_code.Statement.{statement}
+use Rattle.lines.proofs.purposes.put_code.Tie as tie
+use Rattle.lines.proofs.purposes.put_code.Reads as reads
+use Rattle.lines.proofs.purposes.put_code.Lts as lts
+use Rattle.base.proofs.bytes.put.Reads as put-reads
+
+slice-aggregate-put : tie.Need-slice-aggregate-put
+slice-aggregate-put c = search needs
+
+put-requires : tie.Need-put-requires
+put-requires c κs = search needs
+
+put-requires-2 : tie.Need-put-requires-2
+put-requires-2 c κs = search needs
+
+slice-aggregate-put-2 : tie.Need-slice-aggregate-put-2
+slice-aggregate-put-2 c = search needs
+
+put-requires-3 : tie.Need-put-requires-3
+put-requires-3 c κs = search needs
+
+same-length : tie.Need-same-length
+same-length c = search needs
+
+returns : tie.Need-returns
+returns c = let a = (c .before .before .before .before .before .before .before .before .before .before .before .before .before .before .before .before .before .args) in code-on (a .vo .now) (c .before .before .before .before .before .before .before .before .before .before .before .before .before .before .if1 .taken) (c .before .before .before .before .before .before .before .before .before .before .before .before .before .before .before .before .before .pre .0) refl (three-puts (bytes "'(VO") (a .vo .now) (bytes ")'") (c .before .before .before .before .before .before .before .before .before .before .before .put .ensures) refl (c .before .before .before .before .before .before .before .put2 .ensures) (omega (arith, (c .before .before .before .before .before .before .before .before .before .before .before .before .before .before .before .before .before .pre))) (c .before .before .put3 .ensures))
+
+slice-aggregate-put-3 : tie.Need-slice-aggregate-put-3
+slice-aggregate-put-3 c = search needs
+
+put-requires-4 : tie.Need-put-requires-4
+put-requires-4 c κs = search needs
+
+put-requires-5 : tie.Need-put-requires-5
+put-requires-5 c κs = search needs
+
+slice-aggregate-put-4 : tie.Need-slice-aggregate-put-4
+slice-aggregate-put-4 c = search needs
+
+put-requires-6 : tie.Need-put-requires-6
+put-requires-6 c κs = search needs
+
+same-length-2 : tie.Need-same-length-2
+same-length-2 c = search needs
+
+returns-2 : tie.Need-returns-2
+returns-2 c = let a = (c .before .before .before .before .before .before .before .before .before .before .before .before .before .before .before .before .before .args) in code-off (a .vo .now) (c .before .before .before .before .before .before .before .before .before .before .before .before .before .before .if1 .left) (c .before .before .before .before .before .before .before .before .before .before .before .before .before .before .before .before .before .pre .0) refl (three-puts (bytes "(VO") (a .vo .now) (bytes ")") (c .before .before .before .before .before .before .before .before .before .before .before .put4 .ensures) refl (c .before .before .before .before .before .before .before .put5 .ensures) (omega (arith, (c .before .before .before .before .before .before .before .before .before .before .before .before .before .before .before .before .before .pre))) (c .before .before .put6 .ensures))
+
+pub put-code-spec : {M : Type 1} → statement M
+put-code-spec =
+    tie.close
+    (tie.spec
+    slice-aggregate-put
+    put-requires
+    put-requires-2
+    slice-aggregate-put-2
+    put-requires-3
+    same-length
+    returns
+    slice-aggregate-put-3
+    put-requires-4
+    put-requires-5
+    slice-aggregate-put-4
+    put-requires-6
+    same-length-2
+    returns-2)

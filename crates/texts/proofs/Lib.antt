@@ -1,3 +1,0 @@
-pub mod LineLaws
-pub mod NotationLaws
-pub mod RecordLaws

@@ -1,0 +1,56 @@
+// Takes stored sheets through `to_message`, there and back, and writes what the calls answer. The line of a record has 0 for the
+// type, the bytes of room and the bytes of the sheet.
+mod written;
+
+use libc::STDIN_FILENO;
+use libc::STDOUT_FILENO;
+use stored::cut;
+use stored::entry_at;
+use written::ROOM;
+use written::tell_message;
+
+// The place behind the record, 0 where it is of wrong form.
+fn answer_record(list: &[u8], at: usize) -> usize {
+    let entry = entry_at(list, at);
+    let room = entry.room;
+    if entry.kind != 0 {
+        return 0;
+    }
+    if room > ROOM {
+        return 0;
+    }
+    let next = entry.next;
+    if next == 0 {
+        return 0;
+    }
+    tell_message(cut(list, entry.start, entry.size), room);
+    next
+}
+
+// Up to the first record of wrong form.
+fn go_through(list: &[u8]) {
+    let mut at = 0;
+    while at < list.len() {
+        let next = answer_record(list, at);
+        if next <= at {
+            io::write_all(STDOUT_FILENO, b"a record of wrong form\n");
+            return;
+        }
+        at = next;
+    }
+}
+
+// Room for the list and a byte more.
+fn list_room() -> [u8; 1048577] {
+    [0u8; 1048577]
+}
+
+fn main() {
+    let mut list = list_room();
+    let n = io::read_full(STDIN_FILENO, &mut list);
+    if n > 1048576 {
+        io::write_all(STDOUT_FILENO, b"the list is longer than 1048576 bytes\n");
+        return;
+    }
+    go_through(&list[..n]);
+}
