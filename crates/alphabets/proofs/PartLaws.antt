@@ -10,7 +10,7 @@ use lib.ListN.{length, take, drop}
 use lib.Seq.{drop-drop}
 use borrow.Author.Tests.{lt-ltb, le-ltb, le-leb, lt-leb, leb-true, leb-false}
 use Rattle.base.specs.Calls.{Answer, said, stuck, textOf, over, placed}
-use Rattle.base.proofs.Room.{placed-fits, placed-not}
+use Rattle.base.proofs.Room.{placed-not, placed-none}
 use Rattle.alphabets.specs.Best.{writing}
 use Rattle.alphabets.specs.Parts.{extentOf, extent, written}
 use Rattle.alphabets.specs.declared.parts.Extent.{Extent}
@@ -26,13 +26,6 @@ fits-by room at n h = go (decLt (room - n) at)
     go : Dec (room - n < at) → leb at (room - n) ≡ leb (at + n) room
     go (yes g) = lt-leb at (room - n) g ∙ sym (lt-leb (at + n) room (omega arith))
     go (no g) = le-leb at (room - n) (omega arith) ∙ sym (le-leb (at + n) room (omega arith))
-
-pub placed-none : (out : List ℕ) (n : ℕ) → placed out n [] ≡ out
-placed-none out n = go (decLt (length out) (n + 0))
-  where
-    go : Dec (length out < n + 0) → placed out n [] ≡ out
-    go (yes h) = placed-not out n [] h
-    go (no h) = placed-fits out n [] (omega arith)
 
 -- a text put over the front of the room from a place on
 pub placed-behind : (out : List ℕ) (n : ℕ) (t : List ℕ) → n + length t ≤ length out → take n out ++ over t (drop n out) ≡ placed out n t

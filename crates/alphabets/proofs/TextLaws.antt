@@ -17,14 +17,14 @@ use Rattle.base.specs.declared.Outcome.{Outcome}
 use Rattle.base.specs.declared.Outcome.the-variants.{Done, Refused}
 use Rattle.base.proofs.ByteLaws.{Bytes, class-at}
 use Rattle.base.proofs.CallLaws.{gives-refused, gives-done, gives-past, is-long, not-long, is-short, not-short}
-use Rattle.base.proofs.Room.{placed-not}
+use Rattle.base.proofs.Room.{placed-not, placed-none}
 use Rattle.alphabets.specs.Bank.{after, plainly}
 use Rattle.alphabets.specs.Parts.{extentOf}
 use Rattle.alphabets.specs.Text.{textRules, endingOf}
 use Rattle.alphabets.specs.declared.parts.Extent.{Extent}
 use Rattle.alphabets.specs.declared.parts.Extent.the-variants.{Takes, Halts}
 use Rattle.alphabets.proofs.Theorems.{no-xset-zero}
-use Rattle.alphabets.proofs.PartLaws.{placed-none, placed-behind}
+use Rattle.alphabets.proofs.PartLaws.{placed-behind}
 
 -- ---- the answer of a call, by the size of its text and the room
 module _ (number room : ℕ) (z : Extent) where

@@ -17,13 +17,11 @@ use Rattle.base.specs.declared.Outcome.{Outcome}
 use Rattle.base.specs.declared.Outcome.the-variants.{Done, Refused}
 use Rattle.base.proofs.CallLaws.{accepted, refused, not-short}
 use Rattle.fields.specs.Frame.{limit}
-use Rattle.drafts.specs.Sheet.{messageFor}
-use Rattle.writer.specs.Sheet.{writeRules, MessageTo}
+use Rattle.writer.specs.Sheet.{messageFor, writeRules, MessageTo}
 use Rattle.refusals.specs.Line.{shown}
 use Rattle.answers.specs.Programs.{messageAnswer, MessageAnswered}
-use Rattle.refusals.specs.Shown.{Puts}
 use Rattle.answers.specs.Steps.{roomless}
-use Rattle.refusals.specs.Shown.{shownOf}
+use Rattle.refusals.specs.Shown.{shownOf, Shows}
 use Rattle.answers.proofs.VerdictLaws.{fine-verdict, other-verdict, short-verdict}
 
 -- ---- any call: its answer is held, and shown as its first broken rule or its text
@@ -39,15 +37,15 @@ module _ (rules : List Verdict) (t old m : List ℕ) where
   shown-is {a = Refused n p} g = ap (λ (v : Verdict). shown v t) (sym (refused rules t old n p m g .0))
 
 -- ---- a text put into the room lent
-pub puts-done : (t out after : List ℕ) (r : Outcome) → length t ≤ length out → Puts t out r after → (r ≡ Done (length t)) × (after ≡ over t out)
-puts-done t out after r h g =
+pub shows-done : (t out after : List ℕ) (r : Outcome) → length t ≤ length out → Shows t out r after → (r ≡ Done (length t)) × (after ≡ over t out)
+shows-done t out after r h g =
     let e = not-short t out h in
     let a = g .answers in
     let l = g .leaves in
     (cc, cc)
 
-pub puts-front : (t out after : List ℕ) (r : Outcome) (k : ℕ) → Puts t out r after → r ≡ Done k → (k ≤ length after) × (take k after ≡ t)
-puts-front t out after r k g e = done-held (short t out ∷ []) t out after (subst (λ (q : Outcome). Gives (short t out ∷ []) t out q after) e g)
+pub shows-front : (t out after : List ℕ) (r : Outcome) (k : ℕ) → Shows t out r after → r ≡ Done k → (k ≤ length after) × (take k after ≡ t)
+shows-front t out after r k g e = done-held (short t out ∷ []) t out after (subst (λ (q : Outcome). Gives (short t out ∷ []) t out q after) e g)
 
 -- ---- a refusal that is not 17 is left as it is
 pub kept : (a : Outcome) (n p : ℕ) → a ≡ Refused n p → (n ≡ 17 → ⊥) → Refused n p ≡ roomless a
@@ -65,6 +63,6 @@ module _ (s old m : List ℕ) (l : length old ≡ limit) where
       go false e f = ap (λ (v : Verdict). shown v (messageFor s)) (sym (other-verdict s old n p (eqb-false n 17 e) f))
 
   module _ (a : Outcome) {b : Outcome} (g : MessageTo s old a m) (e : b ≡ roomless a) where
-    pub answered : {out after : List ℕ} {r : Outcome} → Puts (shownOf b m) out r after → MessageAnswered s out r after
+    pub answered : {out after : List ℕ} {r : Outcome} → Shows (shownOf b m) out r after → MessageAnswered s out r after
     unfolding MessageAnswered
-    answered {out} {after} {r} h = subst (λ (t : List ℕ). Puts t out r after) (ap (λ (x : Outcome). shownOf x m) e ∙ message-shown a g) h
+    answered {out} {after} {r} h = subst (λ (t : List ℕ). Shows t out r after) (ap (λ (x : Outcome). shownOf x m) e ∙ message-shown a g) h

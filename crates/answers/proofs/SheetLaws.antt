@@ -29,10 +29,9 @@ use Rattle.sheets.specs.Calls.{readRules, SheetTo}
 use Rattle.trips.proofs.Theorems.{sheet-size}
 use Rattle.refusals.specs.Line.{refusalLine, shown}
 use Rattle.answers.specs.Programs.{namesType, messageIn, typeRule, sheetVerdict, sheetAnswer, SheetAnswered, inputRead}
-use Rattle.refusals.specs.Shown.{Puts}
 use Rattle.answers.specs.Steps.{ReadsNamed}
-use Rattle.refusals.specs.Shown.{shownOf}
-use Rattle.answers.proofs.CallLaws.{shown-is, puts-done, puts-front}
+use Rattle.refusals.specs.Shown.{shownOf, Shows}
+use Rattle.answers.proofs.CallLaws.{shown-is, shows-done, shows-front}
 use Rattle.answers.proofs.Theorems.{line-fits}
 
 -- any two outcomes are equal, lent units counted
@@ -62,10 +61,10 @@ room-last i m l = first-last (typeRule i ∷ messageRules (number i) (messageIn 
         (omega (arith, sheet-size (number i) (messageIn i) (then-clean (typeRule i) (first (messageRules (number i) (messageIn i))) e .1)))
 
 module _ (i old m : List ℕ) (l : length old ≡ limit) (a : Outcome) (g : ReadsNamed i old a m) where
-  pub sheet-answered : {out after : List ℕ} {r : Outcome} → Puts (shownOf a m) out r after → SheetAnswered i out r after
+  pub sheet-answered : {out after : List ℕ} {r : Outcome} → Shows (shownOf a m) out r after → SheetAnswered i out r after
   unfolding SheetAnswered sheetAnswer
   sheet-answered {out} {after} {r} h =
-      subst (λ (t : List ℕ). Puts t out r after) (shown-is _ _ old m g ∙ ap (λ (v : Verdict). shown v (sheetOf (number i) (messageIn i))) (room-last i old l)) h
+      subst (λ (t : List ℕ). Shows t out r after) (shown-is _ _ old m g ∙ ap (λ (v : Verdict). shown v (sheetOf (number i) (messageIn i))) (room-last i old l)) h
 
 -- ---- it fits 10,000 bytes
 fits-by : (i : List ℕ) (v : Verdict) → sheetVerdict i ≡ v → length (shown v (sheetOf (number i) (messageIn i))) ≤ limit
@@ -84,11 +83,11 @@ sheet-answer-fits i = fits-by i (sheetVerdict i) refl
 
 pub sheet-done : (i out after : List ℕ) (r : Outcome) → limit ≤ length out → SheetAnswered i out r after → (r ≡ Done (length (sheetAnswer i))) × (after ≡ over (sheetAnswer i) out)
 unfolding SheetAnswered
-sheet-done i out after r h g = puts-done (sheetAnswer i) out after r (omega (arith, sheet-answer-fits i)) g
+sheet-done i out after r h g = shows-done (sheetAnswer i) out after r (omega (arith, sheet-answer-fits i)) g
 
 pub sheet-front : (i out after : List ℕ) (r : Outcome) (k : ℕ) → SheetAnswered i out r after → r ≡ Done k → (k ≤ length after) × (take k after ≡ sheetAnswer i)
 unfolding SheetAnswered
-sheet-front i out after r k g e = puts-front (sheetAnswer i) out after r k g e
+sheet-front i out after r k g e = shows-front (sheetAnswer i) out after r k g e
 
 -- ---- what stands behind the first 10,005 bytes changes nothing
 over-verdict : (kind : ℕ) (m : List ℕ) → limit < length m → verdictOf kind m ≡ then (rule18 kind) (Broken 1 limit)

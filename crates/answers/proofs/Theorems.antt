@@ -27,15 +27,14 @@ use Rattle.fields.proofs.TagLaws.{upto-at, past-at}
 use Rattle.judge.specs.Message.{messageRules, verdictOf}
 use Rattle.records.specs.Rule19.{sheetType}
 use Rattle.values.specs.Number.{number}
-use Rattle.drafts.specs.Sheet.{sheetRules, messageFor}
-use Rattle.writer.specs.Sheet.{ownRule, writeRules, MessageTo}
+use Rattle.writer.specs.Sheet.{sheetRules, messageFor, ownRule, writeRules, MessageTo}
 use Rattle.written.proofs.OwnLaws.{own-fine}
 use Rattle.refusals.specs.Line.{decimal, refusalLine, shown}
 use Rattle.answers.specs.Programs.{messageVerdict, messageAnswer, MessageAnswered, sheetRead}
 use Rattle.refusals.proofs.DigitLaws.{decimal-value, decimal-digits, size-most}
 use Rattle.answers.proofs.VerdictLaws.{over-limit, room-verdict, fine-verdict}
 use Rattle.answers.proofs.PlaceLaws.{refusal-within}
-use Rattle.answers.proofs.CallLaws.{done-held, puts-done, puts-front}
+use Rattle.answers.proofs.CallLaws.{done-held, shows-done, shows-front}
 
 -- any two outcomes are equal, lent units counted
 pub answer-one : (s out : List ℕ) {r q : Outcome} {a b : List ℕ} → MessageAnswered s out r a → MessageAnswered s out q b → (r ≡ q) × (a ≡ b)
@@ -137,12 +136,12 @@ module _ (s : List ℕ) where
 -- so with that room the answer is always there
 pub answer-done : (s out after : List ℕ) (r : Outcome) → limit ≤ length out → MessageAnswered s out r after → (r ≡ Done (length (messageAnswer s))) × (after ≡ over (messageAnswer s) out)
 unfolding MessageAnswered
-answer-done s out after r h g = puts-done (messageAnswer s) out after r (omega (arith, answer-fits s)) g
+answer-done s out after r h g = shows-done (messageAnswer s) out after r (omega (arith, answer-fits s)) g
 
 -- the units reported are the answer
 pub answer-front : (s out after : List ℕ) (r : Outcome) (k : ℕ) → MessageAnswered s out r after → r ≡ Done k → (k ≤ length after) × (take k after ≡ messageAnswer s)
 unfolding MessageAnswered
-answer-front s out after r k g e = puts-front (messageAnswer s) out after r k g e
+answer-front s out after r k g e = shows-front (messageAnswer s) out after r k g e
 
 -- ---- what stands behind the first 10,001 bytes changes nothing
 pub answer-over : (s : List ℕ) → limit < length s → messageAnswer s ≡ refusalLine 1 limit

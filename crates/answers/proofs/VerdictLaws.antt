@@ -11,16 +11,16 @@ use Rattle.base.specs.Rules.{then, first}
 use Rattle.base.specs.Calls.{short}
 use Rattle.base.specs.declared.Verdict.{Verdict}
 use Rattle.base.specs.declared.Verdict.the-variants.{Fine, Broken}
-use Rattle.base.proofs.RuleLaws.{then-fine, first-last, first-clean}
+use Rattle.base.proofs.RuleLaws.{first-append, then-fine, first-last, first-clean}
 use Rattle.base.proofs.CallLaws.{is-long, is-short, not-short, short-within}
 use Rattle.fields.specs.Frame.{limit}
 use Rattle.types.specs.Walk.{rule18}
 use Rattle.records.specs.Rule19.{sheetType}
-use Rattle.drafts.specs.Sheet.{messageFor, sheetRules}
-use Rattle.writer.specs.Sheet.{ownRule, atStart, writeRules}
+use Rattle.message.specs.Handed.{atStart}
+use Rattle.writer.specs.Sheet.{messageFor, sheetRules, ownRule, writeRules}
 use Rattle.written.specs.Sentences as why
 use Rattle.written.specs.Sentences.{Reason}
-use Rattle.writer.proofs.CallLaws.{long-verdict, first-append}
+use Rattle.writer.proofs.CallLaws.{long-verdict}
 use Rattle.written.proofs.Theorems.{refusal-reason}
 use Rattle.answers.specs.Programs.{messageVerdict}
 

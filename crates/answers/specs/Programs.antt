@@ -13,11 +13,10 @@ use Rattle.base.specs.declared.Outcome.{Outcome}
 use Rattle.fields.specs.Frame.{limit}
 use Rattle.judge.specs.Message.{messageRules}
 use Rattle.records.specs.Rule19.{number}
-use Rattle.drafts.specs.Sheet.{sheetRules, messageFor}
-use Rattle.writer.specs.Sheet.{ownRule}
+use Rattle.writer.specs.Sheet.{sheetRules, messageFor, ownRule}
 use Rattle.sheets.specs.Gather.{sheetOf}
 use Rattle.refusals.specs.Line.{shown}
-use Rattle.refusals.specs.Shown.{Puts}
+use Rattle.refusals.specs.Shown.{Shows}
 
 -- the order of writing without 17: a program has room enough
 abbrev pub messageVerdict : List ℕ → Verdict
@@ -28,7 +27,7 @@ unfoldable pub messageAnswer : List ℕ → List ℕ
 messageAnswer s = shown (messageVerdict s) (messageFor s)
 
 unfoldable pub MessageAnswered : List ℕ → List ℕ → Outcome → List ℕ → Type 0
-MessageAnswered s out r after = Puts (messageAnswer s) out r after
+MessageAnswered s out r after = Shows (messageAnswer s) out r after
 
 -- `tosheet`: three digits and LF, then a message of that type
 unfoldable pub namesType : List ℕ → Bool
@@ -49,7 +48,7 @@ unfoldable pub sheetAnswer : List ℕ → List ℕ
 sheetAnswer i = shown (sheetVerdict i) (sheetOf (number i) (messageIn i))
 
 unfoldable pub SheetAnswered : List ℕ → List ℕ → Outcome → List ℕ → Type 0
-SheetAnswered i out r after = Puts (sheetAnswer i) out r after
+SheetAnswered i out r after = Shows (sheetAnswer i) out r after
 
 -- as many bytes of its input as a program reads: one more than a sheet, or the type and a message, can have
 abbrev pub sheetRead : ℕ

@@ -24,11 +24,15 @@ pub then-clean : (v w : Verdict) → then v w ≡ Fine → (v ≡ Fine) × (w �
 then-clean Fine w e = (refl, e)
 then-clean (Broken n p) w e = absurd (fine-broken n p (sym e))
 
+-- rules behind rules
+pub first-append : (us vs : List Verdict) → first (us ++ vs) ≡ then (first us) (first vs)
+first-append [] vs = refl
+first-append (Fine ∷ us) vs = first-append us vs
+first-append (Broken n p ∷ us) vs = refl
+
 -- one entry more, behind the others
 pub first-last : (us : List Verdict) (v : Verdict) → first (us ++ v ∷ []) ≡ then (first us) v
-first-last [] v = then-fine v
-first-last (Fine ∷ us) v = first-last us v
-first-last (Broken n p ∷ us) v = refl
+first-last us v = first-append us (v ∷ []) ∙ ap (then (first us)) (then-fine v)
 
 -- no entry is broken
 abbrev pub Clean : List Verdict → Type 0
@@ -62,12 +66,8 @@ first-broken (Fine ∷ vs) n p e =
     let f : FirstOf vs n p = first-broken vs n p e in
     record { before = Fine ∷ f .before; behind = f .behind; list = ap (λ (l : List Verdict). Fine ∷ l) (f .list); clean = (refl, f .clean) }
 
-passed : (us ws : List Verdict) (n p : ℕ) → Clean us → first (us ++ Broken n p ∷ ws) ≡ Broken n p
-passed [] ws n p h = refl
-passed (u ∷ us) ws n p h = ap (λ (w : Verdict). then w (first (us ++ Broken n p ∷ ws))) (h .0) ∙ passed us ws n p (h .1)
-
 pub broken-first : (vs : List Verdict) (n p : ℕ) → FirstOf vs n p → first vs ≡ Broken n p
-broken-first vs n p f = ap first (f .list) ∙ passed (f .before) (f .behind) n p (f .clean)
+broken-first vs n p f = ap first (f .list) ∙ first-append (f .before) (Broken n p ∷ f .behind) ∙ ap (λ (v : Verdict). then v (Broken n p)) (clean-first (f .before) (f .clean))
 
 -- refused by a number at a place exactly if that entry is the first that is broken
 pub refused-iff : (vs : List Verdict) (n p : ℕ) → (first vs ≡ Broken n p) ↔ FirstOf vs n p

@@ -1,9 +1,10 @@
 -- What a call comes to that puts a text into lent room: its rules in order, its answer, and the room then (N1, N17, K6). Assumes nothing.
-use Prim.Native.Nat.{ℕ, _+_}
+use Prim.Native.Nat.{ℕ, _+_, _≤_}
 use mathlib.Core.Path.{_≡_}
 use mathlib.Core.List.{List, [], _++_}
 use lib.Dec.{ltb, leb}
 use lib.ListN.{length, take, drop}
+use lib.Seq.{sets}
 use Rattle.base.specs.Choice.{pick}
 use Rattle.base.specs.Rules.{first}
 use Rattle.base.specs.declared.Verdict.{Verdict}
@@ -54,3 +55,8 @@ pub record Gives (rules : List Verdict) (t out : List ℕ) (r : Outcome) (after 
 -- a part put into the room from n on, where it fits; else the room as it was
 unfoldable pub placed : List ℕ → ℕ → List ℕ → List ℕ
 placed out n t = pick (leb (n + length t) (length out)) (take n out ++ t ++ drop (n + length t) out) out
+
+-- a step: u stands from `at` on where there is room, and r is the place behind
+pub record Puts (u out : List ℕ) (at r : ℕ) (after : List ℕ) : Type 0 where
+  pub answers : r ≡ at + length u
+  pub fills : at + length u ≤ length out → after ≡ sets out at u

@@ -1,44 +1,38 @@
--- A content by its way, and the ways out of the call: too long, measured, or put at once. Assumes nothing.
+-- A content by the shape of its tag, and the ways out of the call: too long, measured, or put at once. Assumes nothing.
 use Prim.Native.Nat.{ℕ, _+_, _-_, _≤_, _<_}
-use mathlib.Core.Path.{_≡_, refl, sym, ap, _∙_}
+use mathlib.Core.Path.{_≡_, refl, sym, ap, ap₂, _∙_}
 use mathlib.Core.Bool.{Bool, true, false}
-use mathlib.Core.List.{List, [], _∷_, map}
+use mathlib.Core.List.{List, [], _∷_, map, map-id}
 use native.Mathlib.Omega.{arith}
+use types.Run.{OneOf}
+use denote.Enum.Declared.{tagOf}
 use lib.Dec.{leb}
 use lib.ListN.{length, drop}
 use borrow.Author.Tests.{leb-true, leb-false, lt-ltb, le-ltb}
 use Rattle.base.specs.Choice.{pick}
-use Rattle.base.specs.Calls.{placed}
-use Rattle.base.proofs.Room.{placed-fits, placed-not}
-use Rattle.alphabets.proofs.PartLaws.{placed-none}
+use Rattle.base.specs.Calls.{placed, Puts}
+use Rattle.base.proofs.Room.{placed-fits, placed-not, placed-none, puts-by}
 use Rattle.machine.specs.Lines.{linesIn}
 use Rattle.roles.specs.declared.Shape.{Shape}
-use Rattle.roles.specs.declared.Shape.the-variants.{Plain, Payer, Payee, Agent, Details, Note103, Note202}
-use Rattle.roles.specs.declared.Role.the-variants.{Copies, OfPayer, OfPayee, OfAgent}
+use Rattle.roles.specs.declared.Role.{Role}
+use Rattle.roles.specs.Parts.{firstRole}
+use Rattle.roles.proofs.Shape.{the-type}
+use Rattle.roles.proofs.PartLaws.{each-lined}
 use Rattle.records.specs.Record.{tabbed}
 use Rattle.contents.specs.Contents.{partsBy, contentBy, contentText}
-use Rattle.contents.specs.Steps.{wayOf, byWay, Puts}
-use Rattle.contents.specs.declared.calls.Way.{Way}
-use Rattle.contents.proofs.StepLaws.{puts-by}
 
--- ---- a content by its way
-all-whole : (ls : List (List ℕ)) → map (drop 0) ls ≡ ls
-all-whole [] = refl
-all-whole (l ∷ ls) = ap (λ (xs : List (List ℕ)). l ∷ xs) (all-whole ls)
+-- ---- a content by the shape of its tag
+module _ (t : List ℕ) (s : Bool) (c : List ℕ) {out after : List ℕ} {at r : ℕ} where
+  pub shape-put : {sh to : Shape} → sh ≡ to → Puts (tabbed (contentBy t s to (linesIn c))) out at r after → Puts (tabbed (contentBy t s sh (linesIn c))) out at r after
+  shape-put e p = puts-by (ap (λ (x : Shape). tabbed (contentBy t s x (linesIn c))) (sym e)) p
 
-by-way : (t : List ℕ) (s : Bool) (sh : Shape) (ls : List (List ℕ)) → byWay t s (wayOf sh) ls ≡ contentBy t s sh ls
-unfolding contentBy
-by-way t s Plain ls = ap (partsBy t s Copies) (all-whole ls)
-by-way t s Payer ls = ap (partsBy t s OfPayer) (all-whole ls)
-by-way t s Payee ls = ap (partsBy t s OfPayee) (all-whole ls)
-by-way t s Agent ls = ap (partsBy t s OfAgent) (all-whole ls)
-by-way t s Details ls = refl
-by-way t s Note103 ls = refl
-by-way t s Note202 ls = refl
-
-pub way-put : (t : List ℕ) (s : Bool) (sh : Shape) (c : List ℕ) (w : Way) → w ≡ wayOf sh → {out after : List ℕ} {at r : ℕ} → Puts (tabbed (byWay t s w (linesIn c))) out at r after
-    → Puts (tabbed (contentBy t s sh (linesIn c))) out at r after
-way-put t s sh c w e p = puts-by (ap (λ (x : Way). tabbed (byWay t s x (linesIn c))) e ∙ ap tabbed (by-way t s sh (linesIn c))) p
+  -- parts that are all lines
+  pub lines-put : (sh : Shape) {role : Role} → OneOf (0 ∷ 1 ∷ 2 ∷ 3 ∷ []) (tagOf the-type sh) → role ≡ firstRole sh → Puts (tabbed (partsBy t s role (map (drop 0) (linesIn c)))) out at r after
+      → Puts (tabbed (contentBy t s sh (linesIn c))) out at r after
+  unfolding contentBy
+  lines-put sh h e p =
+      puts-by (ap₂ (λ (x : Role) (ls : List (List ℕ)). tabbed (partsBy t s x ls)) e (map-id (linesIn c))
+      ∙ each-lined (λ x. tabbed (partsBy t s (firstRole x) (linesIn c)) ≡ tabbed (contentBy t s x (linesIn c))) refl refl refl refl sh h) p
 
 -- ---- the call
 pub fits-within : (at n : ℕ) (out : List ℕ) {b : Bool} → b ≡ leb (at + n) (length out) → b ≡ true → at + n ≤ length out

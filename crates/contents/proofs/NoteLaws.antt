@@ -6,18 +6,18 @@ use mathlib.Core.List.{List, [], _∷_, _++_, append-nil}
 use native.Mathlib.Omega.{arith}
 use lib.ListN.{length, take, drop, length-drop}
 use Rattle.base.proofs.ByteLaws.{past-in}
+use Rattle.base.proofs.Room.{puts-on, puts-by}
 use Rattle.base.specs.Choice.{pick}
 use Rattle.base.specs.Bytes.{upTo}
-use Rattle.base.specs.Calls.{placed}
+use Rattle.base.specs.Calls.{placed, Puts}
 use Rattle.machine.specs.Lines.{linesIn}
 use Rattle.values.specs.Values.{isRpp}
 use Rattle.roles.specs.Speech.{codeSize}
 use Rattle.roles.specs.Found.{linesPast}
 use Rattle.roles.proofs.LineLaws.{lines-head, past-none, past-at, head-size, head-within}
-use Rattle.records.specs.Record.{tabbed, line}
-use Rattle.contents.specs.Contents.{codeDigits, cutBy, overBy, toldBy, noteBy}
-use Rattle.contents.specs.Steps.{Puts, far}
-use Rattle.contents.proofs.StepLaws.{puts-on, puts-by, tab-put, take-few, code-few}
+use Rattle.records.specs.Record.{tabbed}
+use Rattle.contents.specs.Contents.{codeDigits, cutBy, overBy, toldBy, noteBy, far}
+use Rattle.contents.proofs.StepLaws.{tab-put, take-few, code-few}
 
 -- ---- details, of a content whose first line ends at e
 module _ (c : List ℕ) (e : ℕ) (q : e ≡ 0 + upTo 13 (drop 0 c)) (t : List ℕ) (s : Bool) where

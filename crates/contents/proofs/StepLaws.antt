@@ -1,15 +1,14 @@
 -- Steps one behind another, and the steps that put a text, a part, lines as parts, and a text over lines. Assumes nothing.
 use Prim.Native.Nat.{ℕ, zero, suc, _+_, _-_, _≤_, _<_, min}
-use mathlib.Core.Path.{_≡_, refl, sym, ap, ap₂, subst, _∙_}
+use mathlib.Core.Path.{_≡_, refl, sym, ap, ap₂, _∙_}
 use mathlib.Core.Bool.{Bool, true, false, not, _&&_}
 use mathlib.Core.List.{List, [], _∷_, _++_, map, append-nil}
 use native.Mathlib.Omega.{arith}
 use lib.Dec.{eqb, ltb}
-use lib.ListN.{length, take, drop, getD, length-append, length-drop}
-use lib.Seq.{sets, length-sets}
+use lib.ListN.{length, take, drop, getD, length-drop}
 use Rattle.base.specs.Bytes.{upTo}
 use Rattle.base.specs.Choice.{pick}
-use Rattle.base.specs.Calls.{placed}
+use Rattle.base.specs.Calls.{placed, Puts}
 use Rattle.alphabets.specs.Pieces.{floorOf, pieceAfter, pieceIn}
 use Rattle.alphabets.specs.Parts.{spoken, unlessStops, pieceText}
 use Rattle.alphabets.specs.declared.pieces.Piece.{Piece}
@@ -17,46 +16,12 @@ use Rattle.alphabets.specs.declared.pieces.Piece.the-variants.{Read, Stops}
 use Rattle.alphabets.proofs.SpokenLaws.{counted, text-stops}
 use Rattle.machine.specs.Lines.{linesIn}
 use Rattle.base.proofs.MarkLaws.{up-rest}
-use Rattle.base.proofs.Room.{sets-append, placed-fits}
+use Rattle.base.proofs.Room.{puts-put, puts-on, puts-by, Leads, leads-on, leads-last}
 use Rattle.roles.specs.Parts.{named, nextRole}
 use Rattle.roles.specs.declared.Role.{Role}
 use Rattle.roles.proofs.LineLaws.{lines-from, past-none, past-at, line-length}
 use Rattle.records.specs.Record.{tabbed}
-use Rattle.contents.specs.Contents.{codeDigits, saidBy, sideOf, sideBy, partsBy, cutBy, overBy}
-use Rattle.contents.specs.Steps.{Puts, far}
-
--- ---- steps
-pub puts-put : {u out after : List ℕ} {at r : ℕ} → r ≡ at + length u → after ≡ placed out at u → Puts u out at r after
-puts-put {u} {out} {after} {at} e f = record { answers = e; fills = λ h. f ∙ placed-fits out at u h }
-
-pub puts-on : (t u : List ℕ) {out mid after : List ℕ} {at n r : ℕ} → Puts t out at n mid → Puts u mid n r after → Puts (t ++ u) out at r after
-puts-on t u {out} {mid} {after} {at = at} {n = n} {r = r} p q =
-    let z : r ≡ at + length (t ++ u) = omega (arith, p .answers, q .answers, length-append t u) in
-    record { answers = z; fills = go }
-  where
-    go : at + length (t ++ u) ≤ length out → after ≡ sets out at (t ++ u)
-    go h =
-        let l = length-append t u in
-        let a : mid ≡ sets out at t = p .fills (omega arith) in
-        let b : length mid ≡ length out = ap length a ∙ length-sets out at t in
-        q .fills (omega (arith, p .answers)) ∙ ap₂ (λ (m : List ℕ) (k : ℕ). sets m k u) a (p .answers) ∙ sym (sets-append t u out at)
-
-pub puts-by : {t u out after : List ℕ} {at r : ℕ} → t ≡ u → Puts t out at r after → Puts u out at r after
-puts-by {out = out} {after = after} {at = at} {r = r} e p = subst (λ (x : List ℕ). Puts x out at r after) e p
-
-pub puts-none : {out : List ℕ} {at : ℕ} → Puts [] out at at out
-puts-none {out} {at} = let z : at ≡ at + 0 = omega arith in record { answers = z; fills = λ h. refl }
-
--- what is left: a step from here is one from the start
-abbrev pub Leads : List ℕ → List ℕ → ℕ → List ℕ → List ℕ → ℕ → Type 0
-Leads t out at u now n = (r : ℕ) (after : List ℕ) → Puts u now n r after → Puts t out at r after
-
--- a step is taken, and u is left; or nothing is
-pub leads-on : {t out now mid : List ℕ} {at n k : ℕ} (w u : List ℕ) {v : List ℕ} → w ++ u ≡ v → Leads t out at v now n → Puts w now n k mid → Leads t out at u mid k
-leads-on w u e f p r after q = f r after (puts-by e (puts-on w u p q))
-
-leads-last : {t out now mid : List ℕ} {at n k : ℕ} {w v : List ℕ} → w ≡ v → Leads t out at v now n → Puts w now n k mid → Puts t out at k mid
-leads-last {mid = mid} {k = k} e f p = f k mid (puts-by e p)
+use Rattle.contents.specs.Contents.{codeDigits, saidBy, sideOf, sideBy, partsBy, cutBy, overBy, far}
 
 -- ---- the first of a part
 pub take-few : (n : ℕ) (l : List ℕ) → length (take n l) ≤ n

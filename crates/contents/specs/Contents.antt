@@ -74,3 +74,7 @@ contentBy t s Note202 ls = noteBy t s ls
 -- each behind a tab; none of a content that no message has room for
 unfoldable pub contentText : List ℕ → Bool → Shape → List ℕ → List ℕ
 contentText t s sh c = pick (ltb limit (length c)) [] (tabbed (contentBy t s sh (linesIn c)))
+
+-- no place in room is so far, nor is one that is counted on to
+abbrev pub far : ℕ
+far = 9223372036855775808

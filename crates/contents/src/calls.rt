@@ -2,54 +2,19 @@
 ghost use mathlib.Core.Path.{_≡_};
 ghost use Prim.Native.Nat.{_+_, _≤_};
 ghost use lib.ListN.{length};
-ghost use Rattle.base.specs.Calls.{placed};
+ghost use Rattle.base.specs.Calls.{placed, Puts};
 ghost use Rattle.machine.specs.Lines.{linesIn};
 ghost use Rattle.records.specs.Record.{tabbed};
-ghost use Rattle.contents.specs.Contents.{contentBy, contentText};
-ghost use Rattle.contents.specs.Steps.{wayOf, Puts, far};
+ghost use Rattle.contents.specs.Contents.{contentBy, contentText, far};
 use super::notes::put_note;
 use super::notes::put_told;
 use super::texts::put_lines;
 use alphabets::parts::fits;
 use roles::Role;
 use roles::Shape;
+use roles::parts::first_role;
 
-// How a content is put: lines as parts, the role of the first and how long a mark each has; details; the note of a 202.
-enum Way {
-    Lines { role: Role, mark: usize },
-    Told,
-    Note,
-}
-
-fn way_of(shape: Shape) -> Way
-    ensures { λ r. ⌜ r ≡ wayOf shape ⌝ }
-{
-    match shape {
-        Shape::Plain => Way::Lines {
-            role: Role::Copies,
-            mark: 0,
-        },
-        Shape::Payer => Way::Lines {
-            role: Role::OfPayer,
-            mark: 0,
-        },
-        Shape::Payee => Way::Lines {
-            role: Role::OfPayee,
-            mark: 0,
-        },
-        Shape::Agent => Way::Lines {
-            role: Role::OfAgent,
-            mark: 0,
-        },
-        Shape::Details => Way::Told,
-        Shape::Note103 => Way::Lines {
-            role: Role::Copies,
-            mark: 5,
-        },
-        Shape::Note202 => Way::Note,
-    }
-}
-
+// The parts of a content, by the shape of its tag.
 fn put_parts(
     back: &[u8; 256],
     shape: Shape,
@@ -61,10 +26,11 @@ fn put_parts(
     requires { ⌜ (length (now c) ≤ 10000) × (at + 300000 ≤ far) ⌝ }
     ensures { λ r. ⌜ (r ≤ at + length (now (c .entry)) + 8) × Puts (tabbed (contentBy (now (back .entry)) sign shape (linesIn (now (c .entry))))) (now (out .entry)) at r (now (out .exit)) ⌝ }
 {
-    match way_of(shape) {
-        Way::Lines { role, mark } => put_lines(back, sign, role, mark, c, out, at),
-        Way::Told => put_told(back, sign, 0, 0, c, out, at),
-        Way::Note => put_note(back, sign, c, out, at),
+    match shape {
+        Shape::Details => put_told(back, sign, 0, 0, c, out, at),
+        Shape::Note103 => put_lines(back, sign, Role::Copies, 5, c, out, at),
+        Shape::Note202 => put_note(back, sign, c, out, at),
+        _ => put_lines(back, sign, first_role(shape), 0, c, out, at),
     }
 }
 

@@ -143,3 +143,13 @@ module _ (ok : ℕ → Bool) (text : List ℕ) where
   none-fits {high = high} (shut h m) (next {e = e} p q r o d) s = omega (arith, last-max high e q o)
   none-fits (later h m t) (end p q) s = omega arith
   none-fits {high = high} (later h m t) (next {e = e} p q r o d) s = refuse t d (last-max high e q o) s
+
+-- where any byte may open a line, a text that is no longer breaks at the same places, as far as it goes
+module _ (ok : ℕ → Bool) (text less : List ℕ) (any : (x : ℕ) → ok x ≡ true) (k : length less ≤ length text) where
+  pub shortened : {low high : ℕ} {ws es : List ℕ} → Lawful ok text low high ws es → low < length less → (ds : List ℕ) × Lawful ok less low high ws ds
+  shortened {high = high} (end p q) h = ([], end {high = high} h (omega arith))
+  shortened {low} {high} (next {e = e} {w = w} {ws = ws} p q r o d) h = go (decLt e (length less)) (shortened d)
+    where
+      go : Dec (e < length less) → (e < length less → (ds : List ℕ) × Lawful ok less e (e + w) ws ds) → (ds : List ℕ) × Lawful ok less low high (w ∷ ws) ds
+      go (yes l) ih = let i = ih l in (e ∷ i .0, next p q l (any _) (i .1))
+      go (no l) ih = ([], end {high = high} h (omega arith))

@@ -5,7 +5,6 @@ use mathlib.Core.Bool.{Bool, true, false}
 use mathlib.Core.List.{List, [], _∷_, _++_, append-assoc, append-nil}
 use mathlib.Core.Logic.{⊎-elim}
 use native.Mathlib.Omega.{arith}
-use native.Mathlib.Decide.{decLt}
 use types.Run.{OneOf}
 use denote.Enum.Declared.{tagOf}
 use lib.Dec.{ltb, leb}
@@ -13,7 +12,7 @@ use lib.ListN.{length, drop, length-append, length-drop}
 use borrow.Author.Tests.{ltb-true, lt-ltb, le-ltb, le-leb, lt-leb}
 use Rattle.base.specs.Choice.{pick}
 use Rattle.base.specs.Calls.{placed}
-use Rattle.base.proofs.Room.{placed-fits, placed-not}
+use Rattle.base.proofs.Room.{placed-not, placed-none}
 use Rattle.details.specs.Breaking.{opens, Fit, fits, unfit, last, part, pieces, cutBy, broken}
 use Rattle.details.specs.Layouts.{Layout, layout, divided, behind, laid, linesOf, laidFor, sizeOf, sizeFor, Lays}
 use Rattle.details.specs.Steps.{shapeOf, Small, barredBy, breaksIn, sizeOn, sizeBy, laidBy, wholeBy, RoomFor}
@@ -81,13 +80,6 @@ pub marks-72 : (p : Place) → OneOf (1 ∷ 2 ∷ []) (tagOf the-type p) → Mar
 marks-72 In70 h = absurd (⊎-elim (λ e. omega arith) (λ e. omega arith) h)
 marks-72 In72 h = record { first = refl; later = refl }
 marks-72 BehindRpp h = record { first = refl; later = refl }
-
-placed-none : (out : List ℕ) (n : ℕ) → placed out n [] ≡ out
-placed-none out n = go (decLt (length out) (n + 0))
-  where
-    go : Dec (length out < n + 0) → placed out n [] ≡ out
-    go (yes h) = placed-not out n [] h
-    go (no h) = placed-fits out n [] (omega arith)
 
 module _ (p : Place) (least : ℕ) (text : List ℕ) where
   abbrev ours : Fit (List ℕ)

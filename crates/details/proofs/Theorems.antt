@@ -1,6 +1,6 @@
 -- The lines that come out are a division and each has the most that it can lawfully have; where none come out there is no division (B1-B5,
 -- D3e). Over any widths; then for the places; then at the contracts. Assumes nothing.
-use Prim.Native.Nat.{ℕ, _+_, _-_, _<_}
+use Prim.Native.Nat.{ℕ, _+_, _-_, _≤_, _<_}
 use mathlib.Core.Path.{_≡_, refl, sym, ap, _∙_}
 use mathlib.Core.Bool.{Bool, true, false}
 use mathlib.Core.List.{List, [], _∷_, _++_, append-assoc, append-nil, tail, map}
@@ -20,7 +20,7 @@ use Rattle.details.specs.declared.Place.{Place}
 use Rattle.details.specs.declared.Place.the-variants.{In70, In72, BehindRpp}
 use Rattle.details.specs.declared.Size.{Size}
 use Rattle.details.specs.declared.Size.the-variants.{Bytes, Unfit}
-use Rattle.details.proofs.BreakLaws.{Took, Came, took, stuck, came, lawful, none-fits, steadily}
+use Rattle.details.proofs.BreakLaws.{Took, Came, took, stuck, came, lawful, none-fits, shortened, steadily}
 use Rattle.details.proofs.LineLaws.{breaks-of, division-of, most-of}
 use Rattle.details.proofs.PlaceLaws.{bytes-not}
 
@@ -78,6 +78,14 @@ no-division barred least text (w ∷ ws) s e (lines {l = l} {ls = ls} z p q m j)
     go true h (took t) r = fits-not r
     go true h (stuck t) r = none-fits (opens barred) text t (breaks-of (opens barred) text m l (least - 1) w (length l) refl j (omega arith) q) (steadily barred ws s)
     go false h t r = omega (arith, ltb-false (least - 1) (length text) h, ap length j, length-append l (together ls))
+
+-- where no byte is barred, what is no longer than a text that can be divided can be divided too
+pub less-divided : (barred : List ℕ) (least : ℕ) (text less : List ℕ) {widths : List ℕ} {ls : List (List ℕ)} → barred ≡ [] → Division (opens barred) least text widths ls
+    → least ≤ length less → 0 < length less → length less ≤ length text → (ks : List (List ℕ)) × Division (opens barred) least less widths ks
+unfolding opens isIn
+less-divided barred least text less e (lines {w = w} {l = l} z p q m j) a b c =
+    let d = shortened (opens barred) text less (λ x. ap (λ (bs : List ℕ). opens bs x) e) c (breaks-of (opens barred) text m l (least - 1) w (length l) refl j (omega arith) q) (omega arith) in
+    (pieces less 0 (d .0), division-of (opens barred) less (d .1))
 
 -- not for any widths: `aaa:::` in widths of 2, 1 and 4 is a, a and a:::, but once the first line has its most nothing goes on
 abbrev grown : List ℕ

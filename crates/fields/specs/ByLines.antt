@@ -1,7 +1,7 @@
 -- The fields found line by line, as code goes: where they open, and a walk over them (F4, F5, K2). Assumes nothing.
-use Prim.Native.Nat.{ℕ, _+_, _-_}
+use Prim.Native.Nat.{ℕ, _+_, _-_, _*_}
 use mathlib.Core.List.{List, [], _∷_, _++_, tail}
-use lib.Dec.{eqb}
+use lib.Dec.{eqb, ltb}
 use lib.ListN.{length}
 use Rattle.base.specs.Choice.{pick}
 use Rattle.base.specs.Bytes.{byte, begins}
@@ -35,6 +35,10 @@ joined (l ∷ k ∷ ls) = l ++ 13 ∷ 10 ∷ joined (k ∷ ls)
 -- the content starts behind the tag's second colon
 unfoldable pub startAt : List ℕ → ℕ → ℕ
 startAt m o = pick (eqb (byte m (o + 3)) 58) (o + 4) (o + 5)
+
+-- the tag stands between two colons; as one number, where there are so many bytes
+unfoldable pub tagAt : List ℕ → ℕ → ℕ
+tagAt m o = pick (ltb (o + 3) (length m)) (byte m (o + 1) * 65536 + byte m (o + 2) * 256 + pick (eqb (byte m (o + 3)) 58) 0 (byte m (o + 3))) 0
 
 abbrev pub firstOr : ℕ → List ℕ → ℕ
 firstOr e [] = e

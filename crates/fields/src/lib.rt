@@ -7,7 +7,7 @@ ghost use Rattle.base.specs.Bytes.{same};
 ghost use Rattle.fields.specs.Field.{opening, closing};
 ghost use Rattle.fields.specs.Frame.{framed};
 ghost use Rattle.fields.specs.Shapes.{packed, badStart};
-ghost use Rattle.fields.specs.ByLines.{startAt};
+ghost use Rattle.fields.specs.ByLines.{startAt, tagAt};
 use base::bytes::is_capital;
 use base::bytes::is_digit;
 use base::bytes::wide;
@@ -130,4 +130,19 @@ pub fn start_at(m: &[u8], colon: u32) -> usize
         return o + 4;
     }
     o + 5
+}
+
+// The tag of the field with that colon as one number, as line_tag gives it; 0 where the message has too few bytes.
+pub fn tag_at(m: &[u8], colon: u32) -> u32
+    ensures { λ r. ⌜ r ≡ tagAt (now (m .entry)) colon ⌝ }
+{
+    let o = colon as usize;
+    if m.len() <= o + 3 {
+        return 0;
+    }
+    let number = wide(m[o + 1]) * 65536 + wide(m[o + 2]) * 256;
+    if m[o + 3] == 58 {
+        return number;
+    }
+    number + wide(m[o + 3])
 }

@@ -1,14 +1,14 @@
 -- The ways out of the call `judge` and of its two halves. Assumes nothing.
 use Prim.Native.Nat.{ℕ}
-use mathlib.Core.Path.{_≡_, refl, sym, ap, _∙_}
+use mathlib.Core.Path.{_≡_, sym, ap, _∙_}
 use mathlib.Core.Bool.{Bool, true, false}
-use mathlib.Core.List.{List, [], _∷_, _++_}
+use mathlib.Core.List.{List, [], _∷_}
 use Rattle.base.specs.Choice.{pick}
 use Rattle.base.specs.Bytes.{begins}
 use Rattle.base.specs.Rules.{then, first}
 use Rattle.base.specs.declared.Verdict.{Verdict}
 use Rattle.base.specs.declared.Verdict.the-variants.{Fine, Broken}
-use Rattle.base.proofs.RuleLaws.{first-last}
+use Rattle.base.proofs.RuleLaws.{first-append, first-last}
 use Rattle.fields.specs.Field.{Field, fields}
 use Rattle.fields.specs.Places.{startOf}
 use Rattle.types.specs.Sign.{signOf}
@@ -63,11 +63,6 @@ module _ (kind : ℕ) (m : List ℕ) where
     content-inner z e = e ∙ sym (ap (λ (u : Verdict). then u (first (innerRules kind (fields m)))) (is-8 ∙ z))
 
   -- ---- the whole
-  first-append : (us vs : List Verdict) → first (us ++ vs) ≡ then (first us) (first vs)
-  first-append [] vs = refl
-  first-append (Fine ∷ us) vs = first-append us vs
-  first-append (Broken n p ∷ us) vs = refl
-
   pub verdict-by : verdictOf kind m ≡ then (refusal kind m) (first (contentRules kind m))
   unfolding verdictOf refusal
   verdict-by = first-append (frameRules kind m) (contentRules kind m)

@@ -1,5 +1,5 @@
 -- The fields that the quick pass found are the fields of the message, each with its tag and its content. Assumes nothing.
-use Prim.Native.Nat.{ℕ, zero, suc, _+_, _-_, _*_, _≤_, _<_}
+use Prim.Native.Nat.{ℕ, zero, suc, _+_, _-_, _≤_, _<_}
 use mathlib.Core.Path.{_≡_, refl, sym, ap, ap₂, _∙_, subst}
 use mathlib.Core.Bool.{Bool, true, false, false≢true}
 use mathlib.Core.List.{List, [], _∷_, _++_, append-assoc}
@@ -8,23 +8,22 @@ use native.Mathlib.Numerals.{add-one}
 use lib.Dec.{eqb}
 use lib.ListN.{length, take, drop, getD, length-append, drop-of-length-le}
 use lib.Seq.{drop-cons, getD-drop}
-use borrow.Author.Tests.{eq-eqb, ne-eqb}
 use Rattle.base.specs.Choice.{pick, all}
-use Rattle.base.specs.Bytes.{byte, capital, begins, without}
+use Rattle.base.specs.Bytes.{byte, begins, without}
 use Rattle.base.proofs.Bools.{left, right}
 use Rattle.base.proofs.ByteLaws.{begins-byte}
 use Rattle.fields.specs.Field.{Field, field, closing, laid, linesOf, fields}
 use Rattle.fields.specs.Places.{startOf, nextOf, endOf, colonsOf}
-use Rattle.fields.specs.Shapes.{shaped, shapedTag, follows, lineable, pack, unpack}
-use Rattle.fields.specs.ByLines.{startAt}
+use Rattle.fields.specs.Shapes.{shaped, shapedTag, follows, lineable, unpack}
+use Rattle.fields.specs.ByLines.{startAt, tagAt}
 use Rattle.fields.proofs.TagLaws.{Shape, plain, lettered, shape-of}
 use Rattle.fields.proofs.PackLaws.{unpack-pack}
-use Rattle.fields.proofs.PlaceLaws.{Standing, start-at, field-bytes, next-standing, content-bytes, content-part, fields-stand}
+use Rattle.fields.proofs.PlaceLaws.{Standing, start-at, tag-at, field-bytes, next-standing, content-bytes, content-part, fields-stand}
 use Rattle.forms.proofs.ContentLaws.{firstOf}
 use Rattle.frame.proofs.CallLaws.{Found, taken}
 use Rattle.listing.proofs.SpotLaws.{spot-at}
 use Rattle.judge.specs.declared.parts.Part.{Part}
-use Rattle.judge.specs.Parts.{tagAt, Settled, Here}
+use Rattle.judge.specs.Parts.{Settled, Here}
 
 -- ---- the fields stand at their spots
 colon-stands : (m : List ℕ) (fs : List Field) (o k : ℕ) → Standing m o fs → k ≤ length fs → Standing m (byte (colonsOf o fs ++ (length m - 2) ∷ []) k) (drop k fs)
@@ -41,24 +40,6 @@ settled {kind} {m} {spots} f =
     let at : (k : ℕ) → k ≤ length (fields m) → Standing m (byte spots k) (drop k (fields m)) =
     λ k h. subst (λ (o : ℕ). Standing m o (drop k (fields m))) (sym (spot-at f k h)) (colon-stands m (fields m) 5 k w h) in
     record { within = t .within; few = t .few; start = omega (arith, w .dash, at 0 (omega arith) .dash); stand = at }
-
--- ---- the tag
-tag-is : (m : List ℕ) (o : ℕ) (t r : List ℕ) → shaped t ≡ true → drop o m ≡ 58 ∷ (t ++ 58 ∷ r) → tagAt m o ≡ pack t
-unfolding tagAt capital
-tag-is m o t r e d = go (shape-of t e)
-  where
-    nth : (u : List ℕ) (i : ℕ) → t ≡ u → byte m (o + i) ≡ byte (58 ∷ (u ++ 58 ∷ r)) i
-    nth u i q = sym (getD-drop o m i 0) ∙ ap (λ (x : List ℕ). byte x i) (d ∙ ap (λ (v : List ℕ). 58 ∷ (v ++ 58 ∷ r)) q)
-
-    told : (x y z : ℕ) → byte m (o + 1) ≡ x → byte m (o + 2) ≡ y → byte m (o + 3) ≡ z → tagAt m o ≡ x * 65536 + y * 256 + pick (eqb z 58) 0 z
-    told x y z p q s = ap₂ (λ (a b : ℕ). a * 65536 + b * 256 + pick (eqb (byte m (o + 3)) 58) 0 (byte m (o + 3))) p q ∙ ap (λ (c : ℕ). x * 65536 + y * 256 + pick (eqb c 58) 0 c) s
-
-    go : Shape t → tagAt m o ≡ pack t
-    go (plain a b q x y) = let u = a ∷ b ∷ [] in told a b 58 (nth u 1 q) (nth u 2 q) (nth u 3 q) ∙ ap pack (sym q)
-    go (lettered a b c q x y k) =
-        let u = a ∷ b ∷ c ∷ [] in
-        let f : eqb c 58 ≡ false = ne-eqb c 58 (λ p. false≢true (ap capital (sym p) ∙ k)) in
-        told a b c (nth u 1 q) (nth u 2 q) (nth u 3 q) ∙ ap (λ (p : Bool). a * 65536 + b * 256 + pick p 0 c) f ∙ ap pack (sym q)
 
 -- ---- the field at k
 sign-at : (l r : List ℕ) → eqb (byte (l ++ 13 ∷ r) 0) 43 ≡ begins 43 l
@@ -135,7 +116,7 @@ module _ {m spots : List ℕ} (s : Settled m spots) (k : ℕ) (h : k < length (f
             is = w .is;
             colon-is = p;
             next-is = w .next ∙ ap (λ (i : ℕ). nextOf i (field (w .tag) (w .line ∷ w .more))) (sym p);
-            tag-is = ap unpack (q ∙ ap (tagAt m) p ∙ tag-is m o (w .tag) behind (w .shape) d) ∙ unpack-pack (w .tag) (w .shape);
+            tag-is = ap unpack (q ∙ ap (tagAt m) p ∙ tag-at m o (w .tag) behind (w .shape) d) ∙ unpack-pack (w .tag) (w .shape);
             start-is = st ∙ ap (λ (i : ℕ). startOf i (field (w .tag) (w .line ∷ w .more))) (sym p);
             content-is = ap₂ (λ (x y : ℕ). take (x - y) (drop y m)) en st ∙ content-part m o (w .tag) (w .line) (w .more) rest (w .here);
             no-cr = left (all (without 13) (w .line ∷ w .more)) (all follows (w .more)) (right (without 13 (w .tag)) _ (right (without 58 (w .tag)) _ able));
@@ -143,20 +124,6 @@ module _ {m spots : List ℕ} (s : Settled m spots) (k : ℕ) (h : k < length (f
             low = omega (arith, w .next, w .end);
             high = omega (arith, w .end);
           }
-
--- ---- the tag, as code reads it
-module _ (m : List ℕ) (o : ℕ) {a b : ℕ} (p : a ≡ byte m (o + 1)) (q : b ≡ byte m (o + 2)) where
-  pub tag-short : byte m (o + 3) ≡ 58 → a * 65536 + b * 256 ≡ tagAt m o
-  unfolding tagAt
-  tag-short e =
-      let z : a * 65536 + b * 256 ≡ byte m (o + 1) * 65536 + byte m (o + 2) * 256 + 0 = omega arith in
-      z ∙ ap (λ (t : Bool). byte m (o + 1) * 65536 + byte m (o + 2) * 256 + pick t 0 (byte m (o + 3))) (sym (eq-eqb (byte m (o + 3)) 58 e))
-
-  pub tag-letter : {c : ℕ} → c ≡ byte m (o + 3) → (byte m (o + 3) ≡ 58 → ⊥) → a * 65536 + b * 256 + c ≡ tagAt m o
-  unfolding tagAt
-  tag-letter {c} r h =
-      let z : a * 65536 + b * 256 + c ≡ byte m (o + 1) * 65536 + byte m (o + 2) * 256 + byte m (o + 3) = omega arith in
-      z ∙ ap (λ (t : Bool). byte m (o + 1) * 65536 + byte m (o + 2) * 256 + pick t 0 (byte m (o + 3))) (sym (ne-eqb (byte m (o + 3)) 58 h))
 
 -- ---- a walk over the fields, from spot to spot
 abbrev pub fieldOf : {m spots : List ℕ} {k : ℕ} {p : Part} → Here m spots k p → Field

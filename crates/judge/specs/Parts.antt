@@ -1,11 +1,11 @@
 -- The fields of a message that the quick pass took, by their spots: what the judges of contents promise to each other. Assumes nothing.
-use Prim.Native.Nat.{ℕ, _+_, _-_, _*_, _≤_}
+use Prim.Native.Nat.{ℕ, _+_, _-_, _≤_}
 use mathlib.Core.Path.{_≡_}
 use mathlib.Core.Bool.{true}
 use mathlib.Core.List.{List, _∷_}
 use lib.Dec.{eqb}
 use lib.ListN.{length, take, drop}
-use Rattle.base.specs.Choice.{pick, all}
+use Rattle.base.specs.Choice.{all}
 use Rattle.base.specs.Bytes.{byte, begins, without}
 use Rattle.fields.specs.Field.{field, fields}
 use Rattle.fields.specs.Frame.{limit}
@@ -15,10 +15,6 @@ use Rattle.fields.specs.ByLines.{joined}
 use Rattle.fields.proofs.PlaceLaws.{Standing}
 use Rattle.types.specs.Tables.{most}
 use Rattle.judge.specs.declared.parts.Part.{Part}
-
--- the tag behind a colon, as one number
-unfoldable pub tagAt : List ℕ → ℕ → ℕ
-tagAt m o = byte m (o + 1) * 65536 + byte m (o + 2) * 256 + pick (eqb (byte m (o + 3)) 58) 0 (byte m (o + 3))
 
 -- the spots are those of the fields: from each on stand the fields that are left
 pub record Settled (m spots : List ℕ) : Type 0 where

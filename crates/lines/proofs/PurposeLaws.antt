@@ -2,9 +2,8 @@
 use Prim.Native.Nat.{ℕ, _+_, _-_, _≤_, _<_}
 use mathlib.Core.Path.{_≡_, refl, sym, ap, ap₂, subst, _∙_}
 use mathlib.Core.Bool.{Bool, true, false, true≢false}
-use mathlib.Core.List.{List, [], _∷_, _++_, map}
+use mathlib.Core.List.{List, [], _∷_, _++_, map, flatten}
 use native.Mathlib.Omega.{arith}
-use native.Mathlib.Nat.{zero-add}
 use native.Mathlib.Decide.{decLt}
 use lib.Dec.{eqb}
 use lib.ListN.{length, take, drop, length-append}
@@ -12,18 +11,16 @@ use lib.Seq.{take-append-seam}
 use borrow.Author.Tests.{le-ltb, lt-ltb, eq-eqb, ne-eqb}
 use Rattle.base.specs.Choice.{pick}
 use Rattle.base.specs.Bytes.{upTo}
-use Rattle.base.specs.Quoted.{bytes}
-use Rattle.base.specs.Calls.{Answer, said, stuck, textOf, placed}
+use Rattle.base.specs.Calls.{Answer, said, stuck, textOf, placed, Puts}
 use Rattle.base.specs.declared.Verdict.{Verdict}
 use Rattle.base.specs.declared.Verdict.the-variants.{Fine, Broken}
-use Rattle.base.proofs.Room.{over-sets}
+use Rattle.base.proofs.Room.{over-sets, puts-put, puts-on, puts-by}
 use Rattle.alphabets.specs.Best.{writing}
 use Rattle.fields.specs.Field.{laid}
 use Rattle.fields.specs.ByLines.{joined}
 use Rattle.fields.proofs.PlaceLaws.{laid-joined}
 use Rattle.roles.specs.Speech.{codeSize}
 use Rattle.records.specs.Found.{piecesAt}
-use Rattle.records.specs.Rule19.{digits}
 use Rattle.records.proofs.PieceLaws.{pieces-at, past-end, end-within, piece-length}
 use Rattle.details.specs.Lines.{together, Later, none, line, Division, lines}
 use Rattle.details.specs.Breaking.{Fit, fits, unfit}
@@ -38,31 +35,19 @@ use Rattle.details.proofs.Theorems.{Fitted, fitted, none-unfit, laid-lines}
 use Rattle.lines.specs.Spread.{code, told}
 use Rattle.lines.specs.declared.Step.{Step}
 use Rattle.lines.specs.declared.Step.the-variants.{Unfit, Put}
-use Rattle.lines.specs.Steps.{stoppedAt, isUnfit, pieced, came, Fills, Adds, Within, unfitIn}
+use Rattle.lines.specs.Steps.{stoppedAt, isUnfit, pieced, came, Adds, Within, unfitIn}
 use Rattle.lines.specs.Lines.{linesBy, unlessStopped, toldStep, toldPieces, purposeStep, purposePieces, partsAt}
-use Rattle.lines.proofs.StepLaws.{fills-put, fills-on, came-put, in-put, in-stuck, within-more}
+use Rattle.lines.proofs.StepLaws.{pieced-puts, came-put, in-put, in-stuck, within-more}
 use Rattle.lines.proofs.TextLaws.{text-inside}
 use Rattle.alphabets.specs.Parts.{extentOf}
 use Rattle.alphabets.proofs.PartLaws.{extent-is}
 
 -- ---- the code
-pub code-long : (s : Bool) (vo : List ℕ) → length vo ≡ 5 → length (code s vo) ≡ codeSize s
-code-long true vo e = omega (arith, length-append vo (41 ∷ 39 ∷ []))
-code-long false vo e = omega (arith, length-append vo (41 ∷ []))
+pub three-puts : (a b c : List ℕ) {out o₁ o₂ o₃ : List ℕ} {at n m r : ℕ} → n ≡ at + length a → o₁ ≡ placed out at a → m ≡ n + length b → o₂ ≡ placed o₁ n b → r ≡ m + length c → o₃ ≡ placed o₂ m c → Puts (a ++ (b ++ c)) out at r o₃
+three-puts a b c i e j f k g = puts-on a (b ++ c) (puts-put {u = a} i e) (puts-on b c (puts-put {u = b} j f) (puts-put {u = c} k g))
 
-pub three-puts : (a b c : List ℕ) {out o₁ o₂ o₃ : List ℕ} {at n m : ℕ} → o₁ ≡ placed out at a → n ≡ at + length a → o₂ ≡ placed o₁ n b → m ≡ n + length b → o₃ ≡ placed o₂ m c → Fills out at (a ++ (b ++ c)) o₃
-three-puts a b c {out} {o₁} {o₂} {o₃} {at} {n} {m} e i f j g =
-    fills-on a (b ++ c) (fills-put out o₁ a at e) i (fills-on b c (fills-put o₁ o₂ b n f) j (fills-put o₂ o₃ c m g))
-
-pub code-on : {s : Bool} (vo : List ℕ) {out after : List ℕ} {r : ℕ} → s ≡ true → length vo ≡ 5 → r ≡ 11 → Fills out 0 (bytes "'(VO" ++ (vo ++ bytes ")'")) after
-    → (r ≡ codeSize s) × (r ≡ length (code s vo)) × (r ≤ 11) × Fills out 0 (code s vo) after
-code-on {s} vo {out} {after} {r} e l q f =
-    (q ∙ ap codeSize (sym e), q ∙ sym (code-long true vo l) ∙ ap (λ (b : Bool). length (code b vo)) (sym e), omega arith, subst (λ (b : Bool). Fills out 0 (code b vo) after) (sym e) f)
-
-pub code-off : {s : Bool} (vo : List ℕ) {out after : List ℕ} {r : ℕ} → s ≡ false → length vo ≡ 5 → r ≡ 9 → Fills out 0 (bytes "(VO" ++ (vo ++ bytes ")")) after
-    → (r ≡ codeSize s) × (r ≡ length (code s vo)) × (r ≤ 11) × Fills out 0 (code s vo) after
-code-off {s} vo {out} {after} {r} e l q f =
-    (q ∙ ap codeSize (sym e), q ∙ sym (code-long false vo l) ∙ ap (λ (b : Bool). length (code b vo)) (sym e), omega arith, subst (λ (b : Bool). Fills out 0 (code b vo) after) (sym e) f)
+pub code-puts : {s : Bool} (to : Bool) (vo : List ℕ) {out after : List ℕ} {r : ℕ} → s ≡ to → r ≡ codeSize to → r ≤ 11 → Puts (code to vo) out 0 r after → (r ≡ codeSize s) × (r ≤ 11) × Puts (code s vo) out 0 r after
+code-puts to vo e q l p = (q ∙ ap codeSize (sym e), l, puts-by (ap (λ (b : Bool). code b vo) (sym e)) p)
 
 -- ---- how much goes into lines of some widths, with k bytes more for each
 abbrev roomOf : ℕ → List ℕ → ℕ
@@ -131,13 +116,11 @@ module _ (p : Place) (least : ℕ) (text : List ℕ) (n : ℕ) (e : size.Bytes n
   lines-put {out} {mid} {after} {at} l f =
       f ∙ ap₂ (λ (m : List ℕ) (k : ℕ). placed m (at + k) (13 ∷ 10 ∷ [])) (l .leaves) (fit .long) ∙ ap (λ (z : Size). pieced out at (linesBy z (laidFor p least text))) e
 
-  -- the bytes of the lines, where there is room for them
-  pub lines-fill : {out after : List ℕ} {at : ℕ} → after ≡ pieced out at (linesBy (sizeFor p least text) (laidFor p least text)) → Fills out at (laid (linesFor p least text)) after
+  -- the bytes of the lines
+  pub lines-fill : {out after : List ℕ} {at : ℕ} → after ≡ pieced out at (linesBy (sizeFor p least text) (laidFor p least text)) → Puts (laid (linesFor p least text)) out at (at + length (laid (linesFor p least text))) after
+  unfolding flatten
   lines-fill {out} {after} {at} f =
-      let g : after ≡ placed (placed out at (laidFor p least text)) (at + length (laidFor p least text)) (13 ∷ 10 ∷ []) = f ∙ ap (λ (z : Size). pieced out at (linesBy z (laidFor p least text))) (sym e) in
-      subst (λ (t : List ℕ). Fills out at t after) laid-whole
-      (fills-on (laidFor p least text) (13 ∷ 10 ∷ []) (fills-put out (placed out at (laidFor p least text)) (laidFor p least text) at refl) refl
-      (fills-put (placed out at (laidFor p least text)) after (13 ∷ 10 ∷ []) (at + length (laidFor p least text)) g))
+      subst (λ (t : List ℕ). Puts t out at (at + length t) after) laid-whole (pieced-puts (laidFor p least text ∷ (13 ∷ 10 ∷ []) ∷ []) refl (f ∙ ap (λ (z : Size). pieced out at (linesBy z (laidFor p least text))) (sym e)))
 
 pub unfit-lines : (p : Place) (least : ℕ) (text : List ℕ) → sizeFor p least text ≡ size.Unfit → linesFor p least text ≡ []
 unfolding sizeFor linesFor
@@ -165,7 +148,7 @@ told-stop s p o vo text out at k r nope e = go (stoppedAt o (writing s text)) e
     go Fine e = absurd (nope k e)
     go (Broken j q) e = (e, refl)
 
-module _ (s : Bool) (o : ℕ) (vo text : List ℕ) {least : ℕ} {room mid after : List ℕ} (z : least ≡ length (code s vo)) (f : Fills room 0 (code s vo) mid) {n : ℕ} {r : Step} (g : r ≡ Put n)
+module _ (s : Bool) (o : ℕ) (vo text : List ℕ) {least : ℕ} {room mid after : List ℕ} (f : Puts (code s vo) room 0 least mid) {n : ℕ} {r : Step} (g : r ≡ Put n)
     (a : Adds (stoppedAt o (writing s text)) false (textOf (writing s text)) mid least r after) where
   abbrev whole : List ℕ
   whole = told s (vo ∷ text ∷ [])
@@ -174,13 +157,13 @@ module _ (s : Bool) (o : ℕ) (vo text : List ℕ) {least : ℕ} {room mid after
   known = came-put (stoppedAt o (writing s text)) false (least + length (textOf (writing s text))) n (sym g ∙ a .answers)
 
   told-long : n ≡ length whole
-  told-long = let k = known .2 in omega (arith, length-append (code s vo) (textOf (writing s text)))
+  told-long = let k = known .2 in omega (arith, f .answers, length-append (code s vo) (textOf (writing s text)))
 
   told-is : n ≤ length room → take n after ≡ whole
   told-is h =
       let t : List ℕ = textOf (writing s text) in
-      let w : Fills room 0 whole after = fills-on (code s vo) t f (z ∙ sym (zero-add (length (code s vo)))) (a .fills (known .0) refl) in
-      let q : after ≡ whole ++ drop (length whole) room = w .puts (omega (arith, told-long)) ∙ sym (over-sets whole room (omega (arith, told-long))) in
+      let w : Puts whole room 0 n after = puts-on (code s vo) t f (record { answers = known .2; fills = a .fills (known .0) refl }) in
+      let q : after ≡ whole ++ drop (length whole) room = w .fills (omega (arith, told-long)) ∙ sym (over-sets whole room (omega (arith, told-long))) in
       ap₂ (λ (k : ℕ) (l : List ℕ). take k l) told-long q ∙ take-append-seam whole (drop (length whole) room)
 
   module _ (p : Place) (out : List ℕ) (at : ℕ) where
@@ -264,10 +247,10 @@ module _ (s : Bool) (p : Place) (l : List ℕ) (i v : ℕ) (out : List ℕ) (at 
 -- ---- what a caller makes of it: the lines where no rule stops the text and they fit, and how far the places go
 module _ (s : Bool) (p : Place) (o : ℕ) (vo text out : List ℕ) (at : ℕ) {r : Step} {after : List ℕ} (d : Told s p o vo text out at r after) where
   pub told-adds : Adds (stoppedAt o (writing s text)) (isUnfit (sizeFor p (codeSize s) (told s (vo ∷ text ∷ [])))) (laid (linesFor p (codeSize s) (told s (vo ∷ text ∷ [])))) out at r after
-  told-adds = record { answers = d .0; fills = λ v b. go (sizeFor p (codeSize s) (told s (vo ∷ text ∷ []))) refl b (d .1 ∙ ap (λ (x : Verdict). pieced out at (unlessStopped x (linesBy (sizeFor p (codeSize s) (told s (vo ∷ text ∷ []))) (laidFor p (codeSize s) (told s (vo ∷ text ∷ [])))))) v) }
+  told-adds = record { answers = d .0; fills = λ v b. go (sizeFor p (codeSize s) (told s (vo ∷ text ∷ []))) refl b (d .1 ∙ ap (λ (x : Verdict). pieced out at (unlessStopped x (linesBy (sizeFor p (codeSize s) (told s (vo ∷ text ∷ []))) (laidFor p (codeSize s) (told s (vo ∷ text ∷ [])))))) v) .fills }
     where
       go : (z : Size) → sizeFor p (codeSize s) (told s (vo ∷ text ∷ [])) ≡ z → isUnfit (sizeFor p (codeSize s) (told s (vo ∷ text ∷ []))) ≡ false → after ≡ pieced out at (linesBy (sizeFor p (codeSize s) (told s (vo ∷ text ∷ []))) (laidFor p (codeSize s) (told s (vo ∷ text ∷ []))))
-          → Fills out at (laid (linesFor p (codeSize s) (told s (vo ∷ text ∷ [])))) after
+          → Puts (laid (linesFor p (codeSize s) (told s (vo ∷ text ∷ [])))) out at (at + length (laid (linesFor p (codeSize s) (told s (vo ∷ text ∷ []))))) after
       go (size.Bytes n) e b f = lines-fill p (codeSize s) (told s (vo ∷ text ∷ [])) n (sym e) f
       go size.Unfit e b f = absurd (true≢false (sym (ap isUnfit e) ∙ b))
 

@@ -1,38 +1,31 @@
 -- Steps one behind another: what a step comes to, and where its bytes are. Assumes nothing.
-use Prim.Native.Nat.{ℕ, _+_, _-_, _≤_}
+use Prim.Native.Nat.{ℕ, _+_, _≤_}
 use mathlib.Core.Path.{_≡_, refl, sym, ap, ap₂, subst, _∙_}
 use mathlib.Core.Bool.{Bool, true, false, not, _||_, true≢false, false≢true}
-use mathlib.Core.List.{List, [], _∷_, _++_}
+use mathlib.Core.List.{List, [], _∷_, _++_, flatten}
 use native.Mathlib.Omega.{arith}
 use types.Run.{OneOf}
 use denote.Enum.Declared.{tagOf}
 use mathlib.Core.Logic.{⊎-elim}
 use lib.ListN.{length, length-append}
-use lib.Seq.{sets, length-sets}
 use Rattle.base.specs.Rules.{then}
-use Rattle.base.specs.Calls.{stuck, placed}
+use Rattle.base.specs.Calls.{placed, Puts}
 use Rattle.base.specs.declared.Verdict.{Verdict}
 use Rattle.base.specs.declared.Verdict.the-variants.{Fine, Broken}
 use Rattle.base.proofs.RuleLaws.{fine-broken}
-use Rattle.base.proofs.Room.{sets-append, placed-fits}
+use Rattle.base.proofs.Room.{puts-put, puts-on, puts-none}
 use Rattle.lines.specs.declared.Step.{Step}
 use Rattle.lines.specs.declared.Step.the-variants.{Stuck, Unfit, Put}
 use Rattle.lines.proofs.Step.{the-type}
-use Rattle.lines.specs.Steps.{pieced, came, Fills, Adds, Within, stuckIn, unfitIn, putIn, shifted, stillFit, nextPlace}
+use Rattle.lines.specs.Steps.{pieced, came, Adds, Within, stuckIn, unfitIn, putIn}
 
--- ---- bytes behind bytes
-pub fills-put : (out after t : List ℕ) (at : ℕ) → after ≡ placed out at t → Fills out at t after
-fills-put out after t at e = record { puts = λ h. e ∙ placed-fits out at t h }
-
-pub fills-on : {out mid after : List ℕ} (t u : List ℕ) {at n : ℕ} → Fills out at t mid → n ≡ at + length t → Fills mid n u after → Fills out at (t ++ u) after
-fills-on {out} {mid} {after} t u {at} {n} f e g = record { puts = go }
-  where
-    go : at + length (t ++ u) ≤ length out → after ≡ sets out at (t ++ u)
-    go h =
-        let z = length-append t u in
-        let p : mid ≡ sets out at t = f .puts (omega arith) in
-        let q : length mid ≡ length out = ap length p ∙ length-sets out at t in
-        g .puts (omega arith) ∙ ap₂ (λ (m : List ℕ) (k : ℕ). sets m k u) p e ∙ sym (sets-append t u out at)
+-- ---- parts one behind another
+pub pieced-puts : (ts : List (List ℕ)) {out after : List ℕ} {at r : ℕ} → r ≡ at + length (flatten ts) → after ≡ pieced out at ts → Puts (flatten ts) out at r after
+unfolding flatten
+pieced-puts [] {out} {after} {at} {r} e f = record { answers = e; fills = λ h. f }
+pieced-puts (t ∷ ts) {at = at} {r = r} e f =
+    let z : r ≡ at + length t + length (flatten ts) = omega (arith, length-append t (flatten ts)) in
+    puts-on t (flatten ts) (puts-put {u = t} refl refl) (pieced-puts ts z f)
 
 -- ---- a tag between colons
 abbrev pub Tagged : List ℕ → List ℕ → ℕ → ℕ → List ℕ → Type 0
@@ -41,13 +34,9 @@ Tagged t out at r after = (r ≡ at + length t + 2) × (after ≡ pieced out at 
 pub tag-put : (t out : List ℕ) (at : ℕ) {o₁ o₂ o₃ : List ℕ} → o₁ ≡ placed out at (58 ∷ []) → o₂ ≡ placed o₁ (at + 1) t → o₃ ≡ placed o₂ (at + 1 + length t) (58 ∷ []) → Tagged t out at (at + length t + 2) o₃
 tag-put t out at e f g = (refl, g ∙ ap (λ (m : List ℕ). placed m (at + 1 + length t) (58 ∷ [])) (f ∙ ap (λ (m : List ℕ). placed m (at + 1) t) e))
 
-pub tag-fills : (t : List ℕ) {out after : List ℕ} {at r : ℕ} → Tagged t out at r after → (r ≡ at + length (58 ∷ t ++ 58 ∷ [])) × Fills out at (58 ∷ t ++ 58 ∷ []) after
-tag-fills t {out} {after} {at} {r} d =
-    let o₁ = placed out at (58 ∷ []) in
-    let o₂ = placed o₁ (at + 1) t in (
-      omega (arith, d .0, length-append t (58 ∷ [])),
-      fills-on (58 ∷ []) (t ++ 58 ∷ []) (fills-put out o₁ (58 ∷ []) at refl) refl (fills-on t (58 ∷ []) (fills-put o₁ o₂ t (at + 1) refl) refl (fills-put o₂ after (58 ∷ []) (at + 1 + length t) (d .1))),
-    )
+pub tag-puts : (t : List ℕ) {out after : List ℕ} {at r : ℕ} → Tagged t out at r after → Puts (58 ∷ t ++ 58 ∷ []) out at r after
+unfolding flatten
+tag-puts t {at = at} {r = r} d = let z : r ≡ at + length (58 ∷ t ++ 58 ∷ []) = omega (arith, d .0, length-append t (58 ∷ [])) in pieced-puts ((58 ∷ []) ∷ t ∷ (58 ∷ []) ∷ []) z (d .1)
 
 -- ---- what a step is by its answer
 put-unfit : {n : ℕ} → Put n ≡ Unfit → ⊥
@@ -103,44 +92,31 @@ adds-stuck {b = b} {t = t} {at = at} {j = j} {p = p} e = record { answers = ap (
 pub adds-unfit : {v : Verdict} {b : Bool} {t out after : List ℕ} {at : ℕ} → v ≡ Fine → b ≡ true → Adds v b t out at Unfit after
 adds-unfit {t = t} {at = at} e f = record { answers = ap₂ (λ (w : Verdict) (c : Bool). came w c (at + length t)) (sym e) (sym f); fills = λ g h. absurd (true≢false (sym f ∙ h)) }
 
-pub adds-put : {v : Verdict} {b : Bool} {t out after : List ℕ} {at n : ℕ} → v ≡ Fine → b ≡ false → n ≡ at + length t → Fills out at t after → Adds v b t out at (Put n) after
-adds-put {t = t} {at = at} {n = n} e f k g =
-    record { answers = ap Put k ∙ ap₂ (λ (w : Verdict) (c : Bool). came w c (at + length t)) (sym e) (sym f); fills = λ _ _. g }
+pub adds-put : {v : Verdict} {b : Bool} {t out after : List ℕ} {at n : ℕ} → v ≡ Fine → b ≡ false → Puts t out at n after → Adds v b t out at (Put n) after
+adds-put {t = t} {at = at} e f p =
+    record { answers = ap Put (p .answers) ∙ ap₂ (λ (w : Verdict) (c : Bool). came w c (at + length t)) (sym e) (sym f); fills = λ _ _. p .fills }
 
 -- nothing more
 pub adds-none : {out : List ℕ} {at : ℕ} → Adds Fine false [] out at (Put at) out
-adds-none {out} {at} = let z : at ≡ at + 0 = omega arith in adds-put refl refl z (record { puts = λ h. refl })
+adds-none = adds-put refl refl puts-none
 
 -- bytes before a step
-pub adds-front : {v : Verdict} {b : Bool} (t u : List ℕ) {out mid after : List ℕ} {at n : ℕ} {r : Step} → Fills out at t mid → n ≡ at + length t → Adds v b u mid n r after
-    → Adds v b (t ++ u) out at r after
-adds-front {v} {b} t u {at = at} {n = n} f e a =
-    let z : n + length u ≡ at + length (t ++ u) = omega (arith, length-append t u) in
-    record { answers = a .answers ∙ ap (came v b) z; fills = λ g h. fills-on t u f e (a .fills g h) }
+pub adds-front : {v : Verdict} {b : Bool} (t u : List ℕ) {out mid after : List ℕ} {at n : ℕ} {r : Step} → Puts t out at n mid → Adds v b u mid n r after → Adds v b (t ++ u) out at r after
+adds-front {v} {b} t u {at = at} {n = n} p a =
+    let z : n + length u ≡ at + length (t ++ u) = omega (arith, p .answers, length-append t u) in
+    record { answers = a .answers ∙ ap (came v b) z; fills = λ g h. puts-on t u p (record { answers = refl; fills = a .fills g h }) .fills }
 
 -- a step behind one that was put
 pub adds-then : (v w : Verdict) {b c : Bool} (t u : List ℕ) {out mid after : List ℕ} {at n : ℕ} {r : Step} → Adds v b t out at (Put n) mid → Adds w c u mid n r after
     → Adds (then v w) c (t ++ u) out at r after
 adds-then v w {b} {c} t u {out = out} {after = after} {at = at} {n = n} {r = r} a d =
     let k = came-put v b (at + length t) n (a .answers) in
-    subst (λ (x : Verdict). Adds (then x w) c (t ++ u) out at r after) (sym (k .0)) (adds-front t u (a .fills (k .0) (k .1)) (k .2) d)
+    subst (λ (x : Verdict). Adds (then x w) c (t ++ u) out at r after) (sym (k .0)) (adds-front t u (record { answers = k .2; fills = a .fills (k .0) (k .1) }) d)
 
 -- ---- places that count from o on
 abbrev pub movedBy : ℕ → Verdict → Verdict
 movedBy o Fine = Fine
 movedBy o (Broken n p) = Broken n (o + p)
-
-shifted-came : (o : ℕ) (v : Verdict) (b : Bool) (n : ℕ) → shifted o (came v b n) ≡ came (movedBy o v) b n
-shifted-came o Fine true n = refl
-shifted-came o Fine false n = refl
-shifted-came o (Broken j p) b n = refl
-
-moved-fine : (o : ℕ) (v : Verdict) → movedBy o v ≡ Fine → v ≡ Fine
-moved-fine o Fine e = refl
-moved-fine o (Broken j p) e = absurd (fine-broken j (o + p) (sym e))
-
-pub adds-moved : (o : ℕ) {v : Verdict} {b : Bool} {t out after : List ℕ} {at : ℕ} {r q : Step} → q ≡ shifted o r → Adds v b t out at r after → Adds (movedBy o v) b t out at q after
-adds-moved o {v} {b} {t} {at = at} e a = record { answers = e ∙ ap (shifted o) (a .answers) ∙ shifted-came o v b (at + length t); fills = λ f. a .fills (moved-fine o v f) }
 
 -- the same from its own place on, with a rule behind and without
 pub adds-cut : (v w : Verdict) (t : List ℕ) {u out now mid after : List ℕ} {c : Bool} {at n : ℕ} (r : Step) → ((m : ℕ) → r ≡ Put m → ⊥) → Adds v false t now n r mid → Adds (then v w) c u out at r after
@@ -183,42 +159,34 @@ within-any m h (stuckIn w) = stuckIn w
 within-any m h unfitIn = unfitIn
 within-any m h (putIn {m = j} w) = absurd (h j refl)
 
--- by the tags that `if let` tells
-pub not-stuck : (r : Step) → OneOf (1 ∷ 2 ∷ []) (tagOf the-type r) → (p : ℕ) → r ≡ Stuck p → ⊥
-not-stuck (Stuck q) h p e = ⊎-elim (λ z. omega arith) (λ z. omega arith) h
-not-stuck Unfit h p e = unfit-stuck e
-not-stuck (Put n) h p e = put-stuck e
+-- ---- records one behind another: how it goes on behind one, whether all has fitted and the place
+pub data Goes : Bool → ℕ → Step → Bool → ℕ → Type 0 where
+  unfitOn : {fit : Bool} {n : ℕ} → Goes fit n Unfit false n
+  putOn : {fit : Bool} {n m : ℕ} → Goes fit n (Put m) fit m
 
--- one that is not stuck is the same from any place on
-adds-kept : (o : ℕ) {v : Verdict} {b : Bool} {t out after : List ℕ} {at : ℕ} (r : Step) → ((p : ℕ) → r ≡ Stuck p → ⊥) → Adds v b t out at r after → Adds (movedBy o v) b t out at r after
-adds-kept o (Stuck p) h a = absurd (h p refl)
-adds-kept o Unfit h a = adds-moved o refl a
-adds-kept o (Put n) h a = adds-moved o refl a
+pub goes-unfit : {fit f : Bool} {n k : ℕ} {r : Step} → r ≡ Unfit → f ≡ false → k ≡ n → Goes fit n r f k
+goes-unfit e f g = rw (e, f, g) unfitOn
 
-pub within-next : {r : Step} {k m : ℕ} (at n : ℕ) → Within r k m → at ≤ n → m ≤ n → nextPlace at r ≤ n
-within-next at n (stuckIn w) h g = h
-within-next at n unfitIn h g = h
-within-next at n (putIn w) h g = omega arith
+pub goes-put : {fit f : Bool} {n k m : ℕ} {r : Step} → r ≡ Put m → f ≡ fit → k ≡ m → Goes fit n r f k
+goes-put e f g = rw (e, f, g) putOn
 
--- ---- records one behind another: details that don't fit are remembered
-adds-joined : (fit : Bool) (v w : Verdict) (b c : Bool) (t u : List ℕ) {out mid after : List ℕ} {at : ℕ} (q : Step) {r : Step} → ((p : ℕ) → q ≡ Stuck p → ⊥) → Adds v b t out at q mid
-    → Adds w (not (stillFit fit q) || c) u mid (nextPlace at q) r after → Adds (then v w) (not fit || (b || c)) (t ++ u) out at r after
-adds-joined fit v w b c t u {at = at} (Stuck p) h a d = absurd (h p refl)
-adds-joined fit v w b c t u {out = out} {after = after} {at = at} Unfit {r} h a d =
+pub within-next : {fit f : Bool} {at j k m : ℕ} {r : Step} (n : ℕ) → Goes fit at r f j → Within r k m → at ≤ n → m ≤ n → j ≤ n
+within-next n unfitOn w h g = h
+within-next n putOn w h g = let z = put-in w in omega arith
+
+-- details that don't fit are remembered; the first rule's places count from o on
+pub adds-join : (o : ℕ) (v w : Verdict) (b c : Bool) (t u : List ℕ) {fit f : Bool} {out mid after : List ℕ} {at n : ℕ} {q r : Step} → Goes fit at q f n → Adds v b t out at q mid
+    → Adds w (not f || c) u mid n r after → Adds (then (movedBy o v) w) (not fit || (b || c)) (t ++ u) out at r after
+adds-join o v w b c t u {out = out} {after = after} {at = at} {r = r} (unfitOn {fit = fit}) a d =
     let k = came-unfit v b (at + length t) (a .answers) in
     let z : (not fit || (b || c)) ≡ true = ap (λ (x : Bool). not fit || (x || c)) (k .1) ∙ always fit in
-    record {
-      answers = d .answers ∙ came-crowd w _ (at + length (t ++ u)) ∙ ap₂ (λ (x : Verdict) (y : Bool). came (then x w) y (at + length (t ++ u))) (sym (k .0)) (sym z);
-      fills = λ e f. absurd (true≢false (sym z ∙ f));
-    }
+    subst (λ (x : Verdict). Adds (then (movedBy o x) w) (not fit || (b || c)) (t ++ u) out at r after) (sym (k .0))
+    (record { answers = d .answers ∙ came-crowd w _ (at + length (t ++ u)) ∙ ap (λ (y : Bool). came w y (at + length (t ++ u))) (sym z); fills = λ e f. absurd (true≢false (sym z ∙ f)) })
   where
     always : (x : Bool) → (not x || true) ≡ true
     always true = refl
     always false = refl
-adds-joined fit v w b c t u {out = out} {mid = mid} {after = after} {at = at} (Put m) {r} h a d =
+adds-join o v w b c t u {out = out} {after = after} {at = at} {r = r} (putOn {fit = fit} {m = m}) a d =
     let k = came-put v b (at + length t) m (a .answers) in
-    subst (λ (x : Bool). Adds (then v w) (not fit || (x || c)) (t ++ u) out at r after) (sym (k .1)) (adds-then v w t u a d)
-
-pub adds-join : (o : ℕ) (fit : Bool) (v w : Verdict) (b c : Bool) (t u : List ℕ) {out mid after : List ℕ} {at : ℕ} (q : Step) {r : Step} → ((p : ℕ) → q ≡ Stuck p → ⊥) → Adds v b t out at q mid
-    → Adds w (not (stillFit fit q) || c) u mid (nextPlace at q) r after → Adds (then (movedBy o v) w) (not fit || (b || c)) (t ++ u) out at r after
-adds-join o fit v w b c t u q h a d = adds-joined fit (movedBy o v) w b c t u q h (adds-kept o q h a) d
+    subst (λ (x : Verdict). Adds (then (movedBy o x) w) (not fit || (b || c)) (t ++ u) out at r after) (sym (k .0))
+    (subst (λ (x : Bool). Adds w (not fit || (x || c)) (t ++ u) out at r after) (sym (k .1)) (adds-front t u (record { answers = k .2; fills = a .fills (k .0) (k .1) }) d))

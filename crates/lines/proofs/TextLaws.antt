@@ -1,13 +1,12 @@
 -- One text, and one as a line. Assumes nothing.
-use Prim.Native.Nat.{ℕ, _+_, _*_, _-_, _≤_, _<_}
+use Prim.Native.Nat.{ℕ, _+_, _*_, _≤_}
 use mathlib.Core.Path.{_≡_, refl, sym, ap, ap₂, subst, _∙_}
 use mathlib.Core.Bool.{Bool, false}
-use mathlib.Core.List.{List, [], _++_}
+use mathlib.Core.List.{List, [], _∷_, _++_, flatten}
 use native.Mathlib.Omega.{arith}
-use native.Mathlib.Decide.{decLt}
 use lib.ListN.{length, length-append}
 use Rattle.base.specs.Calls.{textOf, placed}
-use Rattle.base.proofs.Room.{placed-fits, placed-not}
+use Rattle.base.proofs.Room.{placed-none, puts-put, puts-by}
 use Rattle.alphabets.specs.Best.{writing}
 use Rattle.alphabets.specs.Parts.{extent, written}
 use Rattle.alphabets.specs.declared.parts.Extent.{Extent}
@@ -16,17 +15,9 @@ use Rattle.alphabets.proofs.Outcomes.{twice-at-most}
 use Rattle.alphabets.proofs.PartTheorems.{size-takes, size-halts, size-long}
 use Rattle.lines.specs.declared.Step.{Step}
 use Rattle.lines.specs.declared.Step.the-variants.{Stuck, Put}
-use Rattle.lines.specs.Steps.{stoppedAt, pieced, Fills, Adds, Within}
+use Rattle.lines.specs.Steps.{stoppedAt, pieced, Adds, Within}
 use Rattle.lines.specs.Lines.{crlf, textBy, lineBy, lineStep, linePieces}
-use Rattle.lines.proofs.StepLaws.{fills-put, fills-on, adds-stuck, adds-put, in-put, in-stuck}
-
--- nothing is put
-pub placed-none : (out : List ℕ) (n : ℕ) → placed out n [] ≡ out
-placed-none out n = go (decLt (length out) (n + 0))
-  where
-    go : Dec (length out < n + 0) → placed out n [] ≡ out
-    go (yes h) = placed-not out n [] h
-    go (no h) = placed-fits out n [] (omega arith)
+use Rattle.lines.proofs.StepLaws.{pieced-puts, adds-stuck, adds-put, in-put, in-stuck}
 
 -- ---- one text, its first byte at o
 module _ (s : Bool) (p out : List ℕ) (o at : ℕ) where
@@ -35,7 +26,7 @@ module _ (s : Bool) (p out : List ℕ) (o at : ℕ) where
   text-put n after e f =
       let w = size-takes s p n (sym e) in
       let z : textOf (writing s p) ≡ written s p = ap textOf (w .is) in
-      adds-put (ap (stoppedAt o) (w .is)) refl (ap (λ (k : ℕ). at + k) (w .count ∙ ap length (sym z))) (fills-put out after (textOf (writing s p)) at (f ∙ ap (placed out at) (sym z)))
+      adds-put (ap (stoppedAt o) (w .is)) refl (puts-put {u = textOf (writing s p)} (ap (λ (k : ℕ). at + k) (w .count ∙ ap length (sym z))) (f ∙ ap (placed out at) (sym z)))
 
   pub text-stuck : (k : ℕ) (after : List ℕ) → Halts k ≡ extent s p → Adds (stoppedAt o (writing s p)) false (textOf (writing s p)) out at (Stuck (o + k)) after
   text-stuck k after e = adds-stuck (ap (stoppedAt o) (size-halts s p k (sym e) .is))
@@ -72,17 +63,16 @@ module _ (s : Bool) (p out : List ℕ) (o at : ℕ) where
   -- of a text of at most 10,000 bytes: what is put where it is written, and how far that goes
   module _ (h : length p ≤ 10000) {r : Step} {after : List ℕ} (d : Lined r after) where
     pub line-adds : Adds (stoppedAt o (writing s p)) false (textOf (writing s p) ++ crlf) out at r after
+    unfolding flatten
     line-adds = go (extent s p) refl (d .0) (d .1)
       where
         go : (x : Extent) → extent s p ≡ x → r ≡ lineBy x o at → after ≡ pieced out at (textBy x (written s p)) → Adds (stoppedAt o (writing s p)) false (textOf (writing s p) ++ crlf) out at r after
         go (Takes n) e f g =
             let w = size-takes s p n e in
             let z : written s p ≡ textOf (writing s p) = sym (ap textOf (w .is)) in
-            let c : at + n + 2 ≡ at + length (textOf (writing s p) ++ crlf) = omega (arith, w .count, ap length z, length-append (textOf (writing s p)) crlf) in
+            let c : at + n + 2 ≡ at + length (written s p ++ crlf) = omega (arith, w .count, length-append (written s p) crlf) in
             subst (λ (q : Step). Adds (stoppedAt o (writing s p)) false (textOf (writing s p) ++ crlf) out at q after) (sym f)
-            (adds-put (ap (stoppedAt o) (w .is)) refl c
-            (subst (λ (t : List ℕ). Fills out at (t ++ crlf) after) z
-            (fills-on (written s p) crlf (fills-put out (placed out at (written s p)) (written s p) at refl) refl (fills-put (placed out at (written s p)) after crlf (at + length (written s p)) g))))
+            (adds-put (ap (stoppedAt o) (w .is)) refl (puts-by (ap (λ (t : List ℕ). t ++ crlf) z) (pieced-puts (written s p ∷ crlf ∷ []) c g)))
         go (Halts k) e f g = subst (λ (q : Step). Adds (stoppedAt o (writing s p)) false (textOf (writing s p) ++ crlf) out at q after) (sym f) (adds-stuck (ap (stoppedAt o) (size-halts s p k e .is)))
         go Long e f g = absurd (text-long s p (sym e) h)
 

@@ -34,12 +34,9 @@ came (Broken k p) b n = Stuck p
 came Fine true n = Unfit
 came Fine false n = Put n
 
-pub record Fills (out : List ℕ) (at : ℕ) (t after : List ℕ) : Type 0 where
-  pub puts : at + length t ≤ length out → after ≡ sets out at t
-
 pub record Adds (v : Verdict) (b : Bool) (t out : List ℕ) (at : ℕ) (r : Step) (after : List ℕ) : Type 0 where
   pub answers : r ≡ came v b (at + length t)
-  pub fills : v ≡ Fine → b ≡ false → Fills out at t after
+  pub fills : v ≡ Fine → b ≡ false → at + length t ≤ length out → after ≡ sets out at t
 
 -- the places that a step names are so small
 abbrev pub near : ℕ
@@ -49,18 +46,3 @@ pub data Within : Step → ℕ → ℕ → Type 0 where
   stuckIn : {p k n : ℕ} → p ≤ k → Within (Stuck p) k n
   unfitIn : {k n : ℕ} → Within Unfit k n
   putIn : {m k n : ℕ} → m ≤ n → Within (Put m) k n
-
-abbrev pub shifted : ℕ → Step → Step
-shifted o (Stuck p) = Stuck (o + p)
-shifted o Unfit = Unfit
-shifted o (Put n) = Put n
-
-abbrev pub stillFit : Bool → Step → Bool
-stillFit fit (Stuck p) = fit
-stillFit fit Unfit = false
-stillFit fit (Put n) = fit
-
-abbrev pub nextPlace : ℕ → Step → ℕ
-nextPlace n (Stuck p) = n
-nextPlace n Unfit = n
-nextPlace n (Put m) = m

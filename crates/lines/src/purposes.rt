@@ -2,12 +2,13 @@
 ghost use mathlib.Core.Path.{_≡_};
 ghost use Prim.Native.Nat.{_+_, _≤_};
 ghost use lib.ListN.{length};
+ghost use Rattle.base.specs.Calls.{Puts};
 ghost use Rattle.base.specs.declared.Verdict.the-variants.{Fine};
 ghost use Rattle.fields.specs.Field.{laid};
 ghost use Rattle.roles.specs.Speech.{codeSize};
 ghost use Rattle.details.specs.Layouts.{sizeFor, linesFor, laidFor};
 ghost use Rattle.lines.specs.Spread.{code};
-ghost use Rattle.lines.specs.Steps.{isUnfit, pieced, came, Fills, near};
+ghost use Rattle.lines.specs.Steps.{isUnfit, pieced, came, near};
 ghost use Rattle.lines.specs.Lines.{linesBy, toldStep, toldPieces, purposeStep, purposePieces, partsAt};
 use super::Step;
 use super::texts::put_text;
@@ -21,7 +22,7 @@ use details::size_of;
 // The code with its VO digits; answers its size.
 fn put_code(sign: bool, vo: &[u8], out: &mut [u8]) -> usize
     requires { ⌜ (length (now vo) ≡ 5) × (11 ≤ length (now out)) ⌝ }
-    ensures { λ r. ⌜ (r ≡ codeSize sign) × (r ≡ length (code sign (now (vo .entry)))) × (r ≤ 11) × Fills (now (out .entry)) 0 (code sign (now (vo .entry))) (now (out .exit)) ⌝ }
+    ensures { λ r. ⌜ (r ≡ codeSize sign) × (r ≤ 11) × Puts (code sign (now (vo .entry))) (now (out .entry)) 0 r (now (out .exit)) ⌝ }
 {
     if sign {
         put(out, 0, b"'(VO");

@@ -1,5 +1,6 @@
 pub mod CallLaws
 pub mod PartLaws
+pub mod HandLaws
 pub mod Theorems
 pub mod PaidLaws
 pub mod Examples

@@ -1,5 +1,6 @@
-// The calls on a message: its check, the part of one place, the kopecks and the date of 32A.
+// The calls on a message: its check, the part of one place, the kopecks and the date of 32A; and one that was built, handed over.
 pub mod calls;
+pub mod handed;
 
 // The answer of the check.
 pub enum Checked {

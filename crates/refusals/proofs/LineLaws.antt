@@ -16,7 +16,7 @@ use Rattle.base.specs.declared.Outcome.the-variants.{Done, Refused}
 use Rattle.base.proofs.CallLaws.{gives-refused, gives-done, is-short, not-short}
 use Rattle.base.proofs.Room.{over-sets, placed-fits}
 use Rattle.refusals.specs.Line.{decimal, refusalLine}
-use Rattle.refusals.specs.Shown.{shownOf, Puts, Before}
+use Rattle.refusals.specs.Shown.{shownOf, Shows, Before}
 use Rattle.refusals.proofs.DigitLaws.{decimal-one, decimal-more, size-one, size-more, size-least, size-most}
 
 -- ---- from a place on
@@ -122,18 +122,18 @@ rest-of l n k h = take-all (n - k) (drop k l) (omega (arith, length-drop k l))
 
 -- ---- a text put into the room lent
 module _ (t out : List ℕ) where
-  pub puts-short : length out < length t → Puts t out (Refused 17 (length t)) out
-  puts-short h = gives-refused (short t out ∷ []) t out 17 (length t) (ap (λ (v : Verdict). then v Fine) (is-short t out h))
+  pub shows-short : length out < length t → Shows t out (Refused 17 (length t)) out
+  shows-short h = gives-refused (short t out ∷ []) t out 17 (length t) (ap (λ (v : Verdict). then v Fine) (is-short t out h))
 
-  pub puts-done : length t ≤ length out → {after : List ℕ} → after ≡ placed out 0 t → Puts t out (Done (length t)) after
-  puts-done h {after} e =
+  pub shows-done : length t ≤ length out → {after : List ℕ} → after ≡ placed out 0 t → Shows t out (Done (length t)) after
+  shows-done h {after} e =
       let z : 0 + length t ≡ length t = zero-add (length t) in
       let w : over t out ≡ after = over-sets t out h ∙ sym (e ∙ placed-fits out 0 t (omega arith)) in
-      subst (λ (o : List ℕ). Puts t out (Done (length t)) o) w (gives-done (short t out ∷ []) t out (ap (λ (v : Verdict). then v Fine) (not-short t out h)))
+      subst (λ (o : List ℕ). Shows t out (Done (length t)) o) w (gives-done (short t out ∷ []) t out (ap (λ (v : Verdict). then v Fine) (not-short t out h)))
 
 -- ---- an answer known by its form
-pub shown-by : {a b : Outcome} (m out : List ℕ) {after : List ℕ} {r : Outcome} → a ≡ b → Puts (shownOf b m) out r after → Puts (shownOf a m) out r after
-shown-by m out {after} {r} e h = subst (λ (x : Outcome). Puts (shownOf x m) out r after) (sym e) h
+pub shown-by : {a b : Outcome} (m out : List ℕ) {after : List ℕ} {r : Outcome} → a ≡ b → Shows (shownOf b m) out r after → Shows (shownOf a m) out r after
+shown-by m out {after} {r} e h = subst (λ (x : Outcome). Shows (shownOf x m) out r after) (sym e) h
 
-pub shown-front : {a : Outcome} {n : ℕ} (m out : List ℕ) {t after : List ℕ} {r : Outcome} → a ≡ Done n → t ≡ take n m → Puts t out r after → Puts (shownOf a m) out r after
-shown-front m out {t} {after} {r} e f h = shown-by m out e (subst (λ (u : List ℕ). Puts u out r after) f h)
+pub shown-front : {a : Outcome} {n : ℕ} (m out : List ℕ) {t after : List ℕ} {r : Outcome} → a ≡ Done n → t ≡ take n m → Shows t out r after → Shows (shownOf a m) out r after
+shown-front m out {t} {after} {r} e f h = shown-by m out e (subst (λ (u : List ℕ). Shows u out r after) f h)

@@ -13,9 +13,9 @@ abbrev pub shownOf : Outcome → List ℕ → List ℕ
 shownOf (Done n) m = take n m
 shownOf (Refused number place) m = refusalLine number place
 
--- a text put into the room lent, refused only by 17
-abbrev pub Puts : List ℕ → List ℕ → Outcome → List ℕ → Type 0
-Puts t out r after = Gives (short t out ∷ []) t out r after
+-- a text shown in the room lent, refused only by 17
+abbrev pub Shows : List ℕ → List ℕ → Outcome → List ℕ → Type 0
+Shows t out r after = Gives (short t out ∷ []) t out r after
 
 -- t put in front of what stands from `end` on; it begins at r
 pub record Before (t out : List ℕ) (end r : ℕ) (after : List ℕ) : Type 0 where

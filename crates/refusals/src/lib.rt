@@ -3,8 +3,7 @@ ghost use mathlib.Core.Path.{_≡_};
 ghost use Prim.Native.Nat.{_≤_};
 ghost use lib.ListN.{length, drop};
 ghost use Rattle.refusals.specs.Line.{decimal, refusalLine};
-ghost use Rattle.refusals.specs.Shown.{Puts};
-ghost use Rattle.refusals.specs.Shown.{shownOf, Before};
+ghost use Rattle.refusals.specs.Shown.{shownOf, Shows, Before};
 use base::Outcome;
 use base::bytes::front;
 use base::bytes::put;
@@ -41,7 +40,7 @@ fn lay_line(number: u32, place: usize, line: &mut [u8]) -> usize
 
 // A text put into the room lent, where it fits.
 fn put_whole(t: &[u8], out: &mut [u8]) -> Outcome
-    ensures { λ r. ⌜ Puts (now (t .entry)) (now (out .entry)) r (now (out .exit)) ⌝ }
+    ensures { λ r. ⌜ Shows (now (t .entry)) (now (out .entry)) r (now (out .exit)) ⌝ }
 {
     if out.len() < t.len() {
         return Outcome::Refused {
@@ -54,7 +53,7 @@ fn put_whole(t: &[u8], out: &mut [u8]) -> Outcome
 }
 
 fn put_refusal(number: u32, place: usize, out: &mut [u8]) -> Outcome
-    ensures { λ r. ⌜ Puts (refusalLine number place) (now (out .entry)) r (now (out .exit)) ⌝ }
+    ensures { λ r. ⌜ Shows (refusalLine number place) (now (out .entry)) r (now (out .exit)) ⌝ }
 {
     let mut line = [0u8; 50];
     let at = lay_line(number, place, &mut line);
@@ -63,7 +62,7 @@ fn put_refusal(number: u32, place: usize, out: &mut [u8]) -> Outcome
 
 // What a call answered and left in m, shown in the room lent.
 pub fn put_shown(a: Outcome, m: &[u8], out: &mut [u8]) -> Outcome
-    ensures { λ r. ⌜ Puts (shownOf a (now (m .entry))) (now (out .entry)) r (now (out .exit)) ⌝ }
+    ensures { λ r. ⌜ Shows (shownOf a (now (m .entry))) (now (out .entry)) r (now (out .exit)) ⌝ }
 {
     match a {
         Outcome::Done(n) => put_whole(front(m, n), out),

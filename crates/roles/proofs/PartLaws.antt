@@ -4,6 +4,8 @@ use Prim.Native.Nat.{ℕ}
 use mathlib.Core.Path.{_≡_, refl, sym, ap, ap₂, _∙_}
 use mathlib.Core.Bool.{Bool, true, false, not, _&&_}
 use mathlib.Core.List.{List, [], _∷_}
+use types.Run.{OneOf, miss}
+use denote.Enum.Declared.{tagOf}
 use Rattle.base.specs.Choice.{pick}
 use Rattle.base.specs.Bytes.{begins}
 use Rattle.values.specs.Values.{isTax}
@@ -11,6 +13,9 @@ use Rattle.roles.specs.Role.{Part, copy, name, taxName, lineOf, taxed, c
 use Rattle.roles.specs.Parts.{castBy, named, nextRole}
 use Rattle.roles.specs.declared.Role.{Role}
 use Rattle.roles.specs.declared.Role.the-variants.{Copies, OfPayer, OfPayee, OfAgent, Taxed, Names}
+use Rattle.roles.specs.declared.Shape.{Shape}
+use Rattle.roles.specs.declared.Shape.the-variants.{Plain, Payer, Payee, Agent, Details, Note103, Note202}
+use Rattle.roles.proofs.Shape.{the-type}
 
 pub payer-slash : (p : List ℕ) → begins 47 p ≡ true → false ≡ named OfPayer p
 payer-slash p e = sym (ap (λ (b : Bool). not b && not (isTax p)) e)
@@ -80,3 +85,13 @@ first-line Taxed p = go (isTax p)
     go true = refl
     go false = refl
 first-line Names p = refl
+
+-- what holds of each shape whose parts are all lines, by the tags that `match` leaves
+pub each-lined : (P : Shape → Type 0) → P Plain → P Payer → P Payee → P Agent → (sh : Shape) → OneOf (0 ∷ 1 ∷ 2 ∷ 3 ∷ []) (tagOf the-type sh) → P sh
+each-lined P a b c d Plain h = a
+each-lined P a b c d Payer h = b
+each-lined P a b c d Payee h = c
+each-lined P a b c d Agent h = d
+each-lined P a b c d Details h = absurd (miss (0 ∷ 1 ∷ 2 ∷ 3 ∷ []) 4 tt h)
+each-lined P a b c d Note103 h = absurd (miss (0 ∷ 1 ∷ 2 ∷ 3 ∷ []) 5 tt h)
+each-lined P a b c d Note202 h = absurd (miss (0 ∷ 1 ∷ 2 ∷ 3 ∷ []) 6 tt h)

@@ -7,7 +7,8 @@ use Rattle.base.specs.Choice.{pick}
 use Rattle.base.specs.Bytes.{begins}
 use Rattle.values.specs.Values.{isTax}
 use Rattle.roles.specs.Role.{Part, copy, name, taxed, cast}
-use Rattle.roles.specs.declared.Shape.the-variants.{Payer, Payee, Agent}
+use Rattle.roles.specs.declared.Shape.{Shape}
+use Rattle.roles.specs.declared.Shape.the-variants.{Plain, Payer, Payee, Agent, Details, Note103, Note202}
 use Rattle.roles.specs.declared.Role.{Role}
 use Rattle.roles.specs.declared.Role.the-variants.{Copies, OfPayer, OfPayee, OfAgent, Taxed, Names}
 
@@ -37,3 +38,13 @@ nextRole OfPayee p = Taxed
 nextRole OfAgent p = Names
 nextRole Taxed p = Names
 nextRole Names p = Names
+
+-- what the parts are from the first on, by the shape of their tag; where not each is a line, all count as copied
+abbrev pub firstRole : Shape → Role
+firstRole Plain = Copies
+firstRole Payer = OfPayer
+firstRole Payee = OfPayee
+firstRole Agent = OfAgent
+firstRole Details = Copies
+firstRole Note103 = Copies
+firstRole Note202 = Copies

@@ -1,5 +1,5 @@
 -- 14: with the sign, the first text that breaks one of three clauses (T1, N14, N14a-N14c). Assumes nothing.
-use Prim.Native.Nat.{ℕ, _+_}
+use Prim.Native.Nat.{ℕ}
 use mathlib.Core.Bool.{Bool, true, _&&_, _||_}
 use mathlib.Core.List.{List, [], _∷_, _++_}
 use Rattle.base.specs.Choice.{pick}

@@ -2,8 +2,9 @@
 ghost use mathlib.Core.Path.{_≡_};
 ghost use mathlib.Core.Bool.{_&&_};
 ghost use Rattle.roles.specs.declared.Role.the-variants.{OfPayer};
-ghost use Rattle.roles.specs.Parts.{named, nextRole};
+ghost use Rattle.roles.specs.Parts.{named, nextRole, firstRole};
 use super::Role;
+use super::Shape;
 use super::clauses::starts;
 use values::parts::is_tax;
 
@@ -50,5 +51,20 @@ pub fn next_role(role: Role, p: &[u8]) -> Role
         Role::OfAgent => Role::Names,
         Role::Taxed => Role::Names,
         Role::Names => Role::Names,
+    }
+}
+
+// What the parts are from the first on, where each is a line.
+pub fn first_role(shape: Shape) -> Role
+    ensures { λ r. ⌜ r ≡ firstRole shape ⌝ }
+{
+    match shape {
+        Shape::Plain => Role::Copies,
+        Shape::Payer => Role::OfPayer,
+        Shape::Payee => Role::OfPayee,
+        Shape::Agent => Role::OfAgent,
+        Shape::Details => Role::Copies,
+        Shape::Note103 => Role::Copies,
+        Shape::Note202 => Role::Copies,
     }
 }

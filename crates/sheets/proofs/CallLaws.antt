@@ -1,5 +1,5 @@
 -- The ways out of the call: the message's refusal, 17, or the sheet. Assumes nothing.
-use Prim.Native.Nat.{ℕ, _+_, _≤_, _<_}
+use Prim.Native.Nat.{ℕ, _≤_, _<_}
 use mathlib.Core.Path.{_≡_, refl, sym, ap, ap₂, subst, _∙_}
 use mathlib.Core.Bool.{Bool}
 use mathlib.Core.List.{List, _∷_, _++_}
@@ -7,13 +7,13 @@ use native.Mathlib.Omega.{arith}
 use native.Mathlib.Nat.{zero-add}
 use lib.ListN.{length}
 use Rattle.base.specs.Rules.{then, first}
-use Rattle.base.specs.Calls.{short, over, Gives}
+use Rattle.base.specs.Calls.{short, over, Gives, Puts}
 use Rattle.base.specs.declared.Verdict.{Verdict}
 use Rattle.base.specs.declared.Verdict.the-variants.{Fine, Broken}
 use Rattle.base.specs.declared.Outcome.the-variants.{Done, Refused}
 use Rattle.base.proofs.RuleLaws.{first-last}
 use Rattle.base.proofs.CallLaws.{gives-refused, gives-done, is-short, not-short}
-use Rattle.base.proofs.Room.{over-sets}
+use Rattle.base.proofs.Room.{over-sets, puts-by}
 use Rattle.base.specs.Bytes.{begins}
 use Rattle.alphabets.specs.Steps.{codes}
 use Rattle.fields.specs.Field.{fields}
@@ -27,8 +27,6 @@ use Rattle.judge.proofs.CallLaws.{sign-is}
 use Rattle.judge.proofs.PartLaws.{settled}
 use Rattle.judge.proofs.Theorems.{message-accepts, frame-clean, judged-by, judged-found}
 use Rattle.records.specs.Record.{line}
-use Rattle.contents.specs.Steps.{Puts}
-use Rattle.contents.proofs.StepLaws.{puts-by}
 use Rattle.sheets.specs.Gather.{typeRecord, sheetOf}
 use Rattle.sheets.specs.Calls.{readRules, SheetTo}
 use Rattle.sheets.specs.Steps.{sheetBy, Sound}

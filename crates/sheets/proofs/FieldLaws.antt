@@ -12,7 +12,8 @@ use native.Mathlib.Numerals.{add-one}
 use borrow.Author.Tests.{eq-eqb, ne-eqb, eqb-true, eqb-false}
 use Rattle.base.specs.Choice.{pick, all}
 use Rattle.base.specs.Bytes.{byte, capital, without}
-use Rattle.base.specs.Calls.{placed}
+use Rattle.base.specs.Calls.{placed, Puts}
+use Rattle.base.proofs.Room.{puts-put, puts-on, puts-by, puts-none, Leads, leads-on}
 use Rattle.base.specs.declared.Verdict.the-variants.{Fine}
 use Rattle.base.proofs.ByteLaws.{past-in}
 use Rattle.base.proofs.Bools.{left, right}
@@ -34,8 +35,7 @@ use Rattle.judge.specs.Parts.{Settled}
 use Rattle.judge.proofs.PartLaws.{Stands, stands, here}
 use Rattle.records.specs.Record.{tabbed, line}
 use Rattle.contents.specs.Contents.{contentBy, contentText}
-use Rattle.contents.specs.Steps.{Puts}
-use Rattle.contents.proofs.StepLaws.{puts-put, puts-on, puts-by, Leads, take-few, leads-on, puts-none}
+use Rattle.contents.proofs.StepLaws.{take-few}
 use Rattle.contents.proofs.CallLaws.{content-whole}
 use Rattle.sheets.specs.Gather.{typeRecord}
 use Rattle.sheets.specs.Steps.{tagEnd, fieldIn, Part, recordBy, recordLine, sheetBy}

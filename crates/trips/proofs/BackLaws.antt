@@ -46,8 +46,7 @@ use Rattle.details.specs.declared.Place.{Place}
 use Rattle.details.specs.declared.Place.the-variants.{In70, In72, BehindRpp}
 use Rattle.lines.specs.Spread.{castParts, lineFor, code, told, notePlace, noteLines, contentLines, spread}
 use Rattle.lines.specs.Steps.{isUnfit}
-use Rattle.drafts.specs.Sheet.{crowded, fieldsOf, messageFor, sheetRules}
-use Rattle.writer.specs.Sheet.{MessageTo}
+use Rattle.writer.specs.Sheet.{crowded, fieldsOf, messageFor, sheetRules, MessageTo}
 use Rattle.written.proofs.SpeltLaws.{said-is}
 use Rattle.written.proofs.ReadyLaws.{speaks, Laid, laid, Ready}
 use Rattle.written.proofs.CastLaws.{turned, cast-again, frontOf, nextOf, told-again}

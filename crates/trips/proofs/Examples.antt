@@ -52,8 +52,8 @@ use Rattle.details.specs.Breaking.{opens, last, broken}
 use Rattle.details.specs.Breaking as breaking
 use Rattle.details.specs.Layouts.{linesFor, sizeFor}
 use Rattle.lines.specs.Spread.{contentLines, spread}
-use Rattle.drafts.specs.Sheet.{sheetRules, unsaid, rule15, crowded, rule16, fieldsOf, messageFor}
-use Rattle.writer.specs.Sheet.{writeRules, atStart}
+use Rattle.message.specs.Handed.{atStart}
+use Rattle.writer.specs.Sheet.{sheetRules, unsaid, rule15, crowded, rule16, fieldsOf, messageFor, writeRules}
 use Rattle.written.specs.Cases.{sheet103}
 use Rattle.sheets.specs.Calls.{readRules}
 use Rattle.contents.specs.Contents.{codeDigits}

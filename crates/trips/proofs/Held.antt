@@ -21,7 +21,7 @@ use Rattle.roles.specs.declared.Shape.the-variants.{Plain, Payer, Payee, Agent,
 use Rattle.records.specs.Record.{plainText, line}
 use Rattle.records.specs.Rule19.{sound}
 use Rattle.lines.specs.Spread.{castParts}
-use Rattle.drafts.specs.Sheet.{crowded}
+use Rattle.writer.specs.Sheet.{crowded}
 use Rattle.written.proofs.ReadyLaws.{Fair, speaks}
 use Rattle.sheets.specs.Gather.{contentParts}
 use Rattle.trips.specs.Again.{again}
@@ -69,13 +69,13 @@ pub data Noted : Shape → Type 0 where
   note103 : Noted Note103
   note202 : Noted Note202
 
--- ---- its record: right by 19, written by 15, without tab and LF, no longer than the field; without the sign its details fit
+-- ---- its record: right by 19, written by 15, without tab and LF, no longer than the field; it fits, but for details with the sign
 pub record Sheeted (kind : ℕ) (s : Bool) (t : List ℕ) (ls : List (List ℕ)) : Type 0 where
   pub is-sound : sound s (shapeOf kind t) (contentParts s (shapeOf kind t) ls) ≡ true
   pub says : all (speaks s) (castParts (shapeOf kind t) (contentParts s (shapeOf kind t) ls)) ≡ true
   pub textual : all plainText (contentParts s (shapeOf kind t) ls) ≡ true
   pub no-longer : length (line (field t (contentParts s (shapeOf kind t) ls))) + 1 ≤ length (laid (lined (field t ls)))
-  pub fits : s ≡ false → crowded s (shapeOf kind t) (contentParts s (shapeOf kind t) ls) ≡ false
+  pub fits : crowded s (shapeOf kind t) (contentParts s (shapeOf kind t) ls) ≡ true → (s ≡ true) × (shapeOf kind t ≡ Details)
 
 abbrev pub SheetedField : ℕ → Bool → Field → Type 0
 SheetedField kind s (field t ls) = Sheeted kind s t ls

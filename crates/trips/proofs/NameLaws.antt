@@ -1,7 +1,7 @@
 -- Lines that are copied or names: what they keep when they are read and written again, and the record that they make on the sheet (T7, N14,
 -- S6, S7). Assumes nothing.
 use Prim.Native.Nat.{ℕ, _+_, _≤_}
-use mathlib.Core.Path.{_≡_, refl, ap, ap₂, _∙_}
+use mathlib.Core.Path.{_≡_, refl, sym, ap, ap₂, _∙_}
 use mathlib.Core.Bool.{Bool, true, false, not, _&&_, true≢false}
 use mathlib.Core.List.{List, [], _∷_, _++_, map, tail}
 use native.Mathlib.Omega.{arith}
@@ -30,7 +30,7 @@ use Rattle.records.specs.Record.{plainText, tabbed, line}
 use Rattle.records.specs.Rule19 as rule19
 use Rattle.records.specs.Rule19.{general, taxPart, sound}
 use Rattle.lines.specs.Spread.{lineFor, castParts, contentLines}
-use Rattle.drafts.specs.Sheet.{crowded}
+use Rattle.writer.specs.Sheet.{crowded}
 use Rattle.written.specs.Sentences.{Every}
 use Rattle.written.proofs.SpeltLaws.{isSaid, plain-same, slash, colon, dash, spelt-head, spelt-empty, spelt-tax}
 use Rattle.written.proofs.ReadyLaws.{Fair, speaks}
@@ -321,5 +321,5 @@ sheeted-names kind s t ls v h =
       says = ap (all (speaks s)) is ∙ parts-say s xs w;
       textual = ap (all plainText) i ∙ parts-textual s xs w;
       no-longer = record-size t ls ps (h .fair .some) n;
-      fits = λ q. not-crowded s sh ps v;
+      fits = λ q. absurd (true≢false (sym q ∙ not-crowded s sh ps v));
     }

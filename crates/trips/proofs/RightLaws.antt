@@ -1,5 +1,5 @@
 -- Rule 8 lets pass what is written again of a content that it let pass; and no right content is long (N8, section C). Assumes nothing.
-use Prim.Native.Nat.{ℕ, zero, suc, _+_, _*_, _≤_}
+use Prim.Native.Nat.{ℕ, zero, suc, _*_, _≤_}
 use mathlib.Core.Path.{_≡_, refl, sym, ap, ap₂, _∙_}
 use mathlib.Core.Bool.{Bool, true, false, _&&_, true≢false, false≢true}
 use mathlib.Core.List.{List, [], _∷_, _++_, map}
@@ -40,7 +40,7 @@ use Rattle.details.specs.declared.Size.the-variants.{Bytes, Unfit}
 use Rattle.details.proofs.Theorems.{Fitted, fitted}
 use Rattle.lines.specs.Spread.{castParts, code, told, rppLine, notePlace, contentLines}
 use Rattle.lines.specs.Steps.{isUnfit}
-use Rattle.drafts.specs.Sheet.{crowded}
+use Rattle.writer.specs.Sheet.{crowded}
 use Rattle.written.proofs.SpeltLaws.{said-is, spelt-empty}
 use Rattle.written.proofs.ReadyLaws as ready
 use Rattle.written.proofs.ReadyLaws.{speaks, Laid, Ready}

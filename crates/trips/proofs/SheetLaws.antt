@@ -1,8 +1,8 @@
--- The rules of writing over the sheet of a message: where each field has its record (Held), none refuses it but 16, and that only with the sign
--- (K7, S2, S8, S10, N1, N15, N16, N18, N19). Assumes nothing.
+-- The rules of writing over the sheet of a message: where each field has its record (Held), none refuses it but 16, and that only for field 70
+-- with the sign (K7, S2, S8, S10, N1, N15, N16, N18, N19). Assumes nothing.
 use Prim.Native.Nat.{ℕ, _+_, _≤_}
 use mathlib.Core.Path.{_≡_, refl, sym, ap, ap₂, subst, _∙_}
-use mathlib.Core.Bool.{Bool, true, false, not, true≢false}
+use mathlib.Core.Bool.{Bool, true, false, _||_, true≢false, false≢true}
 use mathlib.Core.List.{List, [], _∷_, _++_, map, tail}
 use mathlib.Core.Logic.{_⊎_, inl, inr}
 use native.Mathlib.Omega.{arith}
@@ -31,7 +31,7 @@ use Rattle.types.specs.Sign.{firstLine, signOf}
 use Rattle.types.proofs.TableLaws.{rule18-iff}
 use Rattle.roles.specs.Role.{shapeOf, shape103, shape202, copy, cast}
 use Rattle.roles.specs.declared.Shape.{Shape}
-use Rattle.roles.specs.declared.Shape.the-variants.{Plain}
+use Rattle.roles.specs.declared.Shape.the-variants.{Plain, Details}
 use Rattle.judge.specs.Message.{messageRules, verdictOf}
 use Rattle.judge.proofs.Theorems.{message-accepts}
 use Rattle.records.specs.Record.{Record, sheet, pieces, front, final, recordOf, records, rest, begun, plainText, writable}
@@ -42,12 +42,15 @@ use Rattle.records.proofs.PieceLaws.{some-piece}
 use Rattle.records.proofs.PlaceLaws.{size-sheet}
 use Rattle.records.proofs.SheetLaws.{records-sheet, rest-sheet}
 use Rattle.records.proofs.RuleLaws.{sound-fine, named-size}
-use Rattle.drafts.specs.Sheet.{someCrowded, rule15, rule16, sheetRules}
+use Rattle.writer.specs.Sheet.{crowded, someCrowded, rule15, rule16, sheetRules}
 use Rattle.written.specs.Sentences.{Every}
 use Rattle.written.proofs.BuiltLaws.{shape-20}
-use Rattle.written.proofs.ReadyLaws.{speaking, roomy, rule15-fine, rule16-fine}
+use Rattle.written.proofs.ReadyLaws.{speaking, rule15-fine}
+use Rattle.written.proofs.ExactLaws.{crowded-none}
 use Rattle.sheets.specs.Gather.{partFor, contentParts, recordFor, gather, typeRecord, recordsOf, sheetOf}
+use Rattle.trips.specs.Again.{Crowded70}
 use Rattle.trips.proofs.Held.{SheetedField}
+use Rattle.trips.proofs.ValueLaws.{Seen, as-details, seen}
 
 -- ---- the type is one of the two
 abbrev Known : ℕ → Type 0
@@ -151,9 +154,21 @@ module _ (kind : ℕ) (s : Bool) where
   all-speaking [] w = refl
   all-speaking (field t ls ∷ fs) w = both (w .0 .says) (all-speaking fs (w .1))
 
-  all-roomy : (fs : List Field) → Every (SheetedField kind s) fs → s ≡ false → all (roomy kind s) (map (recordFor kind s) fs) ≡ true
-  all-roomy [] w q = refl
-  all-roomy (field t ls ∷ fs) w q = both (ap not (w .0 .fits q)) (all-roomy fs (w .1) q)
+  -- what 16 refuses of them is 70 of a 103, with the sign
+  which-crowded : (fs : List Field) → Every (SheetedField kind s) fs → someCrowded kind s (map (recordFor kind s) fs) ≡ true → Crowded70 kind s fs
+  which-crowded [] w e = absurd (false≢true e)
+  which-crowded (field t ls ∷ fs) w e = go (crowded s (shapeOf kind t) (contentParts s (shapeOf kind t) ls)) refl e (which-crowded fs (w .1))
+    where
+      this : s ≡ true → Seen kind t Details → crowded true Details (contentParts true Details ls) ≡ true → Crowded70 kind s (field t ls ∷ fs)
+      this a (as-details k i) q =
+          record { type = k; sign = a; before = []; lines = ls; behind = fs; list = ap (λ (u : List ℕ). field u ls ∷ fs) i; no-way = crowded-none true Details (contentParts true Details ls) q }
+
+      go : (b : Bool) → crowded s (shapeOf kind t) (contentParts s (shapeOf kind t) ls) ≡ b → (b || someCrowded kind s (map (recordFor kind s) fs)) ≡ true
+          → (someCrowded kind s (map (recordFor kind s) fs) ≡ true → Crowded70 kind s fs) → Crowded70 kind s (field t ls ∷ fs)
+      go true q e ih = let f = w .0 .fits q in this (f .0) (rw (f .1) at (seen kind t)) (rw (f .0, f .1) at q)
+      go false q e ih =
+          let v : Crowded70 kind s fs = ih e in
+          record { type = v .type; sign = v .sign; before = field t ls ∷ v .before; lines = v .lines; behind = v .behind; list = ap (λ (l : List Field). field t ls ∷ l) (v .list); no-way = v .no-way }
 
 -- ---- the sheet
 module _ (kind : ℕ) (s : Bool) (fs : List Field) (eighteen : rule18 kind ≡ Fine) (sign : s ≡ signOf fs) (tags : all shapedTag fs ≡ true) (each : Every (SheetedField kind s) fs) where
@@ -218,23 +233,16 @@ module _ (kind : ℕ) (s : Bool) (fs : List Field) (eighteen : rule18 kind ≡ F
   abbrev sixteen : Verdict
   sixteen = rule16 (sheetType sheetFor) (sheetSign sheetFor) (tail (records sheetFor))
 
-  -- without the sign its details fit
-  pub its-16 : s ≡ false → sixteen ≡ Fine
-  unfolding gather
-  its-16 q =
-      read-as (λ (k : ℕ) (b : Bool) (rs : List Record). rule16 k b (tail rs)) ∙ rule16-fine kind s (gather kind s fs) .1 (all-roomy kind s fs each q)
-
-  fits-or-not : (sixteen ≡ Fine) ⊎ ((sixteen ≡ Broken 16 0) × (s ≡ true))
-  unfolding rule16
-  fits-or-not = go s (someCrowded (sheetType sheetFor) (sheetSign sheetFor) (tail (records sheetFor))) refl refl
+  fits-or-not : (sixteen ≡ Fine) ⊎ ((sixteen ≡ Broken 16 0) × Crowded70 kind s fs)
+  unfolding rule16 gather
+  fits-or-not = go (someCrowded kind s (gather kind s fs)) refl (read-as (λ (k : ℕ) (b : Bool) (rs : List Record). rule16 k b (tail rs)))
     where
-      go : (b c : Bool) → s ≡ b → someCrowded (sheetType sheetFor) (sheetSign sheetFor) (tail (records sheetFor)) ≡ c
-          → (sixteen ≡ Fine) ⊎ ((sixteen ≡ Broken 16 0) × (s ≡ true))
-      go false c p q = inl (its-16 p)
-      go true true p q = inr (ap (λ (k : Bool). pick k (Broken 16 0) Fine) q, p)
-      go true false p q = inl (ap (λ (k : Bool). pick k (Broken 16 0) Fine) q)
+      go : (b : Bool) → someCrowded kind s (map (recordFor kind s) fs) ≡ b → sixteen ≡ pick (someCrowded kind s (map (recordFor kind s) fs)) (Broken 16 0) Fine
+          → (sixteen ≡ Fine) ⊎ ((sixteen ≡ Broken 16 0) × Crowded70 kind s fs)
+      go true q e = inr (e ∙ ap (λ (b : Bool). pick b (Broken 16 0) Fine) q, which-crowded kind s fs each q)
+      go false q e = inl (e ∙ ap (λ (b : Bool). pick b (Broken 16 0) Fine) q)
 
-  -- ---- a message within the limit: its sheet passes, or is refused by 16, and then the sign is on
+  -- ---- a message within the limit: its sheet passes, or is refused by 16, and then for 70 of a 103 with the sign
   module _ (within : length (message fs) ≤ limit) where
     pub its-size : length sheetFor ≤ limit
     unfolding gather
@@ -246,10 +254,10 @@ module _ (kind : ℕ) (s : Bool) (fs : List Field) (eighteen : rule18 kind ≡ F
     pub its-1 : long limit sheetFor ≡ Fine
     its-1 = not-long limit sheetFor its-size
 
-    pub sheet-passes : Clean (sheetRules sheetFor) ⊎ ((first (sheetRules sheetFor) ≡ Broken 16 0) × (s ≡ true))
+    pub sheet-passes : Clean (sheetRules sheetFor) ⊎ ((first (sheetRules sheetFor) ≡ Broken 16 0) × Crowded70 kind s fs)
     sheet-passes = go fits-or-not
       where
-        go : (sixteen ≡ Fine) ⊎ ((sixteen ≡ Broken 16 0) × (s ≡ true)) → Clean (sheetRules sheetFor) ⊎ ((first (sheetRules sheetFor) ≡ Broken 16 0) × (s ≡ true))
+        go : (sixteen ≡ Fine) ⊎ ((sixteen ≡ Broken 16 0) × Crowded70 kind s fs) → Clean (sheetRules sheetFor) ⊎ ((first (sheetRules sheetFor) ≡ Broken 16 0) × Crowded70 kind s fs)
         go (inl e) = inl (its-1, (its-19, (its-18, (its-15, (e, tt)))))
         go (inr e) = inr (
           broken-first (sheetRules sheetFor) 16 0 (record {
@@ -282,7 +290,7 @@ module _ (kind : ℕ) (m : List ℕ) (fine : verdictOf kind m ≡ Fine) (each : 
   unfolding sheetOf recordsOf
   accepted-sign = its-sign kind (signOf (fields m)) (fields m) (clean .0) refl tags each
 
-  pub accepted-passes : Clean (sheetRules (sheetOf kind m)) ⊎ ((first (sheetRules (sheetOf kind m)) ≡ Broken 16 0) × (signOf (fields m) ≡ true))
+  pub accepted-passes : Clean (sheetRules (sheetOf kind m)) ⊎ ((first (sheetRules (sheetOf kind m)) ≡ Broken 16 0) × Crowded70 kind (signOf (fields m)) (fields m))
   unfolding sheetOf recordsOf
   accepted-passes = sheet-passes kind (signOf (fields m)) (fields m) (clean .0) refl tags each within
 

@@ -1,20 +1,21 @@
--- A message read and written again: its sheet is written, and the message then has the same sheet; or 16 refuses it, and then the sign is on
--- (D2e, K7, O2). The way from a sheet and back stands in BackLaws. Assumes nothing.
+-- A message read and written again: its sheet is written, and the message then has the same sheet; or 16 refuses it, and then for field 70 of a
+-- 103 with the sign (D2e, K7, O2). The way from a sheet and back stands in BackLaws. Assumes nothing.
 use Prim.Native.Nat.{ℕ, _≤_}
 use mathlib.Core.Path.{_≡_, sym, ap, ap₂, _∙_, subst}
-use mathlib.Core.Bool.{Bool, true}
+use mathlib.Core.Bool.{Bool}
 use mathlib.Core.List.{List, [], _∷_, _++_}
 use mathlib.Core.Logic.{_⊎_, inl, inr}
+use native.Mathlib.Omega.{arith}
 use lib.ListN.{length, take, drop}
 use lib.Seq.{take-append-seam}
-use Rattle.base.specs.Rules.{first}
+use Rattle.base.specs.Rules.{then, first}
 use Rattle.base.specs.Calls.{short, outcome, over}
 use Rattle.base.specs.Calls.{room as left}
 use Rattle.base.specs.declared.Verdict.{Verdict}
 use Rattle.base.specs.declared.Verdict.the-variants.{Fine, Broken}
 use Rattle.base.specs.declared.Outcome.{Outcome}
 use Rattle.base.specs.declared.Outcome.the-variants.{Done, Refused}
-use Rattle.base.proofs.RuleLaws.{Clean, clean-first, first-last, then-clean, fine-broken}
+use Rattle.base.proofs.RuleLaws.{Clean, clean-first, first-append, first-last, then-clean}
 use Rattle.base.proofs.CallLaws.{accepted, not-short}
 use Rattle.fields.specs.Field.{Field, field, fields}
 use Rattle.fields.specs.Frame.{limit}
@@ -23,11 +24,12 @@ use Rattle.roles.specs.Role.{shapeOf}
 use Rattle.roles.specs.declared.Shape.{Shape}
 use Rattle.roles.specs.declared.Shape.the-variants.{Plain, Payer, Payee, Agent, Details, Note103, Note202}
 use Rattle.judge.specs.Message.{messageRules, verdictOf}
-use Rattle.drafts.specs.Sheet.{messageFor, sheetRules}
-use Rattle.writer.specs.Sheet.{ownRule, atStart, writeRules, MessageTo}
+use Rattle.message.specs.Handed.{atStart}
+use Rattle.writer.specs.Sheet.{messageFor, sheetRules, ownRule, writeRules, MessageTo}
 use Rattle.written.specs.Sentences.{Every}
 use Rattle.sheets.specs.Gather.{sheetOf}
 use Rattle.sheets.specs.Calls.{readRules, SheetTo}
+use Rattle.trips.specs.Again.{Crowded70}
 use Rattle.trips.proofs.Held as held
 use Rattle.trips.proofs.Held.{Held, HeldField, LineByLine, Noted, Sheeted, SheetedField}
 use Rattle.trips.proofs.NameLaws.{sheeted-names}
@@ -64,8 +66,8 @@ module _ (kind : ℕ) (m : List ℕ) (e : verdictOf kind m ≡ Fine) where
   each : Every (SheetedField kind (signOf (fields m))) (fields m)
   each = all-sheeted kind (signOf (fields m)) (fields m) (all-held kind m e)
 
-  -- the rules of writing let its sheet pass, or 16 refuses it and the sign is on
-  pub sheet-passes : Clean (sheetRules (sheetOf kind m)) ⊎ ((first (sheetRules (sheetOf kind m)) ≡ Broken 16 0) × (signOf (fields m) ≡ true))
+  -- the rules of writing let its sheet pass, or 16 refuses it, and then for field 70 of a 103 with the sign
+  pub sheet-passes : Clean (sheetRules (sheetOf kind m)) ⊎ ((first (sheetRules (sheetOf kind m)) ≡ Broken 16 0) × Crowded70 kind (signOf (fields m)) (fields m))
   sheet-passes = accepted-passes kind m e each
 
   pub sheet-size : length (sheetOf kind m) ≤ limit
@@ -83,16 +85,19 @@ module _ (kind : ℕ) (m : List ℕ) (e : verdictOf kind m ≡ Fine) where
     pub same-sheet : sheetOf kind (messageFor (sheetOf kind m)) ≡ sheetOf kind m
     same-sheet = ap (λ (k : ℕ). sheetOf k (messageFor (sheetOf kind m))) (sym (accepted-type kind m e each)) ∙ sheet-back (sheetOf kind m) c
 
--- ---- carried to the calls
-first-on : (us vs : List Verdict) (n p : ℕ) → first us ≡ Broken n p → first (us ++ vs) ≡ Broken n p
-first-on [] vs n p e = absurd (fine-broken n p e)
-first-on (Fine ∷ us) vs n p e = first-on us vs n p e
-first-on (Broken k q ∷ us) vs n p e = e
+-- so a 202 always passes
+pub passes-202 : (m : List ℕ) → verdictOf 202 m ≡ Fine → Clean (sheetRules (sheetOf 202 m))
+passes-202 m e = go (sheet-passes 202 m e)
+  where
+    go : Clean (sheetRules (sheetOf 202 m)) ⊎ ((first (sheetRules (sheetOf 202 m)) ≡ Broken 16 0) × Crowded70 202 (signOf (fields m)) (fields m)) → Clean (sheetRules (sheetOf 202 m))
+    go (inl c) = c
+    go (inr f) = absurd (omega (arith, f .1 .type))
 
+-- ---- carried to the calls
 -- what the call on the sheet comes to, with room enough: r, and the room b
 pub data Returns (kind : ℕ) (m room : List ℕ) (r : Outcome) (b : List ℕ) : Type 0 where
   again : (n : ℕ) → r ≡ Done n → verdictOf kind (take n b) ≡ Fine → sheetOf kind (take n b) ≡ sheetOf kind m → b ≡ take n b ++ drop n room → Returns kind m room r b
-  crowded : r ≡ Refused 16 0 → b ≡ room → signOf (fields m) ≡ true → Returns kind m room r b
+  crowded : r ≡ Refused 16 0 → b ≡ room → Crowded70 kind (signOf (fields m)) (fields m) → Returns kind m room r b
 
 module _ (kind : ℕ) (m room : List ℕ) (e : verdictOf kind m ≡ Fine) (r : Outcome) (b : List ℕ) (enough : length (messageFor (sheetOf kind m)) ≤ length room) where
   abbrev sheet : List ℕ
@@ -111,16 +116,16 @@ module _ (kind : ℕ) (m room : List ℕ) (e : verdictOf kind m ≡ Fine) (r : O
       again (length built) (g .answers ∙ ap (λ (v : Verdict). outcome v (length built)) f) (ap (verdictOf kind) t ∙ accepted-again kind m e c) (ap (sheetOf kind) t ∙ same-sheet kind m e c)
       (q ∙ ap (λ (x : List ℕ). x ++ drop (length built) room) (sym t))
 
-  stops : MessageTo sheet room r b → first (sheetRules sheet) ≡ Broken 16 0 → signOf (fields m) ≡ true → Returns kind m room r b
+  stops : MessageTo sheet room r b → first (sheetRules sheet) ≡ Broken 16 0 → Crowded70 kind (signOf (fields m)) (fields m) → Returns kind m room r b
   unfolding MessageTo
   stops g f n =
-      let k : first (writeRules sheet room) ≡ Broken 16 0 = first-on (sheetRules sheet) (short built room ∷ ownRule sheet ∷ []) 16 0 f in
+      let k : first (writeRules sheet room) ≡ Broken 16 0 = first-append (sheetRules sheet) (short built room ∷ ownRule sheet ∷ []) ∙ ap (λ (v : Verdict). then v (first (short built room ∷ ownRule sheet ∷ []))) f in
       crowded (g .answers ∙ ap (λ (v : Verdict). outcome v (length built)) k) (g .leaves ∙ ap (λ (v : Verdict). left v built room) k) n
 
   returns : MessageTo sheet room r b → Returns kind m room r b
   returns g = go (sheet-passes kind m e)
     where
-      go : Clean (sheetRules sheet) ⊎ ((first (sheetRules sheet) ≡ Broken 16 0) × (signOf (fields m) ≡ true)) → Returns kind m room r b
+      go : Clean (sheetRules sheet) ⊎ ((first (sheetRules sheet) ≡ Broken 16 0) × Crowded70 kind (signOf (fields m)) (fields m)) → Returns kind m room r b
       go (inl c) = passes g c
       go (inr f) = stops g (f .0) (f .1)
 

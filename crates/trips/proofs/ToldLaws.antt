@@ -1,5 +1,5 @@
--- The record of a field that holds details or an RPP line: right by 19, written by 15, without tab and LF, no longer than the field, and without
--- the sign its details fit as they stood (S4, N15, N16, B1-B3, C70, C72). Assumes nothing.
+-- The record of a field that holds details or an RPP line: right by 19, written by 15, without tab and LF, no longer than the field; what it
+-- holds fits, but for details of 70 with the sign (S4, K7, N15, N16, B1-B3, C70, C72). Assumes nothing.
 use Prim.Native.Nat.{ℕ, _+_, _≤_, _<_}
 use mathlib.Core.Path.{_≡_, refl, sym, ap, ap₂, _∙_, subst}
 use mathlib.Core.Bool.{Bool, true, false, not, true≢false, false≢true}
@@ -9,24 +9,26 @@ use lib.Dec.{eqb}
 use lib.ListN.{length, take, drop, length-append}
 use lib.Seq.{take-at, drop-append-seam, drop-append-add}
 use borrow.Author.Tests.{eqb-true}
-use Rattle.base.specs.Choice.{pick, all}
-use Rattle.base.specs.Bytes.{byte, empty, same, xset}
+use Rattle.base.specs.Choice.{all}
+use Rattle.base.specs.Bytes.{byte, empty, xset}
 use Rattle.base.specs.Quoted.{bytes}
 use Rattle.base.specs.Calls.{Answer, said, textOf}
 use Rattle.base.proofs.Bools.{left, right, both, all-append, all-behind}
-use Rattle.base.proofs.ByteLaws.{same-is}
 use Rattle.alphabets.specs.Bank.{plainly, reading}
-use Rattle.alphabets.proofs.Theorems.{plain-only}
+use Rattle.alphabets.specs.Best.{writing}
+use Rattle.alphabets.proofs.Theorems.{plain-only, no-shorter}
 use Rattle.fields.specs.Field.{field, lined, laid}
-use Rattle.forms.specs.States.{at70, at70Signed, rpp103, at72, at72Signed}
-use Rattle.forms.specs.Contents.{starts103, starts202, stateOf, rightField}
-use Rattle.roles.specs.Role.{shapeOf, shape103, shape202, cast}
+use Rattle.machine.specs.Machine.{right as goesRight}
+use Rattle.forms.specs.Formats.{formats}
+use Rattle.forms.specs.States.{rows}
+use Rattle.forms.specs.Contents.{rightField}
+use Rattle.roles.specs.Role.{shapeOf, cast}
 use Rattle.roles.specs.Speech as speech
 use Rattle.roles.specs.Speech.{codeSize, speeches}
 use Rattle.roles.specs.Rule14.{breaks}
 use Rattle.roles.specs.Sentences.{Heard}
 use Rattle.roles.specs.declared.Shape.{Shape}
-use Rattle.roles.specs.declared.Shape.the-variants.{Plain, Payer, Payee, Agent, Details, Note103, Note202}
+use Rattle.roles.specs.declared.Shape.the-variants.{Details, Note103, Note202}
 use Rattle.records.specs.Record.{plainText, line}
 use Rattle.records.specs.Rule19.{digits, detailed, sound}
 use Rattle.details.specs.Lines.{together, lines}
@@ -35,86 +37,19 @@ use Rattle.details.specs.declared.Place.{Place}
 use Rattle.details.specs.declared.Place.the-variants.{In70, In72, BehindRpp}
 use Rattle.details.specs.declared.Size.{Size}
 use Rattle.details.specs.declared.Size.the-variants.{Bytes, Unfit}
-use Rattle.details.proofs.Theorems.{unfit-none}
+use Rattle.details.proofs.Theorems.{less-divided, unfit-none}
 use Rattle.lines.specs.Spread.{castParts, coded, code, told, rppLine, notePlace}
 use Rattle.lines.specs.Steps.{isUnfit}
-use Rattle.drafts.specs.Sheet.{crowded}
+use Rattle.writer.specs.Sheet.{crowded}
+use Rattle.written.proofs.SpeltLaws.{said-is}
 use Rattle.written.proofs.ReadyLaws.{speaks}
 use Rattle.written.proofs.CastLaws.{behind-code, code-size, unmarked}
 use Rattle.contents.specs.Contents.{codeDigits}
 use Rattle.sheets.specs.Gather.{toldParts, noteParts, contentParts}
-use Rattle.trips.proofs.Held.{Held, Noted, details, note103, note202, Sheeted}
+use Rattle.trips.proofs.Held.{Held, Noted, Sheeted}
 use Rattle.trips.proofs.TakenLaws.{Told, told-lines, rpp-alone, Note, with-rpp, without, note-lines}
+use Rattle.trips.proofs.LinesLaws.{Began, details, note103, note202, began}
 use Rattle.trips.proofs.SaidLaws.{Says, says-plain, says-signed, says-written, plain-said, says-short, set-text, says-text, digits-set}
-
--- ---- where the tag has such a shape
-data Seat (kind : ℕ) (t : List ℕ) : Type 0 where
-  seat-70 : shapeOf kind t ≡ Details → ((s : Bool) → stateOf kind s t ≡ pick s at70Signed at70) → Seat kind t
-  seat-103 : shapeOf kind t ≡ Note103 → ((s : Bool) → stateOf kind s t ≡ rpp103) → Seat kind t
-  seat-202 : shapeOf kind t ≡ Note202 → ((s : Bool) → stateOf kind s t ≡ pick s at72Signed at72) → Seat kind t
-
-abbrev isNoted : Shape → Bool
-isNoted Details = true
-isNoted Note103 = true
-isNoted Note202 = true
-isNoted Plain = false
-isNoted Payer = false
-isNoted Payee = false
-isNoted Agent = false
-
-noted-is : {sh : Shape} → Noted sh → isNoted sh ≡ true
-noted-is details = refl
-noted-is note103 = refl
-noted-is note202 = refl
-
-at-70 : Seat 103 (bytes "70")
-unfolding shapeOf shape103 same stateOf starts103
-at-70 = seat-70 refl (λ s. refl)
-
-at-72 : Seat 103 (bytes "72")
-unfolding shapeOf shape103 same stateOf starts103
-at-72 = seat-103 refl (λ s. refl)
-
-at-72-202 : Seat 202 (bytes "72")
-unfolding shapeOf shape202 same stateOf starts202
-at-72-202 = seat-202 refl (λ s. refl)
-
-tagged : (kind : ℕ) (u t : List ℕ) → same t u ≡ true → Seat kind u → Seat kind t
-tagged kind u t e w = subst (λ (v : List ℕ). Seat kind v) (sym (same-is t u e)) w
-
-seat-of-103 : (t : List ℕ) → isNoted (shape103 t) ≡ true → Seat 103 t
-unfolding shape103
-seat-of-103 t e = go (same t (bytes "50K")) (same t (bytes "59")) (same t (bytes "56D")) (same t (bytes "57D")) (same t (bytes "70")) (same t (bytes "72")) refl refl e
-  where
-    go : (a b c d f g : Bool) → same t (bytes "70") ≡ f → same t (bytes "72") ≡ g
-        → isNoted (pick a Payer (pick b Payee (pick c Agent (pick d Agent (pick f Details (pick g Note103 Plain)))))) ≡ true → Seat 103 t
-    go true b c d f g p q e = absurd (false≢true e)
-    go false true c d f g p q e = absurd (false≢true e)
-    go false false true d f g p q e = absurd (false≢true e)
-    go false false false true f g p q e = absurd (false≢true e)
-    go false false false false true g p q e = tagged 103 (bytes "70") t p at-70
-    go false false false false false true p q e = tagged 103 (bytes "72") t q at-72
-    go false false false false false false p q e = absurd (false≢true e)
-
-seat-of-202 : (t : List ℕ) → isNoted (shape202 t) ≡ true → Seat 202 t
-unfolding shape202
-seat-of-202 t e = go (same t (bytes "58D")) (same t (bytes "56D")) (same t (bytes "57D")) (same t (bytes "72")) refl e
-  where
-    go : (a b c d : Bool) → same t (bytes "72") ≡ d → isNoted (pick a Payee (pick b Agent (pick c Agent (pick d Note202 Plain)))) ≡ true → Seat 202 t
-    go true b c d q e = absurd (false≢true e)
-    go false true c d q e = absurd (false≢true e)
-    go false false true d q e = absurd (false≢true e)
-    go false false false true q e = tagged 202 (bytes "72") t q at-72-202
-    go false false false false q e = absurd (false≢true e)
-
-seat : (kind : ℕ) (t : List ℕ) → isNoted (shapeOf kind t) ≡ true → Seat kind t
-unfolding shapeOf
-seat kind t e = go (eqb kind 103) (eqb kind 202) refl refl e
-  where
-    go : (a b : Bool) → eqb kind 103 ≡ a → eqb kind 202 ≡ b → isNoted (pick a (shape103 t) (pick b (shape202 t) Plain)) ≡ true → Seat kind t
-    go true b p q e = subst (λ (k : ℕ). Seat k t) (sym (eqb-true kind 103 p)) (seat-of-103 t e)
-    go false true p q e = subst (λ (k : ℕ). Seat k t) (sym (eqb-true kind 202 q)) (seat-of-202 t e)
-    go false false p q e = absurd (false≢true e)
 
 -- ---- details: code and text over their lines
 code-least : (s : Bool) → 9 ≤ codeSize s
@@ -148,6 +83,14 @@ markSize p = length (layout p .mark)
 
 abbrev nextSize : Place → ℕ
 nextSize p = length (layout p .next)
+
+abbrev firstWidth : Place → ℕ
+firstWidth p = byte (layout p .widths) 0
+
+widths-of : (p : Place) → (layout p .widths ≡ firstWidth p ∷ tail (layout p .widths)) × (firstWidth p + markSize p ≡ 35)
+widths-of In70 = (refl, refl)
+widths-of In72 = (refl, refl)
+widths-of BehindRpp = (refl, refl)
 
 module _ {p : Place} {s : Bool} {ls : List (List ℕ)} (w : Told p s ls) where
   abbrev whole : List ℕ
@@ -192,22 +135,13 @@ module _ {p : Place} {s : Bool} {ls : List (List ℕ)} (w : Told p s ls) where
       )
 
   -- the lines divide code and text as the field's place asks
-  abbrev firstWidth : ℕ
-  firstWidth = byte (layout p .widths) 0
-
-  told-divides : layout p .widths ≡ firstWidth ∷ tail (layout p .widths) → firstWidth + markSize p ≡ 35
-      → DivisionIn (layout p) (codeSize s) (code s (w .vo) ++ whole) ((code s (w .vo) ++ w .text) ∷ w .texts)
-  told-divides e f =
+  told-divides : DivisionIn (layout p) (codeSize s) (code s (w .vo) ++ whole) ((code s (w .vo) ++ w .text) ∷ w .texts)
+  told-divides =
       let n : length (code s (w .vo) ++ w .text) ≡ codeSize s + length (w .text) = length-append (code s (w .vo)) (w .text) ∙ ap (λ (k : ℕ). k + length (w .text)) (code-size s (w .vo) (w .five)) in
       let a : 0 < length (code s (w .vo) ++ w .text) = omega (arith, code-least s) in
       let b : codeSize s ≤ length (code s (w .vo) ++ w .text) = omega arith in
-      let c : length (code s (w .vo) ++ w .text) ≤ firstWidth = omega (arith, w .short, length-append (layout p .mark) (code s (w .vo) ++ w .text)) in
-      rw e (lines a b c (w .later) (append-assoc (code s (w .vo)) (w .text) (together (w .texts))))
-
-widths-of : (p : Place) → (layout p .widths ≡ byte (layout p .widths) 0 ∷ tail (layout p .widths)) × (byte (layout p .widths) 0 + markSize p ≡ 35)
-widths-of In70 = (refl, refl)
-widths-of In72 = (refl, refl)
-widths-of BehindRpp = (refl, refl)
+      let c : length (code s (w .vo) ++ w .text) ≤ firstWidth p = omega (arith, w .short, widths-of p .1, length-append (layout p .mark) (code s (w .vo) ++ w .text)) in
+      rw (widths-of p .0) (lines a b c (w .later) (append-assoc (code s (w .vo)) (w .text) (together (w .texts))))
 
 -- ---- their parts: digits, and what the text says
 record Gathered (p : Place) (s : Bool) (ls : List (List ℕ)) (vo d : List ℕ) : Type 0 where
@@ -217,22 +151,6 @@ record Gathered (p : Place) (s : Bool) (ls : List (List ℕ)) (vo d : List ℕ) 
   plain : all plainText (vo ∷ d ∷ []) ≡ true
   five : length vo ≡ 5
   short : markSize p + codeSize s + length d + 2 ≤ length (laid ls)
-  fit : s ≡ false → isUnfit (sizeFor p (codeSize s) (told s (vo ∷ d ∷ []))) ≡ false
-
--- what can be divided fits
-never-unfit : (p : Place) (least : ℕ) (text : List ℕ) {ls : List (List ℕ)} → DivisionIn (layout p) least text ls → isUnfit (sizeFor p least text) ≡ false
-never-unfit p least text d = go (sizeFor p least text) refl
-  where
-    go : (z : Size) → sizeFor p least text ≡ z → isUnfit z ≡ false
-    go (Bytes n) e = refl
-    go Unfit e = absurd (unfit-none p least text e d)
-
--- without the sign a text is written as it stood
-told-same : (s : Bool) (vo b d : List ℕ) → s ≡ false → reading s b ≡ said d → told s (vo ∷ d ∷ []) ≡ code s vo ++ b
-told-same true vo b d e r = absurd (true≢false e)
-told-same false vo b d e r =
-    let f : d ≡ b = sym (plain-only b d r) in
-    ap (λ (x : List ℕ). code false vo ++ textOf (plainly x)) f ∙ ap (λ (a : Answer). code false vo ++ textOf a) r ∙ ap (λ (x : List ℕ). code false vo ++ x) f
 
 gathered : {p : Place} {s : Bool} {ls : List (List ℕ)} (w : Told p s ls) (h : Says s (whole w)) → Gathered p s ls (w .vo) (h .desk)
 gathered {p} {s} {ls} w h = record {
@@ -242,8 +160,6 @@ gathered {p} {s} {ls} w h = record {
   plain = both (set-text (w .vo) (vo-set (w .vo) (w .five))) (both (says-text s (whole w) (h .desk) (h .reads)) refl);
   five = vo-five (w .vo) (w .five);
   short = omega (arith, told-long w, says-short s (whole w) (h .desk) (h .reads));
-  fit = λ e. ap (λ (x : List ℕ). isUnfit (sizeFor p (codeSize s) x)) (told-same s (w .vo) (whole w) (h .desk) e (h .reads))
-      ∙ never-unfit p (codeSize s) (code s (w .vo) ++ whole w) (told-divides w (widths-of p .0) (widths-of p .1));
 }
 
 -- what it says, by 3 or by 14
@@ -251,6 +167,42 @@ told-says : {p : Place} (s : Bool) {ls : List (List ℕ)} (w : Told p s ls) (o :
     → (s ≡ true → Heard (speech.details (markSize p + codeSize true) (nextSize p) o ls)) → Says s (whole w)
 told-says true w o e h = says-signed (whole w) (told-heard w o (h refl))
 told-says false w o e h = says-plain (whole w) (told-set w e) (w .some)
+
+-- ---- whether they fit
+never-unfit : (p : Place) (least : ℕ) (text : List ℕ) {ls : List (List ℕ)} → DivisionIn (layout p) least text ls → isUnfit (sizeFor p least text) ≡ false
+never-unfit p least text d = go (sizeFor p least text) refl
+  where
+    go : (z : Size) → sizeFor p least text ≡ z → isUnfit z ≡ false
+    go (Bytes n) e = refl
+    go Unfit e = absurd (unfit-none p least text e d)
+
+-- without the sign a text is written as it stood
+told-same : (vo b d : List ℕ) → reading false b ≡ said d → told false (vo ∷ d ∷ []) ≡ code false vo ++ b
+told-same vo b d r =
+    let f : d ≡ b = sym (plain-only b d r) in
+    ap (λ (x : List ℕ). code false vo ++ textOf (plainly x)) f ∙ ap (λ (a : Answer). code false vo ++ textOf a) r ∙ ap (λ (x : List ℕ). code false vo ++ x) f
+
+-- so what does not fit has the sign
+unfit-signed : {p : Place} (s : Bool) {ls : List (List ℕ)} (w : Told p s ls) (h : Says s (whole w)) → isUnfit (sizeFor p (codeSize s) (told s (w .vo ∷ h .desk ∷ []))) ≡ true → s ≡ true
+unfit-signed true w h q = refl
+unfit-signed {p} false w h q =
+    absurd (false≢true (sym (never-unfit p 9 (code false (w .vo) ++ whole w) (told-divides w)) ∙ ap (λ (x : List ℕ). isUnfit (sizeFor p 9 x)) (sym (told-same (w .vo) (whole w) (h .desk) (h .reads))) ∙ q))
+
+-- with it a text may be another, but is no longer: that is enough where no byte is barred
+free-fits : {p : Place} {s : Bool} {ls : List (List ℕ)} (w : Told p s ls) (h : Says s (whole w)) → layout p .barred ≡ [] → isUnfit (sizeFor p (codeSize s) (told s (w .vo ∷ h .desk ∷ []))) ≡ false
+free-fits {p} {s} w h e =
+    let t : List ℕ = textOf (writing s (h .desk)) in
+    let n : length t ≤ length (whole w) = no-shorter s (h .desk) t (whole w) (said-is (writing s (h .desk)) (says-written s (whole w) (h .desk) (h .reads))) (h .reads) in
+    let c = code-size s (w .vo) (w .five) in
+    let a = length-append (code s (w .vo)) t in
+    let b = length-append (code s (w .vo)) (whole w) in
+    let d = less-divided (layout p .barred) (codeSize s) (code s (w .vo) ++ whole w) (code s (w .vo) ++ t) e (told-divides w) (omega arith) (omega (arith, code-least s)) (omega arith) in
+    never-unfit p (codeSize s) (code s (w .vo) ++ t) (d .1)
+
+-- as in 72 of a 202
+note-free : (r : List ℕ) → layout (notePlace r) .barred ≡ []
+note-free [] = refl
+note-free (x ∷ r) = refl
 
 -- ---- the record
 lined-size : (t : List ℕ) (ls : List (List ℕ)) → empty ls ≡ false → length (laid (lined (field t ls))) ≡ length t + 2 + length (laid ls)
@@ -260,14 +212,14 @@ lined-size t (l ∷ ls) e =
 
 -- from the parts that it comes to
 sheeted-as : (kind : ℕ) (s : Bool) (t : List ℕ) (ls : List (List ℕ)) (sh : Shape) (ps : List (List ℕ)) → shapeOf kind t ≡ sh → contentParts s sh ls ≡ ps → empty ls ≡ false
-    → sound s sh ps ≡ true → all (speaks s) (castParts sh ps) ≡ true → all plainText ps ≡ true → length (line (field t ps)) ≤ length t + 1 + length (laid ls) → (s ≡ false → crowded s sh ps ≡ false)
+    → sound s sh ps ≡ true → all (speaks s) (castParts sh ps) ≡ true → all plainText ps ≡ true → length (line (field t ps)) ≤ length t + 1 + length (laid ls) → (crowded s sh ps ≡ true → (s ≡ true) × (sh ≡ Details))
     → Sheeted kind s t ls
 sheeted-as kind s t ls sh ps e f z a b c d g = record {
   is-sound = rw (e, f) a;
   says = rw (e, f) b;
   textual = rw (e, f) c;
   no-longer = rw (e, f) (omega (arith, lined-size t ls z));
-  fits = λ q. rw (e, f) (g q);
+  fits = rw (e, f) g;
 }
 
 module _ (kind : ℕ) (s : Bool) (t : List ℕ) (ls : List (List ℕ)) (h : Held kind s t ls) where
@@ -281,7 +233,7 @@ module _ (kind : ℕ) (s : Bool) (t : List ℕ) (ls : List (List ℕ)) (h : Held
       let g = gathered w y in
       let n : length (line (field t (w .vo ∷ y .desk ∷ []))) ≤ length t + 1 + length (laid ls) =
       omega (arith, length-append t (9 ∷ (w .vo ++ 9 ∷ (y .desk ++ []))), length-append (w .vo) (9 ∷ (y .desk ++ [])), length-append (y .desk) [], g .five, g .short, code-least s) in
-      sheeted-as kind s t ls Details (w .vo ∷ y .desk ∷ []) e (g .parts) (h .fair .some) (g .right-parts) (g .written) (g .plain) n (g .fit)
+      sheeted-as kind s t ls Details (w .vo ∷ y .desk ∷ []) e (g .parts) (h .fair .some) (g .right-parts) (g .written) (g .plain) n (λ q. (unfit-signed s w y q, refl))
 
   sheeted-103 : shapeOf kind t ≡ Note103 → (r : List ℕ) → ls ≡ rppLine r ∷ [] → empty r ≡ false → Sheeted kind s t ls
   unfolding contentParts sound crowded cast
@@ -289,7 +241,7 @@ module _ (kind : ℕ) (s : Bool) (t : List ℕ) (ls : List (List ℕ)) (h : Held
       let x : all xset r ≡ true = all-behind xset (bytes "/RPP/") r (left (all xset (rppLine r)) true (rw i at (h .fair .inside))) in
       let n : length (line (field t (r ∷ []))) ≤ length t + 1 + length (laid ls) =
       omega (arith, ap (λ (k : List (List ℕ)). length (laid k)) i, length-append t (9 ∷ (r ++ [])), length-append r [], length-append (rppLine r) (13 ∷ 10 ∷ [])) in
-      sheeted-as kind s t ls Note103 (r ∷ []) e (ap (map (drop 5)) i) (h .fair .some) (ap not z) (both (plain-said r x) refl) (both (set-text r x) refl) n (λ _. refl)
+      sheeted-as kind s t ls Note103 (r ∷ []) e (ap (map (drop 5)) i) (h .fair .some) (ap not z) (both (plain-said r x) refl) (both (set-text r x) refl) n (λ q. absurd (false≢true q))
 
   -- r is what follows /RPP/, or nothing
   noted-by : shapeOf kind t ≡ Note202 → (r : List ℕ) (ks : List (List ℕ)) (w : Told (notePlace r) s ks) → Says s (whole w)
@@ -309,7 +261,7 @@ module _ (kind : ℕ) (s : Bool) (t : List ℕ) (ls : List (List ℕ)) (h : Held
         code-least s,
       ) in
       sheeted-as kind s t ls Note202 (r ∷ w .vo ∷ y .desk ∷ []) e (i ∙ ap (λ (ps : List (List ℕ)). r ∷ ps) (g .parts)) (h .fair .some) (g .right-parts)
-      (both (plain-said r x) (g .written)) (both (set-text r x) (g .plain)) n (g .fit)
+      (both (plain-said r x) (g .written)) (both (set-text r x) (g .plain)) n (λ q. absurd (true≢false (sym q ∙ free-fits w y (note-free r))))
 
   sheeted-202 : shapeOf kind t ≡ Note202 → Note s ls → Sheeted kind s t ls
   unfolding speeches speech.noted
@@ -329,11 +281,12 @@ module _ (kind : ℕ) (s : Bool) (t : List ℕ) (ls : List (List ℕ)) (h : Held
       by [] z i x k w y = absurd (true≢false z)
       by (c ∷ r) {ks} z i x k w y = noted-by e (c ∷ r) ks w y i x k
 
+  -- by the state where its tag starts
+  begun-sheeted : {sh : Shape} {q : ℕ} → shapeOf kind t ≡ sh → Noted sh → Began s sh q → goesRight formats rows q ls ≡ true → Sheeted kind s t ls
+  begun-sheeted e n details r = sheeted-70 e (told-lines In70 s ls r (h .fair .on))
+  begun-sheeted e n note103 r = let w = rpp-alone ls r in sheeted-103 e (w .0) (w .1) (w .2)
+  begun-sheeted e n note202 r = sheeted-202 e (note-lines s ls r (h .fair .on))
+
 pub sheeted-noted : (kind : ℕ) (s : Bool) (t : List ℕ) (ls : List (List ℕ)) → Noted (shapeOf kind t) → Held kind s t ls → Sheeted kind s t ls
 unfolding rightField
-sheeted-noted kind s t ls n h = go (seat kind t (noted-is n))
-  where
-    go : Seat kind t → Sheeted kind s t ls
-    go (seat-70 e q) = sheeted-70 kind s t ls h e (told-lines In70 s ls (rw (q s) at (h .right)) (h .fair .on))
-    go (seat-103 e q) = let w = rpp-alone ls (rw (q s) at (h .right)) in sheeted-103 kind s t ls h e (w .0) (w .1) (w .2)
-    go (seat-202 e q) = sheeted-202 kind s t ls h e (note-lines s ls (rw (q s) at (h .right)) (h .fair .on))
+sheeted-noted kind s t ls n h = begun-sheeted kind s t ls h refl n (began s kind t) (h .right)

@@ -37,7 +37,7 @@ use Rattle.details.specs.Layouts.{linesFor}
 use Rattle.details.specs.declared.Place.the-variants.{In72, BehindRpp}
 use Rattle.written.specs.Sentences.{Every}
 use Rattle.lines.specs.Spread.{told, rppLine, noteLines, contentLines}
-use Rattle.drafts.specs.Sheet.{crowded}
+use Rattle.writer.specs.Sheet.{crowded}
 use Rattle.written.proofs.ReadyLaws.{Fair, Ready, Laid, laid, ready-fair}
 use Rattle.sheets.specs.Gather.{toldParts, noteParts, contentParts}
 use Rattle.trips.specs.Again.{again, lineAgain, fieldAgain}
@@ -51,7 +51,7 @@ pub data Seen (kind : ℕ) (t : List ℕ) : Shape → Type 0 where
   as-payer : t ≡ bytes "50K" → Seen kind t Payer
   as-payee : (t ≡ bytes "59") ⊎ (t ≡ bytes "58D") → Seen kind t Payee
   as-agent : (kind ≡ 103) ⊎ (kind ≡ 202) → (t ≡ bytes "56D") ⊎ (t ≡ bytes "57D") → Seen kind t Agent
-  as-details : t ≡ bytes "70" → Seen kind t Details
+  as-details : kind ≡ 103 → t ≡ bytes "70" → Seen kind t Details
   as-note103 : kind ≡ 103 → t ≡ bytes "72" → Seen kind t Note103
   as-note202 : kind ≡ 202 → t ≡ bytes "72" → Seen kind t Note202
 
@@ -63,7 +63,7 @@ module _ (kind : ℕ) (t : List ℕ) where
       picked (Seen kind t) (same t (bytes "59")) (λ e. as-payee (inl (same-is t (bytes "59") e))) (λ b.
       picked (Seen kind t) (same t (bytes "56D")) (λ e. as-agent (inl k) (inl (same-is t (bytes "56D") e))) (λ c.
       picked (Seen kind t) (same t (bytes "57D")) (λ e. as-agent (inl k) (inr (same-is t (bytes "57D") e))) (λ d.
-      picked (Seen kind t) (same t (bytes "70")) (λ e. as-details (same-is t (bytes "70") e)) (λ f.
+      picked (Seen kind t) (same t (bytes "70")) (λ e. as-details k (same-is t (bytes "70") e)) (λ f.
       picked (Seen kind t) (same t (bytes "72")) (λ e. as-note103 k (same-is t (bytes "72") e)) (λ g. as-plain))))))
 
   seen-202 : kind ≡ 202 → Seen kind t (shape202 t)
@@ -322,7 +322,7 @@ module _ (kind : ℕ) (s : Bool) (t : List ℕ) (ls : List (List ℕ)) (h : Held
       go Agent e (as-agent k i) =
           same-by t parties (joined (linesAgain kind s t ls)) (joined ls) (by-agent i)
           (ap (λ (x : List (List ℕ)). map kindOf (parties (joined x))) (by-line Agent e agent) ∙ agent-again s ls (right-from (agent-state s k i)))
-      go Details e (as-details i) =
+      go Details e (as-details k i) =
           same-by t (λ c. []) (joined (linesAgain kind s t ls)) (joined ls) (λ c. ap (λ (u : List ℕ). valuesOf u c) i ∙ tag-values c .6) refl
       go Note103 e (as-note103 k i) =
           note-values Note103 e i (note103-values (right-from (ap₂ (λ (n : ℕ) (u : List ℕ). stateOf n s u) k i ∙ tag-states s .4)))

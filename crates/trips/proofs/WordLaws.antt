@@ -1,6 +1,6 @@
 -- What the formats of rule 8 say of a line's front, in the words of the rules on values: a tax line, an RPP line, an account (Ctax, Crpp,
 -- Caccount). Assumes nothing.
-use Prim.Native.Nat.{ℕ, suc, _+_}
+use Prim.Native.Nat.{ℕ, suc}
 use mathlib.Core.Path.{_≡_, refl, sym, ap, ap₂, _∙_}
 use mathlib.Core.Bool.{Bool, true, false, not, _&&_, true≢false, false≢true}
 use mathlib.Core.List.{List, [], _∷_, _++_}

@@ -1,13 +1,17 @@
--- A message read and written again: its fields, and what a line of it becomes (D2e, O2). Assumes nothing.
+-- A message read and written again: its fields, what a line of it becomes, and why 16 may refuse it (D2e, K7, O2). Assumes nothing.
 use Prim.Native.Nat.{ℕ}
-use mathlib.Core.Bool.{Bool}
-use mathlib.Core.List.{List}
+use mathlib.Core.Path.{_≡_}
+use mathlib.Core.Bool.{Bool, true}
+use mathlib.Core.List.{List, _∷_, _++_}
+use Rattle.base.specs.Quoted.{bytes}
 use Rattle.base.specs.Calls.{textOf}
 use Rattle.alphabets.specs.Bank.{reading}
 use Rattle.alphabets.specs.Best.{writing}
 use Rattle.fields.specs.Field.{Field, field}
 use Rattle.roles.specs.Role.{shapeOf, Part, copy, name, taxName}
+use Rattle.roles.specs.declared.Shape.the-variants.{Details}
 use Rattle.lines.specs.Spread.{contentLines}
+use Rattle.written.specs.Sentences.{NoWay}
 use Rattle.sheets.specs.Gather.{contentParts}
 
 -- a text as it is written for what it says
@@ -22,3 +26,13 @@ lineAgain s (taxName l) = again s l
 
 abbrev pub fieldAgain : ℕ → Bool → Field → Field
 fieldAgain kind s (field t ls) = field t (contentLines s (shapeOf kind t) (contentParts s (shapeOf kind t) ls))
+
+-- K7: of a 103 with the sign, s, the details of field 70 as they read can't be divided in any way once they are written again
+pub record Crowded70 (kind : ℕ) (s : Bool) (fs : List Field) : Type 0 where
+  pub type : kind ≡ 103
+  pub sign : s ≡ true
+  pub before : List Field
+  pub lines : List (List ℕ)
+  pub behind : List Field
+  pub list : fs ≡ before ++ field (bytes "70") lines ∷ behind
+  pub no-way : NoWay true Details (contentParts true Details lines)

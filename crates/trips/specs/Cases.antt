@@ -11,8 +11,7 @@ use Rattle.base.specs.declared.Verdict.the-variants.{Fine, Broken}
 use Rattle.frame.specs.Cases.{sample}
 use Rattle.judge.specs.Message.{verdictOf}
 use Rattle.records.specs.Cases.{desk}
-use Rattle.drafts.specs.Sheet.{messageFor, sheetRules}
-use Rattle.writer.specs.Sheet.{writeRules}
+use Rattle.writer.specs.Sheet.{messageFor, sheetRules, writeRules}
 use Rattle.written.specs.Cases.{sheet103}
 use Rattle.sheets.specs.Gather.{sheetOf}
 use Rattle.sheets.specs.Calls.{readRules}

@@ -1,112 +1,269 @@
--- A draft handed over: 17, the message's own refusal, and what the draft says of the sheet. Assumes nothing.
+-- The ways out of the call: 1, 19 and 18, 15 and 16, then 17 and the message's own refusal. Assumes nothing.
 use Prim.Native.Nat.{ℕ, _+_, _≤_, _<_}
-use mathlib.Core.Path.{_≡_, refl, sym, ap, subst, _∙_}
-use mathlib.Core.List.{List, [], _∷_, _++_}
+use mathlib.Core.Path.{_≡_, refl, sym, ap, ap₂, subst, _∙_}
+use mathlib.Core.Bool.{Bool, true, false}
+use mathlib.Core.List.{List, [], _∷_, tail, _++_}
 use native.Mathlib.Omega.{arith}
 use native.Mathlib.Nat.{zero-add}
+use lib.Dec.{eqb, ltb}
 use lib.ListN.{length, take, drop}
-use lib.Seq.{take-append-seam}
+use Rattle.base.specs.Choice.{pick}
+use Rattle.base.specs.Bytes.{same, upTo}
+use Rattle.base.specs.Quoted.{bytes}
 use Rattle.base.specs.Rules.{then, first}
-use Rattle.base.specs.Calls.{short, outcome, over, room, placed, Gives}
+use Rattle.base.specs.Calls.{Answer, said, stuck, long, over, room, placed, short, outcome, Gives}
 use Rattle.base.specs.declared.Verdict.{Verdict}
 use Rattle.base.specs.declared.Verdict.the-variants.{Fine, Broken}
-use Rattle.base.specs.declared.Outcome.{Outcome}
-use Rattle.base.specs.declared.Outcome.the-variants.{Done, Refused}
-use Rattle.base.proofs.RuleLaws.{first-clean}
-use Rattle.base.proofs.Room.{over-sets, placed-fits}
-use Rattle.base.proofs.CallLaws.{gives-refused, gives-done, gives-past, is-long, not-long, is-short, not-short}
+use Rattle.base.proofs.RuleLaws.{fine-broken, then-clean, first-append}
+use Rattle.base.proofs.Room.{over-sets, puts-put}
+use Rattle.base.proofs.CallLaws.{is-long, not-long, gives-refused}
+use Rattle.fields.specs.Field.{field, opening, message}
 use Rattle.fields.specs.Frame.{limit, rule1}
 use Rattle.types.specs.Walk.{rule18}
+use Rattle.roles.specs.Role.{Part, cast, shape103, shape202, shapeOf, lineOf}
+use Rattle.roles.specs.declared.Shape.{Shape}
+use Rattle.roles.specs.declared.Shape.the-variants.{Plain}
+use borrow.Author.Tests.{ltb-true, ltb-false}
+use Rattle.message.specs.Handed.{handRules, Hands}
+use Rattle.message.proofs.HandLaws.{hand-short, hand-refused}
+use Rattle.records.specs.Record.{Record, line, recordOf, records}
+use Rattle.records.specs.Places.{nextOf}
+use Rattle.records.specs.Found.{piecesAt, badLine}
+use Rattle.records.specs.Rule19.{typed, typeOf, sheetSign, sheetType, sheetVerdict, rule19, judged}
+use Rattle.records.specs.Sentences.{Sound}
+use Rattle.records.specs.declared.Judged.{Judged}
+use Rattle.records.proofs.SheetLaws.{line-record}
+use Rattle.records.proofs.RuleLaws.{named, named-size, sound-fine, fine-sheet}
+use Rattle.records.proofs.WalkLaws.{first-within, first-size, none-ended, head-record, judge-typed}
+use Rattle.records.proofs.SoundLaws.{sound-behind}
+use Rattle.lines.specs.Spread.{saidPart, castParts, spread}
+use Rattle.lines.specs.Steps.{stoppedAt, Adds}
+use Rattle.writer.specs.Sheet.{unsaid, rule15, someCrowded, rule16, fieldsOf, messageFor, sheetRules, ownRule, writeRules, MessageTo}
+use Rattle.lines.specs.declared.Step.{Step}
+use Rattle.lines.specs.declared.Step.the-variants.{Stuck, Unfit, Put}
+use Rattle.writer.specs.Steps.{recordStops, recordsAt, longRefusal}
+use Rattle.lines.proofs.StepLaws.{adds-front, movedBy, came-stuck, came-unfit, came-put}
+use Rattle.writer.proofs.NoteLaws.{said-digits}
+use Rattle.writer.proofs.PutLaws.{bodyOf, rule15-cons}
+use lib.Seq.{take-append-seam}
+use Rattle.base.specs.declared.Outcome.{Outcome}
+use Rattle.base.specs.declared.Outcome.the-variants.{Refused}
 use Rattle.judge.specs.Message.{verdictOf}
-use Rattle.records.specs.Rule19.{sheetType}
-use Rattle.drafts.specs.Sheet.{messageFor, sheetRules}
-use Rattle.drafts.specs.declared.Draft.{Draft}
-use Rattle.drafts.specs.Draft.{blank, draftBy, draftOf}
-use Rattle.writer.specs.Sheet.{atStart, ownRule, writeRules, MessageTo}
-use Rattle.writer.specs.Steps.{builtRules, Delivers}
 
 -- ---- 17, and the message's own refusal
 pub long-verdict : (kind : ℕ) (t : List ℕ) → rule18 kind ≡ Fine → limit < length t → verdictOf kind t ≡ Broken 1 limit
 unfolding verdictOf rule1
 long-verdict kind t e h = rw (e, is-long limit t h)
 
-module _ (kind : ℕ) (m out : List ℕ) (n : ℕ) where
-  pub deliver-short : length out < n → Delivers kind m n out (Refused 17 n) out
-  deliver-short h = record {
-    gives = λ t e f.
-        gives-refused (builtRules kind t out) t out 17 n (ap (λ (v : Verdict). then v (then (atStart (verdictOf kind t)) Fine)) (is-short t out (omega arith)) ∙ ap (Broken 17) (sym e));
-  }
-
-  own : (t : List ℕ) → length t ≤ length out → (k p : ℕ) → verdictOf kind t ≡ Broken k p → Gives (builtRules kind t out) t out (Refused k 0) out
-  own t h k p e = gives-past (not-short t out h) (gives-refused (atStart (verdictOf kind t) ∷ []) t out k 0 (ap (λ (v : Verdict). then (atStart v) Fine) e))
-
-  pub deliver-long : rule18 kind ≡ Fine → n ≤ length out → limit < n → Delivers kind m n out (Refused 1 0) out
-  deliver-long k h l = record { gives = λ t e f. own t (omega arith) 1 limit (long-verdict kind t k (omega arith)) }
-
-  module _ (h : n ≤ length out) (l : n ≤ limit) where
-    pub deliver-refused : (k p : ℕ) → verdictOf kind (take n m) ≡ Broken k p → Delivers kind m n out (Refused k 0) out
-    deliver-refused k p q = record { gives = λ t e f. own t (omega arith) k p (ap (verdictOf kind) (sym (f l)) ∙ q) }
-
-    pub deliver-done : verdictOf kind (take n m) ≡ Fine → (after : List ℕ) → after ≡ placed out 0 (take n m) → Delivers kind m n out (Done n) after
-    deliver-done q after p = record {
-      gives = λ t e f.
-          let z : 0 + length t ≡ length t = zero-add (length t) in
-          let w : after ≡ over t out = p ∙ ap (placed out 0) (f l) ∙ placed-fits out 0 t (omega arith) ∙ sym (over-sets t out (omega arith)) in
-          subst (λ (o : List ℕ). Gives (builtRules kind t out) t out (Done n) o) (sym w)
-          (subst (λ (k : ℕ). Gives (builtRules kind t out) t out (Done k) (over t out)) (sym e)
-          (gives-past (not-short t out (omega arith)) (gives-done (atStart (verdictOf kind t) ∷ []) t out (ap (λ (v : Verdict). then (atStart v) Fine) (ap (verdictOf kind) (sym (f l)) ∙ q)))));
-    }
-
--- ---- rules behind rules
-pub first-append : (us vs : List Verdict) → first (us ++ vs) ≡ then (first us) (first vs)
-first-append [] vs = refl
-first-append (Fine ∷ us) vs = first-append us vs
-first-append (Broken n p ∷ us) vs = refl
-
 gives-on : (us vs : List Verdict) {t out after : List ℕ} {r : Outcome} → first us ≡ Fine → Gives vs t out r after → Gives (us ++ vs) t out r after
 gives-on us vs {t} {out} e g =
     let z : first vs ≡ first (us ++ vs) = ap (λ (v : Verdict). then v (first vs)) (sym e) ∙ sym (first-append us vs) in
     record { answers = g .answers ∙ ap (λ (v : Verdict). outcome v (length t)) z; leaves = g .leaves ∙ ap (λ (v : Verdict). room v t out) z }
 
--- ---- what a draft says of its sheet
-module _ (s : List ℕ) {d : Draft} (e : d ≡ draftOf s) where
-  verdict-is : d .verdict ≡ first (sheetRules s)
-  unfolding draftOf
-  verdict-is = ap (λ (x : Draft). x .verdict) e ∙ go (first (sheetRules s))
-    where
-      go : (v : Verdict) → draftBy v (sheetType s) (messageFor s) .verdict ≡ v
-      go Fine = refl
-      go (Broken n p) = refl
+pub refused-first : (s out : List ℕ) {n p : ℕ} → first (sheetRules s) ≡ Broken n p → MessageTo s out (Refused n p) out
+unfolding MessageTo
+refused-first s out {n} {p} q =
+    let rest = short (messageFor s) out ∷ ownRule s ∷ [] in
+    gives-refused (writeRules s out) (messageFor s) out n p (first-append (sheetRules s) rest ∙ ap (λ (v : Verdict). then v (first rest)) q)
 
-  pub draft-refused : (out : List ℕ) {n p : ℕ} → d .verdict ≡ Broken n p → MessageTo s out (Refused n p) out
-  unfolding MessageTo
-  draft-refused out {n} {p} q =
-      gives-refused (writeRules s out) (messageFor s) out n p (first-append (sheetRules s) (short (messageFor s) out ∷ ownRule s ∷ []) ∙ ap (λ (v : Verdict). then v (first (short (messageFor s) out ∷ ownRule s ∷ []))) (sym verdict-is ∙ q))
+-- ---- the message whole
+pub message-put : (kind : ℕ) (g : Bool) (rs : List Record) {v : Verdict} {b : Bool} {out mid after : List ℕ} {r : Step} → mid ≡ placed out 0 opening → Adds v b (bodyOf kind g rs) mid 5 r after
+    → Adds v b (message (spread kind g rs)) out 0 r after
+unfolding message
+message-put kind g rs e a = adds-front opening (bodyOf kind g rs) (puts-put {u = opening} refl e) a
 
-  module _ (q : d .verdict ≡ Fine) where
-    clean : first (sheetRules s) ≡ Fine
-    clean = sym verdict-is ∙ q
+-- ---- 15 gives its own number alone
+then-number : (n : ℕ) (v w : Verdict) → ((j p : ℕ) → v ≡ Broken j p → j ≡ n) → ((j p : ℕ) → w ≡ Broken j p → j ≡ n) → (j p : ℕ) → then v w ≡ Broken j p → j ≡ n
+then-number n Fine w f g j p e = g j p e
+then-number n (Broken k q) w f g j p e = f j p e
 
-    whole : d ≡ draftBy Fine (sheetType s) (messageFor s)
-    unfolding draftOf
-    whole = e ∙ ap (λ (v : Verdict). draftBy v (sheetType s) (messageFor s)) clean
+stopped-number : (o : ℕ) (a : Answer) (j p : ℕ) → stoppedAt o a ≡ Broken j p → j ≡ 15
+stopped-number o (said t) j p e = absurd (fine-broken j p e)
+stopped-number o (stuck k) j p e = cc
 
-    kind-is : d .kind ≡ sheetType s
-    kind-is = ap (λ (x : Draft). x .kind) whole
+unsaid-number : (s : Bool) (o : ℕ) (cs : List Part) (j p : ℕ) → unsaid s o cs ≡ Broken j p → j ≡ 15
+unfolding unsaid
+unsaid-number s o [] j p e = absurd (fine-broken j p e)
+unsaid-number s o (c ∷ cs) j p e =
+    then-number 15 (stoppedAt o (saidPart s c)) (unsaid s (o + length (lineOf c) + 1) cs) (stopped-number o (saidPart s c)) (unsaid-number s (o + length (lineOf c) + 1) cs) j p e
 
-    size-is : d .size ≡ length (messageFor s)
-    size-is = ap (λ (x : Draft). x .size) whole
+rule15-number : (kind : ℕ) (s : Bool) (o : ℕ) (rs : List Record) (j p : ℕ) → rule15 kind s o rs ≡ Broken j p → j ≡ 15
+unfolding rule15
+rule15-number kind s o [] j p e = absurd (fine-broken j p e)
+rule15-number kind s o (field t ps ∷ rs) j p e =
+    then-number 15 (unsaid s (o + length t + 1) (castParts (shapeOf kind t) ps)) (rule15 kind s (nextOf o (field t ps)) rs) (unsaid-number s (o + length t + 1) (castParts (shapeOf kind t) ps)) (rule15-number kind s (nextOf o (field t ps)) rs) j p e
 
-    there : d .size ≤ limit → take (d .size) (d .bytes) ≡ messageFor s
-    there h =
-        let z : d .bytes ≡ over (messageFor s) blank = ap (λ (x : Draft). x .bytes) whole ∙ ap (λ (v : Verdict). room v (messageFor s) blank) (not-long limit (messageFor s) (omega (arith, size-is))) in
-        ap (λ (n : ℕ). take n (d .bytes)) size-is ∙ ap (take (length (messageFor s))) z ∙ take-append-seam (messageFor s) (drop (length (messageFor s)) blank)
+-- ---- the first record can be written
+plain-mt : (kind : ℕ) → shapeOf kind (bytes "MT") ≡ Plain
+unfolding shapeOf shape103 shape202 same
+plain-mt kind = go (eqb kind 103) (eqb kind 202)
+  where
+    go : (a b : Bool) → pick a Plain (pick b Plain Plain) ≡ Plain
+    go true b = refl
+    go false true = refl
+    go false false = refl
 
-    pub draft-type : rule18 (d .kind) ≡ Fine
-    draft-type = ap rule18 kind-is ∙ first-clean (sheetRules s) clean .1 .1 .0
+first-fine : (kind : ℕ) (s : Bool) (r : Record) → typed r ≡ true → recordStops kind s r ≡ Fine
+unfolding unsaid cast
+first-fine kind s r e =
+    let n = named r e in
+    ap (recordStops kind s) (n .is)
+    ∙ ap (λ (sh : Shape). unsaid s 3 (castParts sh (n .type ∷ []))) (plain-mt kind)
+    ∙ ap (λ (a : Answer). then (stoppedAt 3 a) Fine) (said-digits 3 (n .type) (n .three))
 
-    pub draft-delivered : {out after : List ℕ} {r : Outcome} → Delivers (d .kind) (d .bytes) (d .size) out r after → MessageTo s out r after
-    unfolding MessageTo
-    draft-delivered {out} {after} {r} g =
-        gives-on (sheetRules s) (short (messageFor s) out ∷ ownRule s ∷ []) clean
-        (subst (λ (k : ℕ). Gives (builtRules k (messageFor s) out) (messageFor s) out r after) kind-is (g .gives (messageFor s) size-is there))
+-- ---- what is left of the rules
+three-fine : (a b c w : Verdict) → a ≡ Fine → b ≡ Fine → c ≡ Fine → then a (then b (then c w)) ≡ w
+three-fine a b c w p q r = rw (p, q, r)
+
+-- ---- a sheet that 19 and 18 let pass
+module _ (s : List ℕ) (v : sheetVerdict s ≡ Fine) where
+  h : Sound s
+  h = fine-sheet s v .0
+
+  pub type-fine : rule18 (sheetType s) ≡ Fine
+  type-fine = fine-sheet s v .1
+
+  abbrev ours : List Record
+  ours = recordsAt s 7
+
+  tail-is : tail (records s) ≡ ours
+  tail-is = ap tail (h .list) ∙ sound-behind s h
+
+  rule15-is : rule15 (sheetType s) (sheetSign s) 0 (records s) ≡ rule15 (sheetType s) (sheetSign s) 7 ours
+  rule15-is =
+      let z : nextOf 0 (h .head) ≡ 7 = omega (arith, named-size (h .head) (h .names)) in
+      ap (rule15 (sheetType s) (sheetSign s) 0) (h .list ∙ ap (λ (rs : List Record). h .head ∷ rs) (sound-behind s h))
+      ∙ sym (rule15-cons (sheetType s) (sheetSign s) 0 (h .head) ours)
+      ∙ ap₂ (λ (u : Verdict) (k : ℕ). then (movedBy 0 u) (rule15 (sheetType s) (sheetSign s) k ours)) (first-fine (sheetType s) (sheetSign s) (h .head) (h .names)) z
+
+  message-is : message (spread (sheetType s) (sheetSign s) ours) ≡ messageFor s
+  unfolding messageFor fieldsOf
+  message-is = ap (λ (rs : List Record). message (spread (sheetType s) (sheetSign s) rs)) (sym tail-is)
+
+  -- where its first line ends
+  abbrev end : ℕ
+  end = 0 + upTo 10 (drop 0 s)
+
+  goes-on : end ≡ length s → ⊥
+  goes-on z = let n : _≡_ {A = ℕ} 0 (length (h .head ∷ h .behind)) = ap length (sym (none-ended s end refl {g = sheetSign s} refl z) ∙ h .list) in absurd (omega arith)
+
+  abbrev headOr : List Record → Record
+  headOr [] = field [] []
+  headOr (r ∷ rs) = r
+
+  head-is : recordOf (take end s) ≡ h .head
+  head-is = ap headOr (sym (head-record s end refl {g = sheetSign s} refl goes-on) ∙ h .list)
+
+  end-six : end ≡ 6
+  end-six = first-size s end refl {g = sheetSign s} refl ∙ ap length (sym (line-record (take end s))) ∙ ap (λ (r : Record). length (line r)) head-is ∙ named-size (h .head) (h .names)
+
+  pub seven-within : 7 ≤ length s
+  seven-within = let k = goes-on in let w = first-within s end refl {g = sheetSign s} refl in let z = end-six in omega (arith, k)
+
+  pub lines-good : badLine (sheetType s) (sheetSign s) 7 (piecesAt 10 s 7) ≡ Fine
+  unfolding judged sheetType
+  lines-good =
+      let j = judge-typed s end refl {g = sheetSign s} refl goes-on {kind = sheetType s} (ap typed head-is ∙ h .names) (ap typeOf (head-record s end refl {g = sheetSign s} refl goes-on)) refl in
+      let b : badLine (sheetType s) (sheetSign s) (end + 1) (piecesAt 10 s (end + 1)) ≡ Fine
+      = then-clean (badLine (sheetType s) (sheetSign s) (end + 1) (piecesAt 10 s (end + 1))) (rule18 (sheetType s)) (ap (λ (x : Judged). x .verdict) j ∙ v) .0 in
+      subst (λ (k : ℕ). badLine (sheetType s) (sheetSign s) (k + 1) (piecesAt 10 s (k + 1)) ≡ Fine) end-six b
+
+  -- the type and the sign as they were told
+  module _ {kind : ℕ} {g : Bool} (k : kind ≡ sheetType s) (i : g ≡ sheetSign s) where
+    pub told-good : badLine kind g 7 (piecesAt 10 s 7) ≡ Fine
+    told-good = ap₂ (λ (n : ℕ) (b : Bool). badLine n b 7 (piecesAt 10 s 7)) k i ∙ lines-good
+
+    pub told-built : {m mid : List ℕ} {r : Step} → Adds (rule15 kind g 7 ours) (someCrowded kind g ours) (message (spread kind g ours)) m 0 r mid
+        → Adds (rule15 (sheetType s) (sheetSign s) 7 ours) (someCrowded (sheetType s) (sheetSign s) ours) (message (spread (sheetType s) (sheetSign s) ours)) m 0 r mid
+    told-built {m} {mid} {r} a =
+        subst (λ (n : ℕ). Adds (rule15 n (sheetSign s) 7 ours) (someCrowded n (sheetSign s) ours) (message (spread n (sheetSign s) ours)) m 0 r mid) k
+        (subst (λ (b : Bool). Adds (rule15 kind b 7 ours) (someCrowded kind b ours) (message (spread kind b ours)) m 0 r mid) i a)
+
+  module _ (w : length s ≤ limit) where
+    abbrev Left : Verdict
+    Left = then (rule15 (sheetType s) (sheetSign s) 0 (records s)) (then (rule16 (sheetType s) (sheetSign s) (tail (records s))) Fine)
+
+    past : first (sheetRules s) ≡ Left
+    past = three-fine (long limit s) (rule19 s) (rule18 (sheetType s)) Left (not-long limit s w) (sound-fine s h) type-fine
+
+    abbrev Built : List ℕ → Step → List ℕ → Type 0
+    Built m r after = Adds (rule15 (sheetType s) (sheetSign s) 7 ours) (someCrowded (sheetType s) (sheetSign s) ours) (message (spread (sheetType s) (sheetSign s) ours)) m 0 r after
+
+    abbrev size : ℕ
+    size = 0 + length (message (spread (sheetType s) (sheetSign s) ours))
+
+    pub sound-stuck : (out : List ℕ) {m mid : List ℕ} {r : Step} {k : ℕ} → r ≡ Stuck k → Built m r mid → MessageTo s out (Refused 15 k) out
+    sound-stuck out {k = k} e a =
+        let z = came-stuck (rule15 (sheetType s) (sheetSign s) 7 ours) (someCrowded (sheetType s) (sheetSign s) ours) size k (sym e ∙ a .answers) in
+        let n : z .0 ≡ 15 = rule15-number (sheetType s) (sheetSign s) 7 ours (z .0) k (z .1) in
+        refused-first s out (past ∙ ap (λ (u : Verdict). then u (then (rule16 (sheetType s) (sheetSign s) (tail (records s))) Fine)) (rule15-is ∙ z .1 ∙ ap (λ (j : ℕ). Broken j k) n))
+
+    left-is : {v : Verdict} {b : Bool} → rule15 (sheetType s) (sheetSign s) 7 ours ≡ v → someCrowded (sheetType s) (sheetSign s) ours ≡ b → Left ≡ then v (then (pick b (Broken 16 0) Fine) Fine)
+    unfolding rule16
+    left-is p q = ap₂ (λ (u v : Verdict). then u (then v Fine)) (rule15-is ∙ p) (ap (λ (rs : List Record). rule16 (sheetType s) (sheetSign s) rs) tail-is ∙ ap (λ (b : Bool). pick b (Broken 16 0) Fine) q)
+
+    pub sound-unfit : (out : List ℕ) {m mid : List ℕ} {r : Step} → r ≡ Unfit → Built m r mid → MessageTo s out (Refused 16 0) out
+    sound-unfit out e a =
+        let z = came-unfit (rule15 (sheetType s) (sheetSign s) 7 ours) (someCrowded (sheetType s) (sheetSign s) ours) size (sym e ∙ a .answers) in
+        refused-first s out (past ∙ left-is (z .0) (z .1))
+
+    module _ {m mid : List ℕ} {r : Step} {n : ℕ} (e : r ≡ Put n) (a : Built m r mid) where
+      known : (rule15 (sheetType s) (sheetSign s) 7 ours ≡ Fine) × (someCrowded (sheetType s) (sheetSign s) ours ≡ false) × (n ≡ size)
+      known = came-put (rule15 (sheetType s) (sheetSign s) 7 ours) (someCrowded (sheetType s) (sheetSign s) ours) size n (sym e ∙ a .answers)
+
+      abbrev text : List ℕ
+      text = message (spread (sheetType s) (sheetSign s) ours)
+
+      sized : n ≡ length text
+      sized = known .2 ∙ zero-add (length text)
+
+      left : {out after : List ℕ} {q : Outcome} → Gives (handRules (sheetType s) (messageFor s) out) (messageFor s) out q after → MessageTo s out q after
+      unfolding MessageTo
+      left {out} g = gives-on (sheetRules s) (handRules (sheetType s) (messageFor s) out) (past ∙ left-is (known .0) (known .1)) g
+
+      pub sound-put : {kind : ℕ} {out after : List ℕ} {q : Outcome} → kind ≡ sheetType s → length m ≡ limit → n ≤ limit → Hands kind (take n mid) out q after → MessageTo s out q after
+      sound-put {kind} {out} {after} {q} k l o g =
+          let p : mid ≡ over text m = a .fills (known .0) (known .1) (omega (arith, sized)) ∙ sym (over-sets text m (omega (arith, sized))) in
+          let t : take n mid ≡ messageFor s = ap₂ (λ (i : ℕ) (x : List ℕ). take i x) sized p ∙ take-append-seam text (drop (length text) m) ∙ message-is in
+          left (subst (λ (j : ℕ). Hands j (messageFor s) out q after) k (subst (λ (x : List ℕ). Hands kind x out q after) t g))
+
+      pub sound-over : (out : List ℕ) {q : Outcome} → limit < n → q ≡ longRefusal n (length out) → MessageTo s out q out
+      unfolding longRefusal
+      sound-over out o e = subst (λ (q : Outcome). MessageTo s out q out) (sym e) (go (ltb (length out) n) refl)
+        where
+          whole : n ≡ length (messageFor s)
+          whole = sized ∙ ap length message-is
+
+          go : (b : Bool) → ltb (length out) n ≡ b → MessageTo s out (pick b (Refused 17 n) (Refused 1 0)) out
+          go true q =
+              subst (λ (k : ℕ). MessageTo s out (Refused 17 k) out) (sym whole)
+              (left (hand-short (sheetType s) (messageFor s) out (omega (arith, whole, ltb-true (length out) n q))))
+          go false q =
+              left (hand-refused (sheetType s) (messageFor s) out (omega (arith, whole, ltb-false (length out) n q)) (long-verdict (sheetType s) (messageFor s) type-fine (omega (arith, whole))))
+
+-- ---- a sheet that is refused
+pub too-long-sheet : (s out : List ℕ) → limit < length s → MessageTo s out (Refused 1 limit) out
+too-long-sheet s out h = refused-first s out (ap (λ (v : Verdict). then v (first (rule19 s ∷ rule18 (sheetType s) ∷ rule15 (sheetType s) (sheetSign s) 0 (records s) ∷ rule16 (sheetType s) (sheetSign s) (tail (records s)) ∷ []))) (is-long limit s h))
+
+then-two : (a b c : Verdict) {n p : ℕ} → then a (then b Fine) ≡ Broken n p → then a (then b c) ≡ Broken n p
+then-two Fine Fine c {n} {p} e = absurd (fine-broken n p e)
+then-two Fine (Broken k q) c e = e
+then-two (Broken k q) b c e = e
+
+pub bad-sheet : (s out : List ℕ) {n p : ℕ} → length s ≤ limit → sheetVerdict s ≡ Broken n p → MessageTo s out (Refused n p) out
+unfolding sheetVerdict
+bad-sheet s out w e = refused-first s out (ap (λ (v : Verdict). then v (first (rule19 s ∷ rule18 (sheetType s) ∷ rule15 (sheetType s) (sheetSign s) 0 (records s) ∷ rule16 (sheetType s) (sheetSign s) (tail (records s)) ∷ []))) (not-long limit s w) ∙ then-two (rule19 s) (rule18 (sheetType s)) _ e)
+
+-- ---- what a judged sheet says
+module _ (s : List ℕ) {j : Judged} (e : j ≡ judged s) where
+  pub verdict-is : {v : Verdict} → j .verdict ≡ v → sheetVerdict s ≡ v
+  unfolding judged
+  verdict-is q = sym (ap (λ (x : Judged). x .verdict) e) ∙ q
+
+  pub kind-is : j .kind ≡ sheetType s
+  unfolding judged
+  kind-is = ap (λ (x : Judged). x .kind) e
+
+  pub sign-is : j .sign ≡ sheetSign s
+  unfolding judged
+  sign-is = ap (λ (x : Judged). x .sign) e

@@ -1,1 +1,4 @@
+pub mod PartLaws
+pub mod NoteLaws
+pub mod PutLaws
 pub mod CallLaws

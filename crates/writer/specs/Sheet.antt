@@ -1,30 +1,81 @@
--- A sheet written as a message: 17 and the message's own refusal (N17, O2, D2d, D3e). Assumes nothing.
-use Prim.Native.Nat.{ℕ}
-use mathlib.Core.List.{List, [], _∷_, tail}
+-- What a sheet is written as: 15, 16, the message, then 17 and the message's own refusal (N15-N17, O2, D2d, D3e). Assumes nothing.
+use Prim.Native.Nat.{ℕ, _+_}
+use mathlib.Core.Bool.{Bool, false, _||_}
+use mathlib.Core.List.{List, [], _∷_, _++_, tail}
+use lib.ListN.{length}
+use Rattle.base.specs.Choice.{pick}
+use Rattle.base.specs.Rules.{then}
 use Rattle.base.specs.Calls.{long, short, Gives}
 use Rattle.base.specs.declared.Verdict.{Verdict}
 use Rattle.base.specs.declared.Verdict.the-variants.{Fine, Broken}
 use Rattle.base.specs.declared.Outcome.{Outcome}
+use Rattle.fields.specs.Field.{Field, field, message}
 use Rattle.fields.specs.Frame.{limit}
 use Rattle.types.specs.Walk.{rule18}
+use Rattle.roles.specs.Role.{shapeOf, Part, lineOf}
+use Rattle.roles.specs.Speech.{codeSize}
+use Rattle.roles.specs.declared.Shape.{Shape}
+use Rattle.roles.specs.declared.Shape.the-variants.{Plain, Payer, Payee, Agent, Details, Note103, Note202}
 use Rattle.judge.specs.Message.{verdictOf}
-use Rattle.records.specs.Record.{records}
+use Rattle.message.specs.Handed.{atStart}
+use Rattle.records.specs.Record.{Record, records}
+use Rattle.records.specs.Places.{nextOf}
 use Rattle.records.specs.Rule19.{sheetType, sheetSign, rule19}
-use Rattle.drafts.specs.Sheet.{rule15, rule16, messageFor}
+use Rattle.details.specs.declared.Place.the-variants.{In70}
+use Rattle.details.specs.Layouts.{sizeFor}
+use Rattle.lines.specs.Steps.{stoppedAt, isUnfit}
+use Rattle.lines.specs.Spread.{saidPart, castParts, told, notePlace, spread}
 
--- the message's own refusal, with place 0
-abbrev pub atStart : Verdict → Verdict
-atStart Fine = Fine
-atStart (Broken n p) = Broken n 0
+-- ---- 15: the first byte of the sheet that can't be written
+-- parts one behind another, the first at o
+unfoldable pub unsaid : Bool → ℕ → List Part → Verdict
+unsaid s o [] = Fine
+unsaid s o (p ∷ ps) = then (stoppedAt o (saidPart s p)) (unsaid s (o + length (lineOf p) + 1) ps)
+
+-- records one behind another, the first at o
+unfoldable pub rule15 : ℕ → Bool → ℕ → List Record → Verdict
+rule15 kind s o [] = Fine
+rule15 kind s o (field t ps ∷ rs) = then (unsaid s (o + length t + 1) (castParts (shapeOf kind t) ps)) (rule15 kind s (nextOf o (field t ps)) rs)
+
+-- ---- 16: details that don't go into the lines of their field
+abbrev pub crowdedNote : Bool → List (List ℕ) → Bool
+crowdedNote s [] = false
+crowdedNote s (r ∷ ps) = isUnfit (sizeFor (notePlace r) (codeSize s) (told s ps))
+
+unfoldable pub crowded : Bool → Shape → List (List ℕ) → Bool
+crowded s Details ps = isUnfit (sizeFor In70 (codeSize s) (told s ps))
+crowded s Note202 ps = crowdedNote s ps
+crowded s Note103 ps = false
+crowded s Plain ps = false
+crowded s Payer ps = false
+crowded s Payee ps = false
+crowded s Agent ps = false
+
+abbrev pub someCrowded : ℕ → Bool → List Record → Bool
+someCrowded kind s [] = false
+someCrowded kind s (field t ps ∷ rs) = crowded s (shapeOf kind t) ps || someCrowded kind s rs
+
+unfoldable pub rule16 : ℕ → Bool → List Record → Verdict
+rule16 kind s rs = pick (someCrowded kind s rs) (Broken 16 0) Fine
+
+-- ---- the message: the fields of the records behind the first
+unfoldable pub fieldsOf : List ℕ → List Field
+fieldsOf s = spread (sheetType s) (sheetSign s) (tail (records s))
+
+unfoldable pub messageFor : List ℕ → List ℕ
+messageFor s = message (fieldsOf s)
+
+-- ---- what is known of a sheet before the room is looked at
+abbrev pub sheetRules : List ℕ → List Verdict
+sheetRules s =
+    long limit s ∷ rule19 s ∷ rule18 (sheetType s) ∷ rule15 (sheetType s) (sheetSign s) 0 (records s) ∷ rule16 (sheetType s) (sheetSign s) (tail (records s)) ∷ []
 
 -- ---- the call: what is known before the room is looked at, then 17, then the message's own refusal
 abbrev pub ownRule : List ℕ → Verdict
 ownRule s = atStart (verdictOf (sheetType s) (messageFor s))
 
 abbrev pub writeRules : List ℕ → List ℕ → List Verdict
-writeRules s out =
-    long limit s ∷ rule19 s ∷ rule18 (sheetType s) ∷ rule15 (sheetType s) (sheetSign s) 0 (records s) ∷ rule16 (sheetType s) (sheetSign s) (tail (records s))
-    ∷ short (messageFor s) out ∷ ownRule s ∷ []
+writeRules s out = sheetRules s ++ short (messageFor s) out ∷ ownRule s ∷ []
 
 unfoldable pub MessageTo : List ℕ → List ℕ → Outcome → List ℕ → Type 0
 MessageTo s out r after = Gives (writeRules s out) (messageFor s) out r after

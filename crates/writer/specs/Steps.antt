@@ -1,18 +1,31 @@
--- What is left of the call for a draft (N17). Assumes nothing.
-use Prim.Native.Nat.{ℕ, _≤_}
-use mathlib.Core.Path.{_≡_}
-use mathlib.Core.List.{List, [], _∷_}
-use lib.ListN.{length, take}
-use Rattle.base.specs.Calls.{short, Gives}
+-- What the functions say that put a sheet's message into room (S6, S7, N15-N17). Assumes nothing.
+use Prim.Native.Nat.{ℕ, _+_}
+use mathlib.Core.Bool.{Bool}
+use mathlib.Core.List.{List, map}
+use lib.Dec.{ltb}
+use lib.ListN.{length}
+use Rattle.base.specs.Choice.{pick}
 use Rattle.base.specs.declared.Verdict.{Verdict}
 use Rattle.base.specs.declared.Outcome.{Outcome}
-use Rattle.fields.specs.Frame.{limit}
-use Rattle.judge.specs.Message.{verdictOf}
-use Rattle.writer.specs.Sheet.{atStart}
+use Rattle.base.specs.declared.Outcome.the-variants.{Refused}
+use Rattle.fields.specs.Field.{field}
+use Rattle.roles.specs.Role.{shapeOf}
+use Rattle.records.specs.Record.{Record, recordOf, front}
+use Rattle.records.specs.Found.{piecesAt}
+use Rattle.lines.specs.Spread.{castParts}
+use Rattle.writer.specs.Sheet.{unsaid, crowded}
 
-abbrev pub builtRules : ℕ → List ℕ → List ℕ → List Verdict
-builtRules kind t out = short t out ∷ atStart (verdictOf kind t) ∷ []
+-- ---- records
+abbrev pub recordStops : ℕ → Bool → Record → Verdict
+recordStops kind s (field t ps) = unsaid s (length t + 1) (castParts (shapeOf kind t) ps)
 
--- the first n bytes of m, where they are all there, handed over as the message t
-pub record Delivers (kind : ℕ) (m : List ℕ) (n : ℕ) (out : List ℕ) (r : Outcome) (after : List ℕ) : Type 0 where
-  pub gives : (t : List ℕ) → n ≡ length t → (n ≤ limit → take n m ≡ t) → Gives (builtRules kind t out) t out r after
+abbrev pub recordCrowded : ℕ → Bool → Record → Bool
+recordCrowded kind s (field t ps) = crowded s (shapeOf kind t) ps
+
+-- the records from a place on
+abbrev pub recordsAt : List ℕ → ℕ → List Record
+recordsAt s i = map recordOf (front (piecesAt 10 s i))
+
+-- a message over the limit: 17, then 1
+unfoldable pub longRefusal : ℕ → ℕ → Outcome
+longRefusal size room = pick (ltb room size) (Refused 17 size) (Refused 1 0)

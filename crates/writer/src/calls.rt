@@ -1,60 +1,64 @@
-// The call: a sheet's draft judged, and put into the lent room.
+// The call: a sheet judged, its message built in room of its own, and that handed over.
 ghost use mathlib.Core.Path.{_≡_};
-ghost use lib.ListN.{length};
-ghost use Rattle.base.specs.declared.Verdict.the-variants.{Fine};
-ghost use Rattle.types.specs.Walk.{rule18};
-ghost use Rattle.judge.specs.Message.{verdictOf};
 ghost use Rattle.writer.specs.Sheet.{MessageTo};
-ghost use Rattle.writer.specs.Steps.{Delivers};
+ghost use Rattle.writer.specs.Steps.{longRefusal};
+use super::built::put_message;
 use base::Outcome;
 use base::Verdict;
-use base::bytes::put;
-use drafts::ROOM;
-use drafts::calls::draft;
-use judge::calls::judge;
+use lines::Step;
+use message::handed::hand_over;
+use records::sheets::judge_sheet;
 
-fn verdict_of(kind: u32, m: &[u8]) -> Verdict
-    ensures { λ r. ⌜ r ≡ verdictOf kind (now (m .entry)) ⌝ }
-{
-    let f = judge(kind, m);
-    f.verdict
-}
+// As many bytes as a sheet or a message may have.
+const ROOM: usize = 10000;
 
-// A message of n bytes: 17, then its own refusal with place 0. One over 10,000 bytes is refused by 1, and is not there.
-fn deliver(kind: u32, m: &[u8], n: usize, out: &mut [u8]) -> Outcome
-    requires { ⌜ (length (now m) ≡ 10000) × (rule18 kind ≡ Fine) ⌝ }
-    ensures { λ r. ⌜ Delivers kind (now (m .entry)) n (now (out .entry)) r (now (out .exit)) ⌝ }
+// A message over the limit: 17, then 1.
+fn refuse_long(size: usize, room: usize) -> Outcome
+    ensures { λ r. ⌜ r ≡ longRefusal size room ⌝ }
 {
-    if out.len() < n {
+    if room < size {
         return Outcome::Refused {
             number: 17,
-            place: n,
+            place: size,
         };
     }
-    if ROOM < n {
-        return Outcome::Refused {
-            number: 1,
-            place: 0,
-        };
+    Outcome::Refused {
+        number: 1,
+        place: 0,
     }
-    let verdict = verdict_of(kind, &m[..n]);
-    if let Verdict::Broken { number, place } = verdict {
-        return Outcome::Refused { number, place: 0 };
-    }
-    put(out, 0, &m[..n]);
-    Outcome::Done(n)
 }
 
-// The message for a sheet.
+// The message for a sheet. It is built in room of its own, so that what stops half way has written nothing.
 pub fn to_message(sheet: &[u8], out: &mut [u8]) -> Outcome
     ensures { λ r. ⌜ MessageTo (now (sheet .entry)) (now (out .entry)) r (now (out .exit)) ⌝ }
 {
-    let d = draft(sheet);
-    let verdict = d.verdict;
-    let kind = d.kind;
-    let size = d.size;
+    if sheet.len() > ROOM {
+        return Outcome::Refused {
+            number: 1,
+            place: ROOM,
+        };
+    }
+    let j = judge_sheet(sheet);
+    let verdict = j.verdict;
+    let kind = j.kind;
     if let Verdict::Broken { number, place } = verdict {
         return Outcome::Refused { number, place };
     }
-    deliver(kind, &d.bytes, size, out)
+    let mut m = [0u8; ROOM];
+    match put_message(sheet, kind, j.sign, &mut m) {
+        Step::Stuck(k) => Outcome::Refused {
+            number: 15,
+            place: k,
+        },
+        Step::Unfit => Outcome::Refused {
+            number: 16,
+            place: 0,
+        },
+        Step::Put(n) => {
+            if ROOM < n {
+                return refuse_long(n, out.len());
+            }
+            hand_over(kind, &m[..n], out)
+        }
+    }
 }

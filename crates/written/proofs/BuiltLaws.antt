@@ -28,7 +28,7 @@ use Rattle.records.specs.Sentences.{Sound}
 use Rattle.records.proofs.RuleLaws.{fine-sound, sound-right}
 use Rattle.records.proofs.SoundLaws.{sound-each, sound-sign}
 use Rattle.lines.specs.Spread.{lineFor, contentLines, fieldFor, spread}
-use Rattle.drafts.specs.Sheet.{crowded, fieldsOf, messageFor, sheetRules}
+use Rattle.writer.specs.Sheet.{crowded, fieldsOf, messageFor, sheetRules}
 use Rattle.written.proofs.ReadyLaws.{speaking, roomy, rule15-fine, rule16-fine, Ready, fair-proper, ready-fair}
 
 -- ---- a tag's bytes are of the set
@@ -142,7 +142,7 @@ module _ (s : List ℕ) (c : Clean (sheetRules s)) where
   pub records-pass : AllPass (sheetType s) (sheetSign s) (tail (records s))
   records-pass =
       all-pass (sheetType s) (sheetSign s) (tail (records s)) (ap (all (good (sheetType s) (sheetSign s))) behind-is ∙ sound-each s is-sound) spoken-all
-      (rule16-fine (sheetType s) (sheetSign s) (tail (records s)) .0 (c .1 .1 .1 .1 .0))
+      (rule16-fine (sheetType s) (sheetSign s) (tail (records s)) (c .1 .1 .1 .1 .0))
 
   pub fields-proper : all proper (fieldsOf s) ≡ true
   unfolding fieldsOf spread

@@ -35,7 +35,7 @@ use Rattle.details.specs.declared.Size.the-variants.{Bytes, Unfit}
 use Rattle.details.proofs.Theorems.{unfit-none, none-unfit}
 use Rattle.lines.specs.Spread.{saidPart, castParts, told}
 use Rattle.lines.specs.Steps.{stoppedAt, isUnfit}
-use Rattle.drafts.specs.Sheet.{unsaid, rule15, crowded, someCrowded, rule16}
+use Rattle.writer.specs.Sheet.{unsaid, rule15, crowded, someCrowded, rule16}
 use Rattle.written.specs.Sentences.{Every, Writable, Unwritable, hasKind, canSay, canWrite, FirstFails, partsSize, StuckPart, WritableRecord, StuckAt, Undivided, NoWay, in70, in72, pastRpp, CrowdedIn}
 use Rattle.written.proofs.SpeltLaws.{isSaid, said-is, plain-set}
 use Rattle.written.proofs.ReadyLaws.{speaks, said-all, all-said}

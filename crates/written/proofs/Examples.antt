@@ -33,7 +33,7 @@ use Rattle.details.specs.Breaking.{opens, last, broken}
 use Rattle.details.specs.Breaking as breaking
 use Rattle.details.specs.Layouts.{linesFor, sizeFor}
 use Rattle.lines.specs.Spread.{contentLines, spread}
-use Rattle.drafts.specs.Sheet.{unsaid, rule15, crowded, rule16, fieldsOf, messageFor}
+use Rattle.writer.specs.Sheet.{unsaid, rule15, crowded, rule16, fieldsOf, messageFor}
 use Rattle.written.specs.Cases.{AllHold, cases}
 
 infixr 4 _also_

@@ -27,8 +27,8 @@ use Rattle.roles.specs.Rule14.{rule14}
 use Rattle.judge.specs.Message.{messageRules, verdictOf}
 use Rattle.records.specs.Rule19.{sheetType}
 use Rattle.written.specs.Sentences.{Own}
-use Rattle.drafts.specs.Sheet.{messageFor, sheetRules}
-use Rattle.writer.specs.Sheet.{ownRule, atStart}
+use Rattle.message.specs.Handed.{atStart}
+use Rattle.writer.specs.Sheet.{messageFor, sheetRules, ownRule}
 use Rattle.written.proofs.BuiltLaws.{built-rule2, built-rule3, built-rule4, built-fields}
 use Rattle.written.proofs.TextLaws.{built-rule14}
 

@@ -14,7 +14,7 @@ use Rattle.base.specs.Rules.{then}
 use Rattle.base.specs.Calls.{Answer, said, stuck, textOf}
 use Rattle.base.specs.declared.Verdict.{Verdict}
 use Rattle.base.specs.declared.Verdict.the-variants.{Fine, Broken}
-use Rattle.base.proofs.Bools.{left, right, both, isnt, all-append, all-front, all-behind}
+use Rattle.base.proofs.Bools.{left, right, both, all-append, all-front, all-behind}
 use Rattle.base.proofs.RuleLaws.{fine-broken, then-clean}
 use Rattle.alphabets.specs.Bank.{plainly}
 use Rattle.alphabets.specs.Best.{writing}
@@ -38,7 +38,7 @@ use Rattle.details.specs.declared.Size.the-variants.{Bytes, Unfit}
 use Rattle.details.proofs.Theorems.{Fitted, fitted}
 use Rattle.lines.specs.Spread.{saidPart, castParts, lineFor, code, told, rppLine, contentLines}
 use Rattle.lines.specs.Steps.{stoppedAt, isUnfit}
-use Rattle.drafts.specs.Sheet.{unsaid, rule15, crowded, someCrowded, rule16}
+use Rattle.writer.specs.Sheet.{unsaid, rule15, crowded, someCrowded, rule16}
 use Rattle.written.proofs.SpeltLaws.{isSaid, said-is, plain-set, spelt-set, spelt-on}
 
 -- ---- 15: every part can be written
@@ -92,7 +92,7 @@ abbrev pub roomy : ℕ → Bool → Record → Bool
 roomy kind s (field t ps) = not (crowded s (shapeOf kind t) ps)
 
 module _ (kind : ℕ) (s : Bool) where
-  pub some-roomy : (rs : List Record) → not (someCrowded kind s rs) ≡ all (roomy kind s) rs
+  some-roomy : (rs : List Record) → not (someCrowded kind s rs) ≡ all (roomy kind s) rs
   some-roomy [] = refl
   some-roomy (field t ps ∷ rs) = go (crowded s (shapeOf kind t) ps) (some-roomy rs)
     where
@@ -100,20 +100,13 @@ module _ (kind : ℕ) (s : Bool) where
       go true e = refl
       go false e = e
 
-  fine-roomy : (rs : List Record) → rule16 kind s rs ≡ Fine → all (roomy kind s) rs ≡ true
+  pub rule16-fine : (rs : List Record) → rule16 kind s rs ≡ Fine → all (roomy kind s) rs ≡ true
   unfolding rule16
-  fine-roomy rs e = sym (some-roomy rs) ∙ go (someCrowded kind s rs) e
+  rule16-fine rs e = sym (some-roomy rs) ∙ go (someCrowded kind s rs) e
     where
       go : (b : Bool) → pick b (Broken 16 0) Fine ≡ Fine → not b ≡ true
       go true e = absurd (fine-broken 16 0 (sym e))
       go false e = refl
-
-  roomy-fine : (rs : List Record) → all (roomy kind s) rs ≡ true → rule16 kind s rs ≡ Fine
-  unfolding rule16
-  roomy-fine rs e = ap (λ (b : Bool). pick b (Broken 16 0) Fine) (isnt (someCrowded kind s rs) (some-roomy rs ∙ e))
-
-  pub rule16-fine : (rs : List Record) → (rule16 kind s rs ≡ Fine) ↔ (all (roomy kind s) rs ≡ true)
-  rule16-fine rs = (fine-roomy rs, roomy-fine rs)
 
 -- ---- details in their lines
 pub record Laid (p : Place) (least : ℕ) (text : List ℕ) : Type 0 where

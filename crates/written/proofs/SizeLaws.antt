@@ -40,8 +40,7 @@ use Rattle.details.specs.declared.Place.the-variants.{In70, In72, BehindRpp}
 use Rattle.details.specs.declared.Size.{Size}
 use Rattle.details.specs.declared.Size.the-variants.{Bytes, Unfit}
 use Rattle.lines.specs.Spread.{coded, castParts, lineFor, told, rppLine, noteLines, contentLines, fieldFor, spread}
-use Rattle.drafts.specs.Sheet.{fieldsOf, messageFor}
-use Rattle.writer.specs.Sheet.{writeRules, MessageTo}
+use Rattle.writer.specs.Sheet.{fieldsOf, messageFor, writeRules, MessageTo}
 use Rattle.written.specs.Sentences as why
 use Rattle.written.specs.Sentences.{partsSize, StuckPart, StuckAt, Own, Reason}
 use Rattle.lines.proofs.PurposeLaws.{lines-few, unfit-lines}

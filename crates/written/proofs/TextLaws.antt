@@ -37,7 +37,7 @@ use Rattle.details.specs.declared.Place.the-variants.{In70, In72, BehindRpp}
 use Rattle.lines.specs.Spread.{castParts, lineFor, code, rppLine, contentLines, fieldFor, spread}
 use Rattle.lines.specs.Spread as spread
 use Rattle.lines.specs.Steps.{isUnfit}
-use Rattle.drafts.specs.Sheet.{crowded, fieldsOf, sheetRules}
+use Rattle.writer.specs.Sheet.{crowded, fieldsOf, sheetRules}
 use Rattle.written.proofs.SpeltLaws.{said-is, spelt-open}
 use Rattle.written.proofs.ReadyLaws.{speaks, Laid, laid, Ready}
 use Rattle.written.proofs.CastLaws.{turned, untaxed, cast-untaxed, cast-again, frontOf, nextOf, told-again}

@@ -28,8 +28,8 @@ use Rattle.records.specs.Record.{records}
 use Rattle.records.specs.Rule19.{sheetType, sheetSign, rule19}
 use Rattle.records.specs.Sentences.{BadAt}
 use Rattle.records.proofs.RuleLaws.{rule19-bad, bad-rule19}
-use Rattle.drafts.specs.Sheet.{rule15, rule16, messageFor, sheetRules}
-use Rattle.writer.specs.Sheet.{ownRule, atStart, writeRules, MessageTo}
+use Rattle.message.specs.Handed.{atStart}
+use Rattle.writer.specs.Sheet.{rule15, rule16, messageFor, sheetRules, ownRule, writeRules, MessageTo}
 use Rattle.written.specs.Sentences as why
 use Rattle.written.specs.Sentences.{OneByOne, Made, StuckAt, CrowdedIn, Own, NoType, Reason}
 use Rattle.written.proofs.ExactLaws.{rule15-broken, rule15-iff, rule16-broken, crowded-rule16}

@@ -10,8 +10,7 @@ use Rattle.base.specs.Rules.{first}
 use Rattle.base.specs.declared.Verdict.the-variants.{Fine, Broken}
 use Rattle.frame.specs.Cases.{sample}
 use Rattle.records.specs.Cases.{desk}
-use Rattle.drafts.specs.Sheet.{messageFor}
-use Rattle.writer.specs.Sheet.{writeRules}
+use Rattle.writer.specs.Sheet.{messageFor, writeRules}
 
 pub data Case : Type 0 where
   -- with room just enough, the sheet is written as this message

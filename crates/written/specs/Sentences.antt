@@ -30,7 +30,7 @@ use Rattle.details.specs.Layouts.{layout, DivisionIn, marked}
 use Rattle.details.specs.declared.Place.{Place}
 use Rattle.details.specs.declared.Place.the-variants.{In70, In72, BehindRpp}
 use Rattle.lines.specs.Spread.{castParts, code, told, rppLine}
-use Rattle.drafts.specs.Sheet.{messageFor}
+use Rattle.writer.specs.Sheet.{messageFor}
 
 -- ---- lists
 abbrev pub Every : {A : Type 0} → (A → Type 0) → List A → Type 0

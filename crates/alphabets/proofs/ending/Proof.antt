@@ -1,3 +1,4 @@
+-- `alphabets::ending` meets its contract. Assumes nothing.
 use Rattle.alphabets.proofs.TextLaws.{ending-halts, ending-short, ending-done}
 use borrow.Author.Needs.{needs}
 use Rattle.alphabets.proofs.ending.Statement.{statement}

@@ -1,3 +1,4 @@
+-- `alphabets::put_whole` meets its contract. Assumes nothing.
 use mathlib.Core.Path.{_≡_, sym, _∙_}
 use mathlib.Core.Bool.{false}
 use borrow.Author.Tests.{not-true, not-false}

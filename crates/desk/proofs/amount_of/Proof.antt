@@ -1,30 +1,23 @@
+-- `desk::amount_of` meets its contract. Assumes nothing.
 use mathlib.Core.Path.{subst, sym, ap, _∙_}
 use Rattle.desk.specs.Answer.{amountWord}
 use Rattle.desk.specs.Sizes.{SmallAmount}
 use borrow.Author.Needs.{needs}
 use Rattle.desk.proofs.amount_of.Statement.{statement}
 use Rattle.desk.proofs.amount_of.Tie as tie
-use Rattle.desk.proofs.amount_of.Reads as reads
-use Rattle.desk.proofs.amount_of.Lts as lts
-use Rattle.desk.proofs.refused.Reads as refused-reads
 
--- src/lib.rt:64:20
 enum-known-a : tie.Need-enum-known-a
 enum-known-a c = search needs
 
--- src/lib.rt:65:27
 enum-known-a-2 : tie.Need-enum-known-a-2
 enum-known-a-2 c = search needs
 
--- src/lib.rt:65:46
 refused-requires : tie.Need-refused-requires
 refused-requires c κs = subst SmallAmount (c .before .a2 .given .1) (c .before .before .before .pre)
 
--- src/lib.rt:59:1
 returns : tie.Need-returns
 returns c = search needs
 
--- src/lib.rt:59:1
 returns-2 : tie.Need-returns-2
 returns-2 c = c .refused .ensures ∙ sym (ap amountWord (c .before .before .a2 .given .1))
 

@@ -1,3 +1,4 @@
+-- `desk::checked_of` meets its contract. Assumes nothing.
 use mathlib.Core.Path.{subst, sym, ap, _∙_}
 use native.Mathlib.Omega.{arith}
 use Rattle.desk.specs.Answer.{checkedWord}
@@ -5,39 +6,28 @@ use Rattle.desk.specs.Sizes.{SmallCheck}
 use borrow.Author.Needs.{needs}
 use Rattle.desk.proofs.checked_of.Statement.{statement}
 use Rattle.desk.proofs.checked_of.Tie as tie
-use Rattle.desk.proofs.checked_of.Reads as reads
-use Rattle.desk.proofs.checked_of.Lts as lts
-use Rattle.desk.proofs.refused.Reads as refused-reads
 
--- src/lib.rt:42:29
 enum-known-c : tie.Need-enum-known-c
 enum-known-c c = search needs
 
--- src/lib.rt:42:66
 cast-result : tie.Need-cast-result
 cast-result c = search needs
 
--- src/lib.rt:42:66
 mul-result : tie.Need-mul-result
 mul-result c = search needs
 
--- src/lib.rt:42:50
 add-result : tie.Need-add-result
 add-result c = let s = subst SmallCheck (c .before .c .given .1) (c .before .before .before .pre) in omega (arith, s .0, s .1)
 
--- src/lib.rt:43:28
 enum-known-c-2 : tie.Need-enum-known-c-2
 enum-known-c-2 c = search needs
 
--- src/lib.rt:43:47
 refused-requires : tie.Need-refused-requires
 refused-requires c κs = subst SmallCheck (c .before .c2 .given .1) (c .before .before .before .pre)
 
--- src/lib.rt:37:1
 returns : tie.Need-returns
 returns c = sym (ap checkedWord (c .before .c .given .1))
 
--- src/lib.rt:37:1
 returns-2 : tie.Need-returns-2
 returns-2 c = c .refused .ensures ∙ sym (ap checkedWord (c .before .before .c2 .given .1))
 

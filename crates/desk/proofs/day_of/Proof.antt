@@ -1,58 +1,44 @@
+-- `desk::day_of` meets its contract. Assumes nothing.
 use mathlib.Core.Path.{subst, sym, ap, _∙_}
 use Rattle.desk.specs.Answer.{dayWord}
 use Rattle.desk.specs.Sizes.{SmallDay}
 use borrow.Author.Needs.{needs}
 use Rattle.desk.proofs.day_of.Statement.{statement}
 use Rattle.desk.proofs.day_of.Tie as tie
-use Rattle.desk.proofs.day_of.Reads as reads
-use Rattle.desk.proofs.day_of.Lts as lts
-use Rattle.desk.proofs.refused.Reads as refused-reads
 
--- src/lib.rt:74:19
 enum-known-d : tie.Need-enum-known-d
 enum-known-d c = search needs
 
--- src/lib.rt:74:41
 cast-result : tie.Need-cast-result
 cast-result c = search needs
 
--- src/lib.rt:74:41
 mul-result : tie.Need-mul-result
 mul-result c = search needs
 
--- src/lib.rt:74:63
 cast-result-2 : tie.Need-cast-result-2
 cast-result-2 c = search needs
 
--- src/lib.rt:74:63
 mul-result-2 : tie.Need-mul-result-2
 mul-result-2 c = search needs
 
--- src/lib.rt:74:41
 add-result : tie.Need-add-result
 add-result c = search needs
 
--- src/lib.rt:74:84
 cast-result-3 : tie.Need-cast-result-3
 cast-result-3 c = search needs
 
--- src/lib.rt:74:41
 add-result-2 : tie.Need-add-result-2
 add-result-2 c = search needs
 
--- src/lib.rt:75:24
 enum-known-d-2 : tie.Need-enum-known-d-2
 enum-known-d-2 c = search needs
 
--- src/lib.rt:75:43
 refused-requires : tie.Need-refused-requires
 refused-requires c κs = subst SmallDay (c .before .d2 .given .1) (c .before .before .before .pre)
 
--- src/lib.rt:69:1
 returns : tie.Need-returns
 returns c = sym (ap dayWord (c .before .d .given .1))
 
--- src/lib.rt:69:1
 returns-2 : tie.Need-returns-2
 returns-2 c = c .refused .ensures ∙ sym (ap dayWord (c .before .before .d2 .given .1))
 

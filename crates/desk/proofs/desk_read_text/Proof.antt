@@ -1,3 +1,4 @@
+-- `desk::desk_read_text` meets its contract. Assumes nothing.
 use mathlib.Core.Path.{subst}
 use mathlib.Core.Bool.{Bool}
 use Rattle.alphabets.proofs.Outcomes.{read-small}

@@ -1,3 +1,4 @@
+-- `desk::is_on` meets its contract. Assumes nothing.
 use Rattle.desk.proofs.Words.{on-is}
 use Rattle.desk.proofs.is_on.Statement.{statement}
 use Rattle.desk.proofs.is_on.Tie as tie

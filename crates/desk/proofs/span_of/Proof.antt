@@ -1,3 +1,4 @@
+-- `desk::span_of` meets its contract. Assumes nothing.
 use mathlib.Core.Path.{subst, sym, ap}
 use native.Mathlib.Omega.{arith}
 use Rattle.desk.specs.Answer.{spanWord}
@@ -5,34 +6,25 @@ use Rattle.desk.specs.Sizes.{SmallSpan}
 use borrow.Author.Needs.{needs}
 use Rattle.desk.proofs.span_of.Statement.{statement}
 use Rattle.desk.proofs.span_of.Tie as tie
-use Rattle.desk.proofs.span_of.Reads as reads
-use Rattle.desk.proofs.span_of.Lts as lts
 
--- src/lib.rt:52:22
 enum-known-s : tie.Need-enum-known-s
 enum-known-s c = search needs
 
--- src/lib.rt:52:38
 mul-result : tie.Need-mul-result
 mul-result c = let t = subst SmallSpan (c .before .s .given .1) (c .before .before .before .pre) in omega (arith, t .0, t .1)
 
--- src/lib.rt:52:67
 sub-result : tie.Need-sub-result
 sub-result c = let t = subst SmallSpan (c .before .s .given .1) (c .before .before .before .pre) in omega (arith, t .0, t .1)
 
--- src/lib.rt:52:38
 add-result : tie.Need-add-result
 add-result c = let t = subst SmallSpan (c .before .s .given .1) (c .before .before .before .pre) in omega (arith, t .0, t .1)
 
--- src/lib.rt:53:26
 enum-told : tie.Need-enum-told
 enum-told c = search needs
 
--- src/lib.rt:47:1
 returns : tie.Need-returns
 returns c = sym (ap spanWord (c .before .s .given .1))
 
--- src/lib.rt:47:1
 returns-2 : tie.Need-returns-2
 returns-2 c = search needs
 

@@ -1,30 +1,23 @@
+-- `desk::word_of` meets its contract. Assumes nothing.
 use mathlib.Core.Path.{subst, sym, ap, _∙_}
 use Rattle.desk.specs.Answer.{word}
 use Rattle.desk.specs.Sizes.{SmallOutcome}
 use borrow.Author.Needs.{needs}
 use Rattle.desk.proofs.word_of.Statement.{statement}
 use Rattle.desk.proofs.word_of.Tie as tie
-use Rattle.desk.proofs.word_of.Reads as reads
-use Rattle.desk.proofs.word_of.Lts as lts
-use Rattle.desk.proofs.refused.Reads as refused-reads
 
--- src/lib.rt:32:23
 enum-known-o : tie.Need-enum-known-o
 enum-known-o c = search needs
 
--- src/lib.rt:33:28
 enum-known-o-2 : tie.Need-enum-known-o-2
 enum-known-o-2 c = search needs
 
--- src/lib.rt:33:47
 refused-requires : tie.Need-refused-requires
 refused-requires c κs = subst SmallOutcome (c .before .o2 .given .1) (c .before .before .before .pre)
 
--- src/lib.rt:27:1
 returns : tie.Need-returns
 returns c = search needs
 
--- src/lib.rt:27:1
 returns-2 : tie.Need-returns-2
 returns-2 c = c .refused .ensures ∙ sym (ap word (c .before .before .o2 .given .1))
 

@@ -1,5 +1,5 @@
 -- `cut`: from high down to the first place whose byte may open a line. Assumes nothing.
-use Prim.Native.Nat.{_≤_, _-_}
+use Prim.Native.Nat.{_≤_}
 use mathlib.Core.Path.{_≡_, refl, sym, _∙_}
 use native.Mathlib.Omega.{arith}
 use borrow.Author.Needs.{needs}
@@ -8,9 +8,6 @@ use Rattle.details.specs.Steps.{cutAt, barredBy}
 use Rattle.details.proofs.StepLaws.{cut-here, cut-down, cut-none}
 use Rattle.details.proofs.cut.Statement.{statement}
 use Rattle.details.proofs.cut.Tie as tie
-use Rattle.details.proofs.cut.Reads as reads
-use Rattle.details.proofs.cut.Lts as lts
-use Rattle.details.proofs.may_open.Reads as may-open-reads
 
 abbrev Inv-loop : tie.InvT-loop
 Inv-loop text low high barred e₀ e = (e ≤ high) × (cutAt (opens (barredBy barred)) text low high ≡ cutAt (opens (barredBy barred)) text low e)

@@ -7,12 +7,6 @@ use Rattle.details.proofs.PlaceLaws.{Known, known, marks-70, marks-72, 
 use borrow.Author.Needs.{needs}
 use Rattle.details.proofs.lay.Statement.{statement}
 use Rattle.details.proofs.lay.Tie as tie
-use Rattle.details.proofs.lay.Reads as reads
-use Rattle.details.proofs.lay.Lts as lts
-use Rattle.details.proofs.one_less.Reads as one-less-reads
-use Rattle.details.proofs.put_lines.Reads as put-lines-reads
-use Rattle.details.proofs.shape_of.Reads as shape-of-reads
-use Rattle.details.proofs.size_of.Reads as size-of-reads
 
 size-of-requires : tie.Need-size-of-requires
 size-of-requires c κs = search needs

@@ -6,8 +6,6 @@ use Rattle.base.specs.Bytes.{isIn}
 use Rattle.details.specs.Breaking.{opens}
 use Rattle.details.proofs.may_open.Statement.{statement}
 use Rattle.details.proofs.may_open.Tie as tie
-use Rattle.details.proofs.may_open.Reads as reads
-use Rattle.details.proofs.may_open.Lts as lts
 
 returns : tie.Need-returns
 unfolding opens isIn

@@ -8,9 +8,6 @@ use Rattle.details.specs.Steps.{barredBy, breaksBy, breaksIn, sizeBy}
 use Rattle.details.proofs.StepLaws.{Found, found, found-none, at-end, at-wall, no-line-left, on, size-on}
 use Rattle.details.proofs.measure.Statement.{statement}
 use Rattle.details.proofs.measure.Tie as tie
-use Rattle.details.proofs.measure.Reads as reads
-use Rattle.details.proofs.measure.Lts as lts
-use Rattle.details.proofs.cut.Reads as cut-reads
 
 abbrev Inv-loop : tie.InvT-loop
 Inv-loop text low s a₀ h₀ left₀ size₀ a h left size =

@@ -4,9 +4,6 @@ use Rattle.details.proofs.LayLaws.{both-fit, both-put}
 use borrow.Author.Needs.{needs}
 use Rattle.details.proofs.put_both.Statement.{statement}
 use Rattle.details.proofs.put_both.Tie as tie
-use Rattle.details.proofs.put_both.Reads as reads
-use Rattle.details.proofs.put_both.Lts as lts
-use Rattle.base.proofs.bytes.put.Reads as put-reads
 
 put-requires : tie.Need-put-requires
 put-requires c κs = search needs

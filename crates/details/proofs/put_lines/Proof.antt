@@ -12,11 +12,6 @@ use Rattle.details.specs.Steps.{barredBy, breaksIn, breaksOf, laidBy, wh
 use Rattle.details.proofs.LayLaws.{Laying, mark-fits, lay-start, lay-whole, Turned, lay-turn, lay-moved, lay-end}
 use Rattle.details.proofs.put_lines.Statement.{statement}
 use Rattle.details.proofs.put_lines.Tie as tie
-use Rattle.details.proofs.put_lines.Reads as reads
-use Rattle.details.proofs.put_lines.Lts as lts
-use Rattle.base.proofs.bytes.put.Reads as put-reads
-use Rattle.details.proofs.cut.Reads as cut-reads
-use Rattle.details.proofs.put_both.Reads as put-both-reads
 
 abbrev Inv-loop : tie.InvT-loop
 Inv-loop text low s mark sep out₀ at n₀ from₀ a₀ h₀ out n from a h =

@@ -4,8 +4,6 @@ use Rattle.details.specs.Steps.{shapeOf}
 use borrow.Author.Needs.{needs}
 use Rattle.details.proofs.shape_of.Statement.{statement}
 use Rattle.details.proofs.shape_of.Tie as tie
-use Rattle.details.proofs.shape_of.Reads as reads
-use Rattle.details.proofs.shape_of.Lts as lts
 
 enum-told : tie.Need-enum-told
 enum-told c = search needs

@@ -6,11 +6,6 @@ use Rattle.details.proofs.PlaceLaws.{small, size-none, size-some}
 use borrow.Author.Needs.{needs}
 use Rattle.details.proofs.size_of.Statement.{statement}
 use Rattle.details.proofs.size_of.Tie as tie
-use Rattle.details.proofs.size_of.Reads as reads
-use Rattle.details.proofs.size_of.Lts as lts
-use Rattle.details.proofs.measure.Reads as measure-reads
-use Rattle.details.proofs.one_less.Reads as one-less-reads
-use Rattle.details.proofs.shape_of.Reads as shape-of-reads
 
 one-less-requires : tie.Need-one-less-requires
 one-less-requires c κs = search needs

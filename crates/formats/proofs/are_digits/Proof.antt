@@ -12,9 +12,6 @@ use mathlib.Core.Path.{_≡_, sym, ap, _∙_}
 use Prim.Native.Nat.{ℕ, _+_, _-_, _≤_}
 use Rattle.formats.proofs.are_digits.Statement.{statement}
 use Rattle.formats.proofs.are_digits.Tie as tie
-use Rattle.formats.proofs.are_digits.Reads as reads
-use Rattle.formats.proofs.are_digits.Lts as lts
-use Rattle.base.proofs.bytes.is_digit.Reads as is-digit-reads
 
 abbrev Inv-loop : tie.InvT-loop
 Inv-loop w s i fine₀ k₀ fine k = (k ≤ w) × (fine ≡ true → (n : ℕ) → run 132 (k + n) (drop i s) ≡ k + run 132 n (drop (i + k) s))

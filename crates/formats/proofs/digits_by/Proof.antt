@@ -7,9 +7,6 @@ use mathlib.Core.Path.{_≡_, refl, ap, _∙_}
 use Prim.Native.Nat.{ℕ, _+_, _-_, _≤_}
 use Rattle.formats.proofs.digits_by.Statement.{statement}
 use Rattle.formats.proofs.digits_by.Tie as tie
-use Rattle.formats.proofs.digits_by.Reads as reads
-use Rattle.formats.proofs.digits_by.Lts as lts
-use Rattle.formats.proofs.are_digits.Reads as are-digits-reads
 
 abbrev Inv-loop : tie.InvT-loop
 Inv-loop w n s at passed k₀ k = (k ≤ n) × (k + run 132 (n - k) (drop (at + k) s) ≡ passed + run 132 (n - passed) (drop (at + passed) s))

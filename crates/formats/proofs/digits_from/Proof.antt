@@ -10,9 +10,6 @@ use mathlib.Core.Path.{_≡_, refl, sym, _∙_}
 use Prim.Native.Nat.{_+_, _-_, _≤_}
 use Rattle.formats.proofs.digits_from.Statement.{statement}
 use Rattle.formats.proofs.digits_from.Tie as tie
-use Rattle.formats.proofs.digits_from.Reads as reads
-use Rattle.formats.proofs.digits_from.Lts as lts
-use Rattle.base.proofs.bytes.is_digit.Reads as is-digit-reads
 
 abbrev Inv-loop : tie.InvT-loop
 Inv-loop n s at passed k₀ k = (k ≤ n) × (passed ≤ k) × (k + run 132 (n - k) (drop (at + k) s) ≡ passed + run 132 (n - passed) (drop (at + passed) s))

@@ -10,12 +10,6 @@ use mathlib.Core.Path.{_≡_, refl, sym, _∙_}
 use Prim.Native.Nat.{_*_, _-_, _≤_}
 use Rattle.formats.proofs.has_format.Statement.{statement}
 use Rattle.formats.proofs.has_format.Tie as tie
-use Rattle.formats.proofs.has_format.Reads as reads
-use Rattle.formats.proofs.has_format.Lts as lts
-use Rattle.formats.proofs.is_counted.Reads as is-counted-reads
-use Rattle.formats.proofs.is_such_from.Reads as is-such-from-reads
-use Rattle.formats.proofs.run_from.Reads as run-from-reads
-use Rattle.formats.proofs.size.Reads as size-reads
 
 abbrev Inv-loop : tie.InvT-loop
 Inv-loop f k s j₀ at₀ j at = (at ≤ length s) × (fits (drop (3 * k) f) s ≡ fits (drop (3 * j) f) (drop at s))

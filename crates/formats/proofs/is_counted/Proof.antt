@@ -3,20 +3,15 @@ use Rattle.base.proofs.Flags.{flags}
 use Rattle.formats.specs.Format.{counted}
 use Rattle.formats.proofs.is_counted.Statement.{statement}
 use Rattle.formats.proofs.is_counted.Tie as tie
-use Rattle.formats.proofs.is_counted.Reads as reads
-use Rattle.formats.proofs.is_counted.Lts as lts
 
--- src/lib.rt:106:13
 returns : tie.Need-returns
 unfolding counted
 returns c = search flags depth 9
 
--- src/lib.rt:108:9
 returns-2 : tie.Need-returns-2
 unfolding counted
 returns-2 c = search flags depth 9
 
--- src/lib.rt:101:1
 returns-3 : tie.Need-returns-3
 unfolding counted
 returns-3 c = search flags depth 9

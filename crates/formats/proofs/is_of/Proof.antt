@@ -4,11 +4,6 @@ use Rattle.formats.specs.Format.{member}
 use borrow.Author.Needs.{needs}
 use Rattle.formats.proofs.is_of.Statement.{statement}
 use Rattle.formats.proofs.is_of.Tie as tie
-use Rattle.formats.proofs.is_of.Reads as reads
-use Rattle.formats.proofs.is_of.Lts as lts
-use Rattle.base.proofs.bytes.is_capital.Reads as is-capital-reads
-use Rattle.base.proofs.bytes.is_digit.Reads as is-digit-reads
-use Rattle.formats.proofs.is_sign.Reads as is-sign-reads
 
 is-digit-requires : tie.Need-is-digit-requires
 is-digit-requires c κs = search needs

@@ -3,8 +3,6 @@ use borrow.Author.Tests.{eqb-true}
 use Rattle.formats.proofs.FormatLaws.{run-either, same-class}
 use Rattle.formats.proofs.is_of_digits.Statement.{statement}
 use Rattle.formats.proofs.is_of_digits.Tie as tie
-use Rattle.formats.proofs.is_of_digits.Reads as reads
-use Rattle.formats.proofs.is_of_digits.Lts as lts
 
 returns : tie.Need-returns
 returns c = let a = c .before .args in λ e n s. same-class (a .c) 132 n s (c .if1 .taken)

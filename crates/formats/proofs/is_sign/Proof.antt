@@ -4,25 +4,17 @@ use Rattle.formats.specs.Format.{sign}
 use borrow.Author.Needs.{needs}
 use Rattle.formats.proofs.is_sign.Statement.{statement}
 use Rattle.formats.proofs.is_sign.Tie as tie
-use Rattle.formats.proofs.is_sign.Reads as reads
-use Rattle.formats.proofs.is_sign.Lts as lts
-use Rattle.base.proofs.bytes.is_capital.Reads as is-capital-reads
-use Rattle.base.proofs.bytes.is_digit.Reads as is-digit-reads
 
--- src/lib.rt:21:8
 is-capital-requires : tie.Need-is-capital-requires
 is-capital-requires c κs = search needs
 
--- src/lib.rt:22:9
 returns : tie.Need-returns
 unfolding sign
 returns c = search flags depth 9
 
--- src/lib.rt:24:5
 is-digit-requires : tie.Need-is-digit-requires
 is-digit-requires c κs = search needs
 
--- src/lib.rt:18:1
 returns-2 : tie.Need-returns-2
 unfolding sign
 returns-2 c = search flags depth 9

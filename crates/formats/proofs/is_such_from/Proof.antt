@@ -8,27 +8,19 @@ use Rattle.formats.specs.Format.{meets}
 use borrow.Author.Needs.{needs}
 use Rattle.formats.proofs.is_such_from.Statement.{statement}
 use Rattle.formats.proofs.is_such_from.Tie as tie
-use Rattle.formats.proofs.is_such_from.Reads as reads
-use Rattle.formats.proofs.is_such_from.Lts as lts
-use Rattle.formats.proofs.conditions.is_such.Reads as is-such-reads
 
--- src/lib.rt:118:16
 sub-is-such : tie.Need-sub-is-such
 sub-is-such c = search needs
 
--- src/lib.rt:118:16
 part-is-such-start : tie.Need-part-is-such-start
 part-is-such-start c = search needs
 
--- src/lib.rt:118:16
 part-is-such-end : tie.Need-part-is-such-end
 part-is-such-end c = search needs
 
--- src/lib.rt:118:5
 is-such-requires : tie.Need-is-such-requires
 is-such-requires c κs = search needs
 
--- src/lib.rt:114:1
 returns : tie.Need-returns
 returns c = let a = c .before .before .before .args in c .is-such .ensures ∙ ap (meets (a .k)) (take-all (length (a .s .now) - a .at) (drop (a .at) (a .s .now)) (le-of-eq (length-drop (a .at) (a .s .now))))
 

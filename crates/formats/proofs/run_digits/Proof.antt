@@ -4,10 +4,6 @@ use native.Mathlib.Omega.{arith}
 use native.Mathlib.Nat.{zero-add, add-zero, sub-zero}
 use Rattle.formats.proofs.run_digits.Statement.{statement}
 use Rattle.formats.proofs.run_digits.Tie as tie
-use Rattle.formats.proofs.run_digits.Reads as reads
-use Rattle.formats.proofs.run_digits.Lts as lts
-use Rattle.formats.proofs.digits_by.Reads as digits-by-reads
-use Rattle.formats.proofs.digits_from.Reads as digits-from-reads
 
 digits-by-requires : tie.Need-digits-by-requires
 digits-by-requires c κs = (omega arith, omega arith, omega arith)

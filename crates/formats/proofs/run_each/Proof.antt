@@ -11,9 +11,6 @@ use mathlib.Core.Path.{_≡_, sym, _∙_}
 use Prim.Native.Nat.{_+_, _-_, _≤_}
 use Rattle.formats.proofs.run_each.Statement.{statement}
 use Rattle.formats.proofs.run_each.Tie as tie
-use Rattle.formats.proofs.run_each.Reads as reads
-use Rattle.formats.proofs.run_each.Lts as lts
-use Rattle.formats.proofs.is_of.Reads as is-of-reads
 
 abbrev Inv-loop : tie.InvT-loop
 Inv-loop c n s at k₀ k = (k ≤ n) × (k + run c (n - k) (drop (at + k) s) ≡ run c n (drop at s))

@@ -5,10 +5,6 @@ use Rattle.formats.proofs.FormatLaws.{run-least}
 use borrow.Author.Needs.{needs}
 use Rattle.formats.proofs.run_from.Statement.{statement}
 use Rattle.formats.proofs.run_from.Tie as tie
-use Rattle.formats.proofs.run_from.Reads as reads
-use Rattle.formats.proofs.run_from.Lts as lts
-use Rattle.formats.proofs.least.Reads as least-reads
-use Rattle.formats.proofs.run_of.Reads as run-of-reads
 
 sub-least : tie.Need-sub-least
 sub-least c = omega arith

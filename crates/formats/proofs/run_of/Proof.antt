@@ -6,11 +6,6 @@ use Rattle.formats.proofs.FormatLaws.{run-any, same-class}
 use borrow.Author.Needs.{needs}
 use Rattle.formats.proofs.run_of.Statement.{statement}
 use Rattle.formats.proofs.run_of.Tie as tie
-use Rattle.formats.proofs.run_of.Reads as reads
-use Rattle.formats.proofs.run_of.Lts as lts
-use Rattle.formats.proofs.is_of_digits.Reads as is-of-digits-reads
-use Rattle.formats.proofs.run_digits.Reads as run-digits-reads
-use Rattle.formats.proofs.run_each.Reads as run-each-reads
 
 is-of-digits-requires : tie.Need-is-of-digits-requires
 is-of-digits-requires c κs = search needs

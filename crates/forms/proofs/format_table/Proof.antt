@@ -3,8 +3,6 @@ use mathlib.Core.Path.{refl}
 use Rattle.forms.specs.Formats.{formats}
 use Rattle.forms.proofs.format_table.Statement.{statement}
 use Rattle.forms.proofs.format_table.Tie as tie
-use Rattle.forms.proofs.format_table.Reads as reads
-use Rattle.forms.proofs.format_table.Lts as lts
 
 returns : tie.Need-returns
 unfolding formats

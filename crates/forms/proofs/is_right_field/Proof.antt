@@ -6,10 +6,6 @@ use Rattle.machine.specs.Machine.{right}
 use borrow.Author.Needs.{needs}
 use Rattle.forms.proofs.is_right_field.Statement.{statement}
 use Rattle.forms.proofs.is_right_field.Tie as tie
-use Rattle.forms.proofs.is_right_field.Reads as reads
-use Rattle.forms.proofs.is_right_field.Lts as lts
-use Rattle.forms.proofs.state_of.Reads as state-of-reads
-use Rattle.machine.proofs.is_right.Reads as is-right-reads
 
 state-of-requires : tie.Need-state-of-requires
 state-of-requires c κs = search needs

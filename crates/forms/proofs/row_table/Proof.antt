@@ -3,8 +3,6 @@ use mathlib.Core.Path.{refl}
 use Rattle.forms.specs.States.{rows}
 use Rattle.forms.proofs.row_table.Statement.{statement}
 use Rattle.forms.proofs.row_table.Tie as tie
-use Rattle.forms.proofs.row_table.Reads as reads
-use Rattle.forms.proofs.row_table.Lts as lts
 
 returns : tie.Need-returns
 unfolding rows

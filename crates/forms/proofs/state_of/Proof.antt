@@ -5,28 +5,19 @@ use Rattle.forms.proofs.StartLaws.{state-103, state-202, state-none}
 use borrow.Author.Needs.{needs}
 use Rattle.forms.proofs.state_of.Statement.{statement}
 use Rattle.forms.proofs.state_of.Tie as tie
-use Rattle.forms.proofs.state_of.Reads as reads
-use Rattle.forms.proofs.state_of.Lts as lts
-use Rattle.forms.proofs.state_103.Reads as state-103-reads
-use Rattle.forms.proofs.state_202.Reads as state-202-reads
 
--- src/lib.rt:69:9
 state-103-requires : tie.Need-state-103-requires
 state-103-requires c κs = search needs
 
--- src/lib.rt:69:9
 returns : tie.Need-returns
 returns c = let a = c .before .before .args in c .state-103 .ensures ∙ sym (state-103 (a .kind) (a .sign) (unpack (a .tag)) (c .before .if1 .taken))
 
--- src/lib.rt:72:9
 state-202-requires : tie.Need-state-202-requires
 state-202-requires c κs = search needs
 
--- src/lib.rt:72:9
 returns-2 : tie.Need-returns-2
 returns-2 c = let a = c .before .before .before .args in c .state-202 .ensures ∙ sym (state-202 (a .kind) (a .sign) (unpack (a .tag)) (c .before .if2 .taken))
 
--- src/lib.rt:65:1
 returns-3 : tie.Need-returns-3
 returns-3 c = let a = c .before .before .args in sym (state-none (a .kind) (a .sign) (unpack (a .tag)) (c .before .if1 .left) (c .if2 .left))
 

@@ -6,36 +6,27 @@ use Rattle.machine.specs.Machine.{cell}
 use borrow.Author.Needs.{needs}
 use Rattle.machine.proofs.cell_at.Statement.{statement}
 use Rattle.machine.proofs.cell_at.Tie as tie
-use Rattle.machine.proofs.cell_at.Reads as reads
-use Rattle.machine.proofs.cell_at.Lts as lts
 
--- src/lib.rt:54:9
 returns : tie.Need-returns
 unfolding cell
 returns c = sym (List·getD-eq-default (c .before .args .m .now) 0 (omega arith))
 
--- src/lib.rt:56:13
 mul-k : tie.Need-mul-k
 mul-k c = search needs
 
--- src/lib.rt:57:8
 sub-if2 : tie.Need-sub-if2
 sub-if2 c = search needs
 
--- src/lib.rt:58:9
 returns-2 : tie.Need-returns-2
 unfolding cell
 returns-2 c = sym (List·getD-eq-default (c .before .before .args .m .now) 0 (omega arith))
 
--- src/lib.rt:60:7
 add-result : tie.Need-add-result
 add-result c = search needs
 
--- src/lib.rt:60:5
 shared-slice-read-result : tie.Need-shared-slice-read-result
 shared-slice-read-result c = search needs
 
--- src/lib.rt:50:1
 returns-3 : tie.Need-returns-3
 unfolding cell
 returns-3 c = refl

@@ -5,15 +5,10 @@ use lib.Dec.{eqb}
 use borrow.Author.Needs.{needs}
 use Rattle.machine.proofs.ends_at.Statement.{statement}
 use Rattle.machine.proofs.ends_at.Tie as tie
-use Rattle.machine.proofs.ends_at.Reads as reads
-use Rattle.machine.proofs.ends_at.Lts as lts
-use Rattle.machine.proofs.cell_at.Reads as cell-at-reads
 
--- src/lib.rt:74:5
 cell-at-requires : tie.Need-cell-at-requires
 cell-at-requires c κs = search needs
 
--- src/lib.rt:71:1
 returns : tie.Need-returns
 returns c = ap (λ (x : ℕ). eqb x 1) (c .cell-at .ensures)
 

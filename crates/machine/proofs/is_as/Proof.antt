@@ -4,9 +4,6 @@ use Rattle.machine.specs.Machine.{isAs}
 use borrow.Author.Needs.{needs}
 use Rattle.machine.proofs.is_as.Statement.{statement}
 use Rattle.machine.proofs.is_as.Tie as tie
-use Rattle.machine.proofs.is_as.Reads as reads
-use Rattle.machine.proofs.is_as.Lts as lts
-use Rattle.formats.proofs.has_format.Reads as has-format-reads
 
 returns : tie.Need-returns
 unfolding isAs

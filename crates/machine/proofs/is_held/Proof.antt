@@ -8,9 +8,6 @@ use Rattle.machine.proofs.MachineLaws.{as-any, as-format}
 use borrow.Author.Needs.{needs}
 use Rattle.machine.proofs.is_held.Statement.{statement}
 use Rattle.machine.proofs.is_held.Tie as tie
-use Rattle.machine.proofs.is_held.Reads as reads
-use Rattle.machine.proofs.is_held.Lts as lts
-use Rattle.formats.proofs.has_format.Reads as has-format-reads
 
 returns : tie.Need-returns
 returns c = let a = c .before .before .before .args in sym (ap (λ (t : Bool). t && isAs (a .f .now) (a .k) (a .line .now)) (lt-leb (length (a .line .now)) (a .w) (c .if1 .taken)))

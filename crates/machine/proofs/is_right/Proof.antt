@@ -10,13 +10,6 @@ use Rattle.base.proofs.MarkLaws.{up-rest}
 use Rattle.machine.proofs.MachineLaws.{right-last, right-more, right-stuck}
 use Rattle.machine.proofs.is_right.Statement.{statement}
 use Rattle.machine.proofs.is_right.Tie as tie
-use Rattle.machine.proofs.is_right.Reads as reads
-use Rattle.machine.proofs.is_right.Lts as lts
-use Rattle.machine.proofs.ends_at.Reads as ends-at-reads
-use Rattle.base.proofs.marks.mark_at.Reads as mark-at-reads
-use Rattle.machine.proofs.lines.next_line.Reads as next-line-reads
-use Rattle.machine.proofs.next_at.Reads as next-at-reads
-use Rattle.machine.proofs.took_row.Reads as took-row-reads
 
 abbrev Inv-loop : tie.InvT-loop
 Inv-loop f m q content at₀ state₀ at state = (at ≤ length content) × (right f m q (linesIn content) ≡ right f m state (linesIn (drop at content)))
@@ -24,58 +17,45 @@ Inv-loop f m q content at₀ state₀ at state = (at ≤ length content) × (rig
 abbrev μ-loop : tie.MeasureT-loop
 μ-loop f m q content at₀ state₀ at state = length content - at
 
--- src/lib.rt:90:5
 loop-holds : tie.Need-loop-holds Inv-loop μ-loop
 loop-holds c = (search needs, refl)
 
--- src/lib.rt:91:13
 mark-at-requires : tie.Need-mark-at-requires Inv-loop μ-loop
 mark-at-requires c κs = search needs
 
--- src/lib.rt:92:39
 sub-took-row : tie.Need-sub-took-row Inv-loop μ-loop
 sub-took-row c = omega arith
 
--- src/lib.rt:92:39
 part-took-row-start : tie.Need-part-took-row-start Inv-loop μ-loop
 part-took-row-start c = search needs
 
--- src/lib.rt:92:39
 part-took-row-end : tie.Need-part-took-row-end Inv-loop μ-loop
 part-took-row-end c = let l = c .before in omega (arith, up-rest 13 (l .before .before .before .before .args .content .now) (l .loop .at) (l .loop .inv .0))
 
--- src/lib.rt:92:13
 took-row-requires : tie.Need-took-row-requires Inv-loop μ-loop
 took-row-requires c κs = search needs
 
--- src/lib.rt:94:13
 returns : tie.Need-returns Inv-loop μ-loop
 returns c = let t = c .before in let n = t .before .before in let l = n .before in let a = l .before .before .before .before .args in
     sym (l .loop .inv .1 ∙ right-stuck (a .f .now) (a .m .now) (l .loop .state) (a .content .now) (l .loop .at) (n .mark-at .result) (t .took-row .result) (l .loop .inv .0) (n .mark-at .ensures) (t .took-row .ensures) (c .if1 .taken))
 
--- src/lib.rt:96:9
 next-at-requires : tie.Need-next-at-requires Inv-loop μ-loop
 next-at-requires c κs = search needs
 
--- src/lib.rt:98:13
 ends-at-requires : tie.Need-ends-at-requires Inv-loop μ-loop
 ends-at-requires c κs = search needs
 
--- src/lib.rt:98:13
 returns-2 : tie.Need-returns-2 Inv-loop μ-loop
 returns-2 c = let x = c .before .before in let e = x .before in let t = e .before in let n = t .before .before in let l = n .before in let a = l .before .before .before .before .args in
     c .ends-at .ensures ∙ ap (λ (k : ℕ). endsAt (a .m .now) k) (x .next-at .ensures)
     ∙ sym (l .loop .inv .1 ∙ right-last (a .f .now) (a .m .now) (l .loop .state) (a .content .now) (l .loop .at) (n .mark-at .result) (t .took-row .result) (l .loop .inv .0) (n .mark-at .ensures) (t .took-row .ensures) (c .before .if2 .taken) (e .if1 .left))
 
--- src/lib.rt:100:9
 next-line-requires : tie.Need-next-line-requires Inv-loop μ-loop
 next-line-requires c κs = search needs
 
--- src/lib.rt:90:5
 loop-less : tie.Need-loop-less Inv-loop μ-loop
 loop-less c = omega arith
 
--- src/lib.rt:90:5
 loop-again : tie.Need-loop-again Inv-loop μ-loop
 loop-again c = let x = c .before .before in let e = x .before in let t = e .before in let n = t .before .before in let l = n .before in let a = l .before .before .before .before .args in (
   omega arith,

@@ -8,11 +8,6 @@ use Rattle.machine.specs.Machine.{tookFrom}
 use Rattle.machine.proofs.MachineLaws.{took-held, took-wrong, took-miss, took-none}
 use Rattle.machine.proofs.row_from.Statement.{statement}
 use Rattle.machine.proofs.row_from.Tie as tie
-use Rattle.machine.proofs.row_from.Reads as reads
-use Rattle.machine.proofs.row_from.Lts as lts
-use Rattle.machine.proofs.is_as.Reads as is-as-reads
-use Rattle.machine.proofs.is_held.Reads as is-held-reads
-use Rattle.machine.proofs.size.Reads as size-reads
 
 abbrev Inv-loop : tie.InvT-loop
 Inv-loop f m q line n₀ n = tookFrom f m q line ≡ tookFrom f m n line

@@ -4,9 +4,6 @@ use Rattle.machine.proofs.MachineLaws.{took-empty, took-some}
 use borrow.Author.Needs.{needs}
 use Rattle.machine.proofs.took_row.Statement.{statement}
 use Rattle.machine.proofs.took_row.Tie as tie
-use Rattle.machine.proofs.took_row.Reads as reads
-use Rattle.machine.proofs.took_row.Lts as lts
-use Rattle.machine.proofs.row_from.Reads as row-from-reads
 
 returns : tie.Need-returns
 returns c = let a = c .before .before .before .before .args in sym (took-empty (a .f .now) (a .m .now) (a .q) (a .line .now) (c .if1 .taken))

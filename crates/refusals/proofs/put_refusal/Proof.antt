@@ -2,7 +2,7 @@
 use mathlib.Core.Path.{subst, _∙_}
 use mathlib.Core.List.{List}
 use Prim.Native.Nat.{ℕ}
-use Rattle.refusals.specs.Shown.{Puts}
+use Rattle.refusals.specs.Shown.{Shows}
 use Rattle.refusals.proofs.LineLaws.{rest-of}
 use borrow.Author.Needs.{needs}
 use Rattle.refusals.proofs.put_refusal.Statement.{statement}
@@ -30,7 +30,7 @@ same-length : tie.Need-same-length
 same-length c = search needs
 
 returns : tie.Need-returns
-returns c = subst (λ (t : List ℕ). Puts t (c .before .before .before .before .before .before .before .before .before .before .args .out .now) (c .before .before .put-whole .result) (c .before .before .put-whole .last .1 .0)) (rest-of (c .before .before .before .before .before .before .before .lay-line .last .1 .1 .0) 50 (c .before .before .before .before .before .before .before .lay-line .result) (c .before .before .before .before .before .before .before .lay-line .kept .1 .1 .0) ∙ c .before .before .before .before .before .before .before .lay-line .ensures .1) (c .before .before .put-whole .ensures)
+returns c = subst (λ (t : List ℕ). Shows t (c .before .before .before .before .before .before .before .before .before .before .args .out .now) (c .before .before .put-whole .result) (c .before .before .put-whole .last .1 .0)) (rest-of (c .before .before .before .before .before .before .before .lay-line .last .1 .1 .0) 50 (c .before .before .before .before .before .before .before .lay-line .result) (c .before .before .before .before .before .before .before .lay-line .kept .1 .1 .0) ∙ c .before .before .before .before .before .before .before .lay-line .ensures .1) (c .before .before .put-whole .ensures)
 
 pub put-refusal-spec : {M : Type 1} → statement M
 put-refusal-spec =

@@ -1,11 +1,11 @@
 -- `refusals::put_whole` meets its contract: 17, or the text. Assumes nothing.
-use Rattle.refusals.proofs.LineLaws.{puts-short, puts-done}
+use Rattle.refusals.proofs.LineLaws.{shows-short, shows-done}
 use borrow.Author.Needs.{needs}
 use Rattle.refusals.proofs.put_whole.Statement.{statement}
 use Rattle.refusals.proofs.put_whole.Tie as tie
 
 returns : tie.Need-returns
-returns c = let a = c .before .before .before .args in puts-short (a .t .now) (a .out .now) (c .if1 .taken)
+returns c = let a = c .before .before .before .args in shows-short (a .t .now) (a .out .now) (c .if1 .taken)
 
 put-requires : tie.Need-put-requires
 put-requires c κs = search needs
@@ -14,7 +14,7 @@ same-length : tie.Need-same-length
 same-length c = search needs
 
 returns-2 : tie.Need-returns-2
-returns-2 c = let a = c .before .before .before .before .before .before .before .args in puts-done (a .t .now) (a .out .now) (c .before .before .before .before .if1 .left) (c .before .before .put .ensures)
+returns-2 c = let a = c .before .before .before .before .before .before .before .args in shows-done (a .t .now) (a .out .now) (c .before .before .before .before .if1 .left) (c .before .before .put .ensures)
 
 pub put-whole-spec : {M : Type 1} → statement M
 put-whole-spec = tie.close (tie.spec returns put-requires same-length returns-2)

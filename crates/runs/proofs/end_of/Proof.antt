@@ -1,3 +1,4 @@
+-- `runs::end_of` meets its contract. Assumes nothing.
 use native.Mathlib.Omega.{arith}
 use Rattle.runs.proofs.RunLaws.{drop-front, whole-front}
 use borrow.Author.Needs.{needs}

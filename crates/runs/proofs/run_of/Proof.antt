@@ -1,3 +1,4 @@
+-- `runs::run_of` meets its contract. Assumes nothing.
 use Rattle.runs.proofs.RunLaws.{run-past}
 use borrow.Author.Needs.{needs}
 use Rattle.runs.proofs.run_of.Statement.{statement}

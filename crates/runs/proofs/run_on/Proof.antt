@@ -1,3 +1,4 @@
+-- `runs::run_on` meets its contract. Assumes nothing.
 use Prim.Native.Nat.{_-_, _≤_, _+_}
 use mathlib.Core.Path.{_≡_, refl}
 use native.Mathlib.Omega.{arith}

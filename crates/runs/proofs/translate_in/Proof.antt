@@ -1,3 +1,4 @@
+-- `runs::translate_in` meets its contract. Assumes nothing.
 use Prim.Native.Nat.{suc, _-_, _≤_, _+_}
 use mathlib.Core.Path.{_≡_, refl, sym, _∙_, ap}
 use mathlib.Core.List.{_∷_}

@@ -1,3 +1,4 @@
+-- `runs::translate_on` meets its contract. Assumes nothing.
 use Prim.Native.Nat.{ℕ}
 use mathlib.Core.List.{_∷_}
 use Prim.Native.Nat.{_-_, _≤_, _+_}

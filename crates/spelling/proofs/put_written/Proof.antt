@@ -1,3 +1,4 @@
+-- `spelling::put_written` meets its contract. Assumes nothing.
 use mathlib.Core.Bool.{true, false}
 use borrow.Author.Needs.{needs}
 use Rattle.alphabets.proofs.PartLaws.{extent-long, put-long, put-by}

@@ -1,3 +1,4 @@
+-- `spelling::write_text` meets its contract. Assumes nothing.
 use native.Mathlib.Omega.{arith}
 use Rattle.alphabets.specs.Best.{writing}
 use Rattle.alphabets.specs.Text.{WrittenTo}

@@ -1,3 +1,4 @@
+-- `alphabets::parts::copy_latin` meets its contract. Assumes nothing.
 use Prim.Native.Nat.{_-_, _≤_, _+_}
 use mathlib.Core.Path.{_≡_, refl, sym, _∙_, ap}
 use mathlib.Core.Bool.{true}

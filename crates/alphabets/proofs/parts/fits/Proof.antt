@@ -1,3 +1,4 @@
+-- `alphabets::parts::fits` meets its contract. Assumes nothing.
 use Rattle.alphabets.proofs.PartLaws.{fits-not, fits-by}
 use Rattle.alphabets.proofs.parts.fits.Statement.{statement}
 use Rattle.alphabets.proofs.parts.fits.Tie as tie

@@ -1,3 +1,4 @@
+-- `alphabets::parts::put_piece` meets its contract. Assumes nothing.
 use mathlib.Core.Path.{_≡_, sym, _∙_}
 use borrow.Author.Tests.{not-true, not-false}
 use Rattle.alphabets.specs.Pieces.{pieceIn}

@@ -1,3 +1,4 @@
+-- `alphabets::parts::put_run` meets its contract. Assumes nothing.
 use Rattle.runs.proofs.RunLaws.{moved-whole}
 use Rattle.alphabets.proofs.SpokenLaws.{latin-room, russian-room, run-latin, run-russian}
 use borrow.Author.Needs.{needs}

@@ -3,8 +3,6 @@ use Rattle.base.proofs.ByteLaws.{past-end, past-in}
 use borrow.Author.Needs.{needs}
 use Rattle.base.proofs.bytes.past.Statement.{statement}
 use Rattle.base.proofs.bytes.past.Tie as tie
-use Rattle.base.proofs.bytes.past.Reads as reads
-use Rattle.base.proofs.bytes.past.Lts as lts
 
 slice-aggregate-result : tie.Need-slice-aggregate-result
 slice-aggregate-result c = search needs

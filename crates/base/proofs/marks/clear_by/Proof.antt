@@ -7,9 +7,6 @@ use mathlib.Core.Path.{_≡_, refl}
 use Prim.Native.Nat.{_+_, _-_, _≤_}
 use Rattle.base.proofs.marks.clear_by.Statement.{statement}
 use Rattle.base.proofs.marks.clear_by.Tie as tie
-use Rattle.base.proofs.marks.clear_by.Reads as reads
-use Rattle.base.proofs.marks.clear_by.Lts as lts
-use Rattle.base.proofs.marks.is_clear.Reads as is-clear-reads
 
 abbrev Inv-loop : tie.InvT-loop
 Inv-loop w c s at i₀ i = (i ≤ length s) × (i + upTo c (drop i s) ≡ at + upTo c (drop at s))

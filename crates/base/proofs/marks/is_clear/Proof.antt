@@ -10,8 +10,6 @@ use mathlib.Core.Path.{_≡_, sym, ap, _∙_}
 use Prim.Native.Nat.{ℕ, _+_, _-_, _≤_}
 use Rattle.base.proofs.marks.is_clear.Statement.{statement}
 use Rattle.base.proofs.marks.is_clear.Tie as tie
-use Rattle.base.proofs.marks.is_clear.Reads as reads
-use Rattle.base.proofs.marks.is_clear.Lts as lts
 
 abbrev Inv-loop : tie.InvT-loop
 Inv-loop w c s i clear₀ k₀ clear k = (k ≤ w) × (clear ≡ true → upTo c (drop i s) ≡ k + upTo c (drop (i + k) s))

@@ -4,10 +4,6 @@ use native.Mathlib.Omega.{arith}
 use mathlib.Core.Path.{_∙_}
 use Rattle.base.proofs.marks.mark_at.Statement.{statement}
 use Rattle.base.proofs.marks.mark_at.Tie as tie
-use Rattle.base.proofs.marks.mark_at.Reads as reads
-use Rattle.base.proofs.marks.mark_at.Lts as lts
-use Rattle.base.proofs.marks.clear_by.Reads as clear-by-reads
-use Rattle.base.proofs.marks.mark_from.Reads as mark-from-reads
 
 returns : tie.Need-returns
 returns c = let a = c .before .before .args in omega (arith, up-end (a .c) (a .s .now) (a .at) (omega arith))

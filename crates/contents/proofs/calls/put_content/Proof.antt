@@ -6,10 +6,6 @@ use Rattle.contents.proofs.CallLaws.{fits-within, content-none, measure
 use borrow.Author.Needs.{needs}
 use Rattle.contents.proofs.calls.put_content.Statement.{statement}
 use Rattle.contents.proofs.calls.put_content.Tie as tie
-use Rattle.contents.proofs.calls.put_content.Reads as reads
-use Rattle.contents.proofs.calls.put_content.Lts as lts
-use Rattle.alphabets.proofs.parts.fits.Reads as fits-reads
-use Rattle.contents.proofs.calls.put_parts.Reads as put-parts-reads
 
 returns : tie.Need-returns
 returns c = content-none (c .before .before .before .args .back .now) (c .before .before .before .args .sign) (c .before .before .before .args .shape) (c .before .before .before .args .c .now) (c .before .before .before .args .out .now) (c .before .before .before .args .at) (c .if1 .taken)

@@ -1,25 +1,10 @@
--- `contents::calls::put_parts` meets its contract: by the way. Assumes nothing.
-use mathlib.Core.Path.{sym, _∙_}
+-- `contents::calls::put_parts` meets its contract: by the shape. Assumes nothing.
 use native.Mathlib.Omega.{arith}
-use Rattle.contents.proofs.CallLaws.{way-put}
+use Rattle.contents.specs.Contents.{contentBy}
+use Rattle.contents.proofs.CallLaws.{shape-put, lines-put}
 use borrow.Author.Needs.{needs}
 use Rattle.contents.proofs.calls.put_parts.Statement.{statement}
 use Rattle.contents.proofs.calls.put_parts.Tie as tie
-use Rattle.contents.proofs.calls.put_parts.Reads as reads
-use Rattle.contents.proofs.calls.put_parts.Lts as lts
-use Rattle.contents.proofs.calls.way_of.Reads as way-of-reads
-use Rattle.contents.proofs.notes.put_note.Reads as put-note-reads
-use Rattle.contents.proofs.notes.put_told.Reads as put-told-reads
-use Rattle.contents.proofs.texts.put_lines.Reads as put-lines-reads
-
-way-of-requires : tie.Need-way-of-requires
-way-of-requires c κs = search needs
-
-enum-known-role : tie.Need-enum-known-role
-enum-known-role c = search needs
-
-put-lines-requires : tie.Need-put-lines-requires
-put-lines-requires c κs = search needs
 
 enum-told : tie.Need-enum-told
 enum-told c = search needs
@@ -30,41 +15,65 @@ put-told-requires c κs = search needs
 enum-told-2 : tie.Need-enum-told-2
 enum-told-2 c = search needs
 
+put-lines-requires : tie.Need-put-lines-requires
+put-lines-requires c κs = search needs
+
+enum-told-3 : tie.Need-enum-told-3
+enum-told-3 c = search needs
+
 put-note-requires : tie.Need-put-note-requires
 put-note-requires c κs = search needs
+
+first-role-requires : tie.Need-first-role-requires
+first-role-requires c κs = search needs
+
+put-lines-requires-2 : tie.Need-put-lines-requires-2
+put-lines-requires-2 c κs = search needs
 
 same-length : tie.Need-same-length
 same-length c = search needs
 
 returns : tie.Need-returns
-returns c = (omega (arith, (c .before .before .put-lines .ensures .0)), way-put (c .before .before .before .before .before .before .before .before .before .before .args .back .now) (c .before .before .before .before .before .before .before .before .before .before .args .sign) (c .before .before .before .before .before .before .before .before .before .before .args .shape) (c .before .before .before .before .before .before .before .before .before .before .args .c .now) _ (sym (c .before .before .before .before .before .role .given .1) ∙ c .before .before .before .before .before .before .before .way-of .ensures) (c .before .before .put-lines .ensures .1))
+unfolding contentBy
+returns c = let a = c .before .before .before .before .before .before .before .before .args in let p = c .before .before .put-told .ensures in (omega (arith, p .0), shape-put (a .back .now) (a .sign) (a .c .now) (c .before .before .before .before .enum-told .given .1) (p .1))
 
 same-length-2 : tie.Need-same-length-2
 same-length-2 c = search needs
 
 returns-2 : tie.Need-returns-2
-returns-2 c = (omega (arith, (c .before .before .put-told .ensures .0)), way-put (c .before .before .before .before .before .before .before .before .before .args .back .now) (c .before .before .before .before .before .before .before .before .before .args .sign) (c .before .before .before .before .before .before .before .before .before .args .shape) (c .before .before .before .before .before .before .before .before .before .args .c .now) _ (sym (c .before .before .before .before .enum-told .given .1) ∙ c .before .before .before .before .before .before .way-of .ensures) (c .before .before .put-told .ensures .1))
+unfolding contentBy
+returns-2 c = let a = c .before .before .before .before .before .before .before .before .args in let p = c .before .before .put-lines .ensures in (omega (arith, p .0), shape-put (a .back .now) (a .sign) (a .c .now) (c .before .before .before .before .enum-told2 .given .1) (p .1))
 
 same-length-3 : tie.Need-same-length-3
 same-length-3 c = search needs
 
 returns-3 : tie.Need-returns-3
-returns-3 c = (omega (arith, (c .before .before .put-note .ensures .0)), way-put (c .before .before .before .before .before .before .before .before .before .args .back .now) (c .before .before .before .before .before .before .before .before .before .args .sign) (c .before .before .before .before .before .before .before .before .before .args .shape) (c .before .before .before .before .before .before .before .before .before .args .c .now) _ (sym (c .before .before .before .before .enum-told2 .given .1) ∙ c .before .before .before .before .before .before .way-of .ensures) (c .before .before .put-note .ensures .1))
+unfolding contentBy
+returns-3 c = let a = c .before .before .before .before .before .before .before .before .args in let p = c .before .before .put-note .ensures in (p .0, shape-put (a .back .now) (a .sign) (a .c .now) (c .before .before .before .before .enum-told3 .given .1) (p .1))
+
+same-length-4 : tie.Need-same-length-4
+same-length-4 c = search needs
+
+returns-4 : tie.Need-returns-4
+returns-4 c = let a = c .before .before .before .before .before .before .before .before .args in let p = c .before .before .put-lines2 .ensures in (omega (arith, p .0), lines-put (a .back .now) (a .sign) (a .c .now) (a .shape) (c .before .before .before .before .before .match .keys4) (c .before .before .before .before .first-role .ensures) (p .1))
 
 pub put-parts-spec : {M : Type 1} → statement M
 put-parts-spec =
     tie.close
     (tie.spec
-    way-of-requires
-    enum-known-role
-    put-lines-requires
     enum-told
     put-told-requires
     enum-told-2
+    put-lines-requires
+    enum-told-3
     put-note-requires
+    first-role-requires
+    put-lines-requires-2
     same-length
     returns
     same-length-2
     returns-2
     same-length-3
-    returns-3)
+    returns-3
+    same-length-4
+    returns-4)

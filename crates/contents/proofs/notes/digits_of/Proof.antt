@@ -6,10 +6,6 @@ use mathlib.Core.Path.{sym, ap, _∙_}
 use borrow.Author.Needs.{needs}
 use Rattle.contents.proofs.notes.digits_of.Statement.{statement}
 use Rattle.contents.proofs.notes.digits_of.Tie as tie
-use Rattle.contents.proofs.notes.digits_of.Reads as reads
-use Rattle.contents.proofs.notes.digits_of.Lts as lts
-use Rattle.base.proofs.bytes.front.Reads as front-reads
-use Rattle.base.proofs.bytes.past.Reads as past-reads
 
 past-requires : tie.Need-past-requires
 past-requires c κs = search needs

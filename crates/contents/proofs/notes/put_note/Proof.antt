@@ -2,19 +2,9 @@
 use Rattle.contents.proofs.NoteLaws.{first-needs, note-none, rpp-needs, rest-needs, note-alone, note-more}
 use Rattle.roles.proofs.LineLaws.{head-size}
 use borrow.Author.Tests.{not-true, not-false}
-use Prim.Native.Nat.{_-_}
 use borrow.Author.Needs.{needs}
 use Rattle.contents.proofs.notes.put_note.Statement.{statement}
 use Rattle.contents.proofs.notes.put_note.Tie as tie
-use Rattle.contents.proofs.notes.put_note.Reads as reads
-use Rattle.contents.proofs.notes.put_note.Lts as lts
-use Rattle.base.proofs.bytes.put.Reads as put-reads
-use Rattle.base.proofs.marks.mark_at.Reads as mark-at-reads
-use Rattle.machine.proofs.lines.next_line.Reads as next-line-reads
-use Rattle.contents.proofs.notes.put_told.Reads as put-told-reads
-use Rattle.base.proofs.bytes.past.Reads as past-reads
-use Rattle.contents.proofs.texts.put_part.Reads as put-part-reads
-use Rattle.values.proofs.parts.is_rpp.Reads as is-rpp-reads
 
 mark-at-requires : tie.Need-mark-at-requires
 mark-at-requires c κs = search needs

@@ -6,15 +6,6 @@ use native.Mathlib.Omega.{arith}
 use borrow.Author.Needs.{needs}
 use Rattle.contents.proofs.notes.put_told.Statement.{statement}
 use Rattle.contents.proofs.notes.put_told.Tie as tie
-use Rattle.contents.proofs.notes.put_told.Reads as reads
-use Rattle.contents.proofs.notes.put_told.Lts as lts
-use Rattle.base.proofs.bytes.put.Reads as put-reads
-use Rattle.base.proofs.marks.mark_at.Reads as mark-at-reads
-use Rattle.contents.proofs.notes.code_size.Reads as code-size-reads
-use Rattle.contents.proofs.notes.digits_of.Reads as digits-of-reads
-use Rattle.base.proofs.bytes.past.Reads as past-reads
-use Rattle.contents.proofs.texts.put_over.Reads as put-over-reads
-use Rattle.contents.proofs.texts.put_part.Reads as put-part-reads
 
 mark-at-requires : tie.Need-mark-at-requires
 mark-at-requires c κs = search needs

@@ -1,5 +1,6 @@
 -- `contents::texts::put_lines` meets its contract: from each line on as from the first. Assumes nothing.
-use Rattle.contents.proofs.StepLaws.{Leads, this-within, line-less, part-needs, part-last, part-next, lines-last, lines-on}
+use Rattle.contents.proofs.StepLaws.{this-within, line-less, part-needs, part-last, part-next, lines-last, lines-on}
+use Rattle.base.proofs.Room.{Leads}
 use Rattle.contents.specs.Contents.{partsBy}
 use Rattle.machine.specs.Lines.{linesIn}
 use Rattle.records.specs.Record.{tabbed}
@@ -11,14 +12,6 @@ use Prim.Native.Nat.{_+_, _-_, _≤_}
 use borrow.Author.Needs.{needs}
 use Rattle.contents.proofs.texts.put_lines.Statement.{statement}
 use Rattle.contents.proofs.texts.put_lines.Tie as tie
-use Rattle.contents.proofs.texts.put_lines.Reads as reads
-use Rattle.contents.proofs.texts.put_lines.Lts as lts
-use Rattle.base.proofs.marks.mark_at.Reads as mark-at-reads
-use Rattle.machine.proofs.lines.next_line.Reads as next-line-reads
-use Rattle.roles.proofs.parts.is_spoken.Reads as is-spoken-reads
-use Rattle.roles.proofs.parts.next_role.Reads as next-role-reads
-use Rattle.base.proofs.bytes.past.Reads as past-reads
-use Rattle.contents.proofs.texts.put_part.Reads as put-part-reads
 
 abbrev Inv-loop : tie.InvT-loop
 Inv-loop back sign mark c out₀ at role₀ n₀ i₀ out role n i = (length out ≡ length out₀) × (i ≤ length c) × (n ≤ at + i)

@@ -1,5 +1,6 @@
 -- `contents::texts::put_over` meets its contract: from each line on as from the first. Assumes nothing.
-use Rattle.contents.proofs.StepLaws.{Leads, this-within, line-less, piece-needs, piece-last, piece-next, over-last, over-on}
+use Rattle.contents.proofs.StepLaws.{this-within, line-less, piece-needs, piece-last, piece-next, over-last, over-on}
+use Rattle.base.proofs.Room.{Leads}
 use Rattle.contents.specs.Contents.{cutBy, overBy}
 use Rattle.machine.specs.Lines.{linesIn}
 use lib.ListN.{length, drop}
@@ -10,12 +11,6 @@ use Prim.Native.Nat.{_+_, _-_, _≤_}
 use borrow.Author.Needs.{needs}
 use Rattle.contents.proofs.texts.put_over.Statement.{statement}
 use Rattle.contents.proofs.texts.put_over.Tie as tie
-use Rattle.contents.proofs.texts.put_over.Reads as reads
-use Rattle.contents.proofs.texts.put_over.Lts as lts
-use Rattle.base.proofs.marks.mark_at.Reads as mark-at-reads
-use Rattle.machine.proofs.lines.next_line.Reads as next-line-reads
-use Rattle.base.proofs.bytes.past.Reads as past-reads
-use Rattle.contents.proofs.texts.put_text.Reads as put-text-reads
 
 abbrev Inv-loop : tie.InvT-loop
 Inv-loop back sign front mark c out₀ at d₀ latin₀ n₀ i₀ out d latin n i = (length out ≡ length out₀) × (i ≤ length c) × (n ≤ at + i)

@@ -4,10 +4,6 @@ use native.Mathlib.Omega.{arith}
 use borrow.Author.Needs.{needs}
 use Rattle.contents.proofs.texts.put_part.Statement.{statement}
 use Rattle.contents.proofs.texts.put_part.Tie as tie
-use Rattle.contents.proofs.texts.put_part.Reads as reads
-use Rattle.contents.proofs.texts.put_part.Lts as lts
-use Rattle.base.proofs.bytes.put.Reads as put-reads
-use Rattle.contents.proofs.texts.put_text.Reads as put-text-reads
 
 slice-aggregate-put : tie.Need-slice-aggregate-put
 slice-aggregate-put c = search needs

@@ -5,18 +5,13 @@ use lib.ListN.{List·getD-eq-default}
 use borrow.Author.Needs.{needs}
 use Rattle.formats.proofs.conditions.byte_at.Statement.{statement}
 use Rattle.formats.proofs.conditions.byte_at.Tie as tie
-use Rattle.formats.proofs.conditions.byte_at.Reads as reads
-use Rattle.formats.proofs.conditions.byte_at.Lts as lts
 
--- src/conditions.rt:14:22
 shared-slice-read-result : tie.Need-shared-slice-read-result
 shared-slice-read-result c = search needs
 
--- src/conditions.rt:11:1
 returns : tie.Need-returns
 returns c = search needs
 
--- src/conditions.rt:11:1
 returns-2 : tie.Need-returns-2
 returns-2 c = sym (List·getD-eq-default (c .before .args .s .now) 0 (omega arith))
 

@@ -9,8 +9,6 @@ use Rattle.formats.specs.Format.{apart}
 use Rattle.formats.proofs.FormatLaws.{apart-next, apart-end}
 use Rattle.formats.proofs.conditions.is_apart.Statement.{statement}
 use Rattle.formats.proofs.conditions.is_apart.Tie as tie
-use Rattle.formats.proofs.conditions.is_apart.Reads as reads
-use Rattle.formats.proofs.conditions.is_apart.Lts as lts
 
 abbrev Inv-loop : tie.InvT-loop
 Inv-loop s edge₀ i₀ edge i = apart true s ≡ apart edge (drop i s)
@@ -18,46 +16,36 @@ Inv-loop s edge₀ i₀ edge i = apart true s ≡ apart edge (drop i s)
 abbrev μ-loop : tie.MeasureT-loop
 μ-loop s edge₀ i₀ edge i = length s - i
 
--- src/conditions.rt:23:5
 loop-holds : tie.Need-loop-holds Inv-loop μ-loop
 loop-holds c = refl
 
--- src/conditions.rt:24:12
 shared-slice-read-if1 : tie.Need-shared-slice-read-if1 Inv-loop μ-loop
 shared-slice-read-if1 c = omega arith
 
--- src/conditions.rt:26:17
 returns : tie.Need-returns Inv-loop μ-loop
 returns c = let l = c .before .before .before .before in let s = l .before .args .s .now in
     sym (l .loop .inv ∙ apart-next (l .loop .edge) s (l .loop .i) true (omega arith) (eq-eqb _ _ (c .before .if1 .taken)) ∙ ap (λ (p : Bool). not p && apart true (drop (l .loop .i + 1) s)) (c .if2 .taken))
 
--- src/conditions.rt:29:13
 add-i : tie.Need-add-i Inv-loop μ-loop
 add-i c = omega arith
 
--- src/conditions.rt:23:5
 loop-less : tie.Need-loop-less Inv-loop μ-loop
 loop-less c = omega arith
 
--- src/conditions.rt:23:5
 loop-again : tie.Need-loop-again Inv-loop μ-loop
 loop-again c = let l = c .before .before .before .before in let s = l .before .args .s .now in
     l .loop .inv ∙ apart-next (l .loop .edge) s (l .loop .i) true (omega arith) (eq-eqb _ _ (c .before .if1 .taken)) ∙ ap (λ (p : Bool). not p && apart true (drop (l .loop .i + 1) s)) (c .if2 .left)
 
--- src/conditions.rt:33:9
 add-i-2 : tie.Need-add-i-2 Inv-loop μ-loop
 add-i-2 c = omega arith
 
--- src/conditions.rt:23:5
 loop-less-2 : tie.Need-loop-less-2 Inv-loop μ-loop
 loop-less-2 c = omega arith
 
--- src/conditions.rt:23:5
 loop-again-2 : tie.Need-loop-again-2 Inv-loop μ-loop
 loop-again-2 c = let l = c .before .before .before in let s = l .before .args .s .now in
     l .loop .inv ∙ apart-next (l .loop .edge) s (l .loop .i) false (omega arith) (ne-eqb _ _ (c .if1 .left))
 
--- src/conditions.rt:18:1
 returns-2 : tie.Need-returns-2 Inv-loop μ-loop
 returns-2 c = sym (c .before .loop .inv ∙ apart-end (c .before .loop .edge) (c .before .before .args .s .now) (c .before .loop .i) (c .loop-test .left))
 

@@ -4,18 +4,13 @@ use Rattle.formats.proofs.FormatLaws.{plus-short, plus-one}
 use borrow.Author.Needs.{needs}
 use Rattle.formats.proofs.conditions.is_not_plus.Statement.{statement}
 use Rattle.formats.proofs.conditions.is_not_plus.Tie as tie
-use Rattle.formats.proofs.conditions.is_not_plus.Reads as reads
-use Rattle.formats.proofs.conditions.is_not_plus.Lts as lts
 
--- src/conditions.rt:42:9
 returns : tie.Need-returns
 returns c = sym (plus-short (c .before .args .s .now) (c .if1 .taken))
 
--- src/conditions.rt:44:5
 shared-slice-read-result : tie.Need-shared-slice-read-result
 shared-slice-read-result c = search needs
 
--- src/conditions.rt:38:1
 returns-2 : tie.Need-returns-2
 returns-2 c = sym (plus-one (c .before .before .args .s .now) (c .before .if1 .left))
 

@@ -3,20 +3,15 @@ use Rattle.base.proofs.Flags.{flags}
 use Rattle.formats.specs.Format.{purpose}
 use Rattle.formats.proofs.conditions.is_purpose.Statement.{statement}
 use Rattle.formats.proofs.conditions.is_purpose.Tie as tie
-use Rattle.formats.proofs.conditions.is_purpose.Reads as reads
-use Rattle.formats.proofs.conditions.is_purpose.Lts as lts
 
--- src/conditions.rt:95:9
 returns : tie.Need-returns
 unfolding purpose
 returns c = search flags depth 9
 
--- src/conditions.rt:98:9
 returns-2 : tie.Need-returns-2
 unfolding purpose
 returns-2 c = search flags depth 9
 
--- src/conditions.rt:91:1
 returns-3 : tie.Need-returns-3
 unfolding purpose
 returns-3 c = search flags depth 9

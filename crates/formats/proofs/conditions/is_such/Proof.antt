@@ -4,50 +4,35 @@ use Rattle.formats.specs.Format.{meets}
 use borrow.Author.Needs.{needs}
 use Rattle.formats.proofs.conditions.is_such.Statement.{statement}
 use Rattle.formats.proofs.conditions.is_such.Tie as tie
-use Rattle.formats.proofs.conditions.is_such.Reads as reads
-use Rattle.formats.proofs.conditions.is_such.Lts as lts
-use Rattle.formats.proofs.conditions.is_apart.Reads as is-apart-reads
-use Rattle.formats.proofs.conditions.is_not_plus.Reads as is-not-plus-reads
-use Rattle.formats.proofs.conditions.is_purpose_first.Reads as is-purpose-first-reads
-use Rattle.formats.proofs.conditions.is_way_first.Reads as is-way-first-reads
 
--- src/conditions.rt:113:9
 is-apart-requires : tie.Need-is-apart-requires
 is-apart-requires c κs = search needs
 
--- src/conditions.rt:113:9
 returns : tie.Need-returns
 unfolding meets
 returns c = search flags depth 12
 
--- src/conditions.rt:116:9
 is-not-plus-requires : tie.Need-is-not-plus-requires
 is-not-plus-requires c κs = search needs
 
--- src/conditions.rt:116:9
 returns-2 : tie.Need-returns-2
 unfolding meets
 returns-2 c = search flags depth 12
 
--- src/conditions.rt:119:9
 is-way-first-requires : tie.Need-is-way-first-requires
 is-way-first-requires c κs = search needs
 
--- src/conditions.rt:119:9
 returns-3 : tie.Need-returns-3
 unfolding meets
 returns-3 c = search flags depth 12
 
--- src/conditions.rt:122:9
 is-purpose-first-requires : tie.Need-is-purpose-first-requires
 is-purpose-first-requires c κs = search needs
 
--- src/conditions.rt:122:9
 returns-4 : tie.Need-returns-4
 unfolding meets
 returns-4 c = search flags depth 12
 
--- src/conditions.rt:109:1
 returns-5 : tie.Need-returns-5
 unfolding meets
 returns-5 c = search flags depth 12

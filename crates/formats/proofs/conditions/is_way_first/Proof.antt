@@ -4,42 +4,31 @@ use Rattle.formats.specs.Format.{wayFirst}
 use borrow.Author.Needs.{needs}
 use Rattle.formats.proofs.conditions.is_way_first.Statement.{statement}
 use Rattle.formats.proofs.conditions.is_way_first.Tie as tie
-use Rattle.formats.proofs.conditions.is_way_first.Reads as reads
-use Rattle.formats.proofs.conditions.is_way_first.Lts as lts
-use Rattle.formats.proofs.conditions.is_word.Reads as is-word-reads
 
--- src/conditions.rt:69:8
 is-word-requires : tie.Need-is-word-requires
 is-word-requires c κs = search needs
 
--- src/conditions.rt:70:9
 returns : tie.Need-returns
 unfolding wayFirst
 returns c = search flags depth 12
 
--- src/conditions.rt:72:8
 is-word-requires-2 : tie.Need-is-word-requires-2
 is-word-requires-2 c κs = search needs
 
--- src/conditions.rt:73:9
 returns-2 : tie.Need-returns-2
 unfolding wayFirst
 returns-2 c = search flags depth 12
 
--- src/conditions.rt:75:8
 is-word-requires-3 : tie.Need-is-word-requires-3
 is-word-requires-3 c κs = search needs
 
--- src/conditions.rt:76:9
 returns-3 : tie.Need-returns-3
 unfolding wayFirst
 returns-3 c = search flags depth 12
 
--- src/conditions.rt:78:5
 is-word-requires-4 : tie.Need-is-word-requires-4
 is-word-requires-4 c κs = search needs
 
--- src/conditions.rt:66:1
 returns-4 : tie.Need-returns-4
 unfolding wayFirst
 returns-4 c = search flags depth 12

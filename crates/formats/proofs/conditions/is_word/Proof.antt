@@ -6,42 +6,31 @@ use Rattle.formats.proofs.FormatLaws.{four-short, four-long}
 use borrow.Author.Needs.{needs}
 use Rattle.formats.proofs.conditions.is_word.Statement.{statement}
 use Rattle.formats.proofs.conditions.is_word.Tie as tie
-use Rattle.formats.proofs.conditions.is_word.Reads as reads
-use Rattle.formats.proofs.conditions.is_word.Lts as lts
 
--- src/conditions.rt:52:9
 returns : tie.Need-returns
 returns c = let a = c .before .args in sym (four-short (a .s .now) (a .a) (a .b) (a .c) (a .d) (c .if1 .taken))
 
--- src/conditions.rt:54:8
 shared-slice-read-if2 : tie.Need-shared-slice-read-if2
 shared-slice-read-if2 c = search needs
 
--- src/conditions.rt:55:9
 returns-2 : tie.Need-returns-2
 returns-2 c = let a = c .before .before .before .args in search flags depth 9 ∙ sym (four-long (a .s .now) (a .a) (a .b) (a .c) (a .d) (omega arith))
 
--- src/conditions.rt:57:8
 shared-slice-read-if3 : tie.Need-shared-slice-read-if3
 shared-slice-read-if3 c = search needs
 
--- src/conditions.rt:58:9
 returns-3 : tie.Need-returns-3
 returns-3 c = let a = c .before .before .before .before .before .args in search flags depth 9 ∙ sym (four-long (a .s .now) (a .a) (a .b) (a .c) (a .d) (omega arith))
 
--- src/conditions.rt:60:8
 shared-slice-read-if4 : tie.Need-shared-slice-read-if4
 shared-slice-read-if4 c = search needs
 
--- src/conditions.rt:61:9
 returns-4 : tie.Need-returns-4
 returns-4 c = let a = c .before .before .before .before .before .before .before .args in search flags depth 9 ∙ sym (four-long (a .s .now) (a .a) (a .b) (a .c) (a .d) (omega arith))
 
--- src/conditions.rt:63:5
 shared-slice-read-result : tie.Need-shared-slice-read-result
 shared-slice-read-result c = search needs
 
--- src/conditions.rt:48:1
 returns-5 : tie.Need-returns-5
 returns-5 c = let a = c .before .before .before .before .before .before .before .before .args in search flags depth 9 ∙ sym (four-long (a .s .now) (a .a) (a .b) (a .c) (a .d) (omega arith))
 

@@ -5,13 +5,6 @@ use mathlib.Core.Path.{_∙_}
 use borrow.Author.Needs.{needs}
 use Rattle.judge.proofs.calls.content_verdict.Statement.{statement}
 use Rattle.judge.proofs.calls.content_verdict.Tie as tie
-use Rattle.judge.proofs.calls.content_verdict.Reads as reads
-use Rattle.judge.proofs.calls.content_verdict.Lts as lts
-use Rattle.judge.proofs.calls.inner_verdict.Reads as inner-verdict-reads
-use Rattle.judge.proofs.contents.contents_rule.Reads as contents-rule-reads
-use Rattle.forms.proofs.format_table.Reads as format-table-reads
-use Rattle.forms.proofs.row_table.Reads as row-table-reads
-use Rattle.judge.proofs.sign.is_signed.Reads as is-signed-reads
 
 is-signed-requires : tie.Need-is-signed-requires
 is-signed-requires c κs = search needs

@@ -6,12 +6,6 @@ use mathlib.Core.Path.{_∙_}
 use borrow.Author.Needs.{needs}
 use Rattle.judge.proofs.calls.inner_verdict.Statement.{statement}
 use Rattle.judge.proofs.calls.inner_verdict.Tie as tie
-use Rattle.judge.proofs.calls.inner_verdict.Reads as reads
-use Rattle.judge.proofs.calls.inner_verdict.Lts as lts
-use Rattle.alphabets.proofs.pieces.back_table.Reads as back-table-reads
-use Rattle.judge.proofs.facts.facts_of.Reads as facts-of-reads
-use Rattle.judge.proofs.facts.values_rule.Reads as values-rule-reads
-use Rattle.judge.proofs.speeches.speeches_rule.Reads as speeches-rule-reads
 
 facts-of-requires : tie.Need-facts-of-requires
 facts-of-requires c κs = search needs

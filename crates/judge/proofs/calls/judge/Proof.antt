@@ -5,11 +5,6 @@ use Rattle.frame.proofs.CallLaws.{taken, refused-by, found, fields-counted}
 use borrow.Author.Needs.{needs}
 use Rattle.judge.proofs.calls.judge.Statement.{statement}
 use Rattle.judge.proofs.calls.judge.Tie as tie
-use Rattle.judge.proofs.calls.judge.Reads as reads
-use Rattle.judge.proofs.calls.judge.Lts as lts
-use Rattle.frame.proofs.calls.frame.Reads as frame-reads
-use Rattle.frame.proofs.pass.refused.Reads as refused-reads
-use Rattle.judge.proofs.calls.content_verdict.Reads as content-verdict-reads
 
 frame-requires : tie.Need-frame-requires
 frame-requires c κs = search needs

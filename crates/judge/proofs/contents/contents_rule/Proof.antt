@@ -14,10 +14,6 @@ use borrow.Author.Needs.{needs}
 use Prim.Native.Nat.{_-_, _≤_}
 use Rattle.judge.proofs.contents.contents_rule.Statement.{statement}
 use Rattle.judge.proofs.contents.contents_rule.Tie as tie
-use Rattle.judge.proofs.contents.contents_rule.Reads as reads
-use Rattle.judge.proofs.contents.contents_rule.Lts as lts
-use Rattle.judge.proofs.parts.field_at.Reads as field-at-reads
-use Rattle.forms.proofs.is_right_field.Reads as is-right-field-reads
 
 abbrev Inv-loop : tie.InvT-loop
 Inv-loop kind sign f r m spots n k₀ k = (k ≤ n) × (firstWrong 8 (rightField kind sign) startOf 5 (fields m) ≡ firstWrong 8 (rightField kind sign) startOf (byte spots k) (drop k (fields m)))

@@ -1,9 +1,8 @@
+-- `judge::facts::colon_of` meets its contract. Assumes nothing.
 use borrow.Author.Needs.{needs}
 use Rattle.judge.proofs.FactLaws.{else-old, colon-is}
 use Rattle.judge.proofs.facts.colon_of.Statement.{statement}
 use Rattle.judge.proofs.facts.colon_of.Tie as tie
-use Rattle.judge.proofs.facts.colon_of.Reads as reads
-use Rattle.judge.proofs.facts.colon_of.Lts as lts
 
 returns : tie.Need-returns
 returns c = else-old _ (c .if1 .taken)

@@ -12,11 +12,6 @@ use mathlib.Core.Path.{_≡_, sym, ap, _∙_}
 use Prim.Native.Nat.{_-_, _≤_}
 use Rattle.judge.proofs.facts.facts_of.Statement.{statement}
 use Rattle.judge.proofs.facts.facts_of.Tie as tie
-use Rattle.judge.proofs.facts.facts_of.Reads as reads
-use Rattle.judge.proofs.facts.facts_of.Lts as lts
-use Rattle.judge.proofs.facts.note.Reads as note-reads
-use Rattle.judge.proofs.facts.nothing.Reads as nothing-reads
-use Rattle.judge.proofs.parts.field_at.Reads as field-at-reads
 
 abbrev Inv-loop : tie.InvT-loop
 Inv-loop m spots n f₀ k₀ f k = (k ≤ n) × (factsFrom nothingYet 5 (fields m) ≡ factsFrom f (byte spots k) (drop k (fields m)))

@@ -1,9 +1,8 @@
+-- `judge::facts::fault_of` meets its contract. Assumes nothing.
 use borrow.Author.Needs.{needs}
 use Rattle.judge.proofs.FactLaws.{else-old, fault-none, fault-some}
 use Rattle.judge.proofs.facts.fault_of.Statement.{statement}
 use Rattle.judge.proofs.facts.fault_of.Tie as tie
-use Rattle.judge.proofs.facts.fault_of.Reads as reads
-use Rattle.judge.proofs.facts.fault_of.Lts as lts
 
 returns : tie.Need-returns
 returns c = else-old _ (c .if1 .taken)

@@ -1,3 +1,4 @@
+-- `judge::facts::note` meets its contract. Assumes nothing.
 use borrow.Author.Needs.{needs}
 use Rattle.judge.proofs.FactLaws.{faults-in, made}
 use Rattle.judge.specs.Facts.{orElse, within, marked}
@@ -10,17 +11,6 @@ use Rattle.fields.specs.Shapes.{unpack}
 use Rattle.values.specs.Judged.{noDay, foreign, apart}
 use Rattle.judge.proofs.facts.note.Statement.{statement}
 use Rattle.judge.proofs.facts.note.Tie as tie
-use Rattle.judge.proofs.facts.note.Reads as reads
-use Rattle.judge.proofs.facts.note.Lts as lts
-use Rattle.judge.proofs.facts.colon_of.Reads as colon-of-reads
-use Rattle.judge.proofs.facts.either.Reads as either-reads
-use Rattle.judge.proofs.facts.fault_of.Reads as fault-of-reads
-use Rattle.judge.proofs.facts.is_idle.Reads as is-idle-reads
-use Rattle.values.proofs.faults.currency_fault.Reads as currency-fault-reads
-use Rattle.values.proofs.faults.day_fault.Reads as day-fault-reads
-use Rattle.values.proofs.faults.is_56.Reads as is-56-reads
-use Rattle.values.proofs.faults.is_57.Reads as is-57-reads
-use Rattle.values.proofs.faults.party_fault.Reads as party-fault-reads
 
 is-idle-requires : tie.Need-is-idle-requires
 is-idle-requires c κs = search needs

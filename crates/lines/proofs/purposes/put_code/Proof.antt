@@ -1,14 +1,12 @@
 -- `lines::purposes::put_code` meets its contract: three parts, with the sign and without. Assumes nothing.
 use native.Mathlib.Omega.{arith}
-use Rattle.lines.proofs.PurposeLaws.{three-puts, code-on, code-off}
+use Rattle.lines.proofs.PurposeLaws.{three-puts, code-puts}
 use Rattle.base.specs.Quoted.{bytes}
+use mathlib.Core.Bool.{true, false}
 use mathlib.Core.Path.{refl}
 use borrow.Author.Needs.{needs}
 use Rattle.lines.proofs.purposes.put_code.Statement.{statement}
 use Rattle.lines.proofs.purposes.put_code.Tie as tie
-use Rattle.lines.proofs.purposes.put_code.Reads as reads
-use Rattle.lines.proofs.purposes.put_code.Lts as lts
-use Rattle.base.proofs.bytes.put.Reads as put-reads
 
 slice-aggregate-put : tie.Need-slice-aggregate-put
 slice-aggregate-put c = search needs
@@ -29,7 +27,10 @@ same-length : tie.Need-same-length
 same-length c = search needs
 
 returns : tie.Need-returns
-returns c = let a = (c .before .before .before .before .before .before .before .before .before .before .before .before .before .before .before .before .before .args) in code-on (a .vo .now) (c .before .before .before .before .before .before .before .before .before .before .before .before .before .before .if1 .taken) (c .before .before .before .before .before .before .before .before .before .before .before .before .before .before .before .before .before .pre .0) refl (three-puts (bytes "'(VO") (a .vo .now) (bytes ")'") (c .before .before .before .before .before .before .before .before .before .before .before .put .ensures) refl (c .before .before .before .before .before .before .before .put2 .ensures) (omega (arith, (c .before .before .before .before .before .before .before .before .before .before .before .before .before .before .before .before .before .pre))) (c .before .before .put3 .ensures))
+returns c =
+    let s = c .before .before .before .before .before .before .before .before .before .before .before .before .before .before .before .before .before in
+    let a = s .args in
+    code-puts true (a .vo .now) (c .before .before .before .before .before .before .before .before .before .before .before .before .before .before .if1 .taken) refl (omega arith) (three-puts (bytes "'(VO") (a .vo .now) (bytes ")'") refl (c .before .before .before .before .before .before .before .before .before .before .before .put .ensures) (omega (arith, s .pre)) (c .before .before .before .before .before .before .before .put2 .ensures) refl (c .before .before .put3 .ensures))
 
 slice-aggregate-put-3 : tie.Need-slice-aggregate-put-3
 slice-aggregate-put-3 c = search needs
@@ -50,7 +51,10 @@ same-length-2 : tie.Need-same-length-2
 same-length-2 c = search needs
 
 returns-2 : tie.Need-returns-2
-returns-2 c = let a = (c .before .before .before .before .before .before .before .before .before .before .before .before .before .before .before .before .before .args) in code-off (a .vo .now) (c .before .before .before .before .before .before .before .before .before .before .before .before .before .before .if1 .left) (c .before .before .before .before .before .before .before .before .before .before .before .before .before .before .before .before .before .pre .0) refl (three-puts (bytes "(VO") (a .vo .now) (bytes ")") (c .before .before .before .before .before .before .before .before .before .before .before .put4 .ensures) refl (c .before .before .before .before .before .before .before .put5 .ensures) (omega (arith, (c .before .before .before .before .before .before .before .before .before .before .before .before .before .before .before .before .before .pre))) (c .before .before .put6 .ensures))
+returns-2 c =
+    let s = c .before .before .before .before .before .before .before .before .before .before .before .before .before .before .before .before .before in
+    let a = s .args in
+    code-puts false (a .vo .now) (c .before .before .before .before .before .before .before .before .before .before .before .before .before .before .if1 .left) refl (omega arith) (three-puts (bytes "(VO") (a .vo .now) (bytes ")") refl (c .before .before .before .before .before .before .before .before .before .before .before .put4 .ensures) (omega (arith, s .pre)) (c .before .before .before .before .before .before .before .put5 .ensures) refl (c .before .before .put6 .ensures))
 
 pub put-code-spec : {M : Type 1} → statement M
 put-code-spec =

@@ -26,7 +26,7 @@ returns : tie.Need-returns
 returns c = let a = c .before .before .before .before .before .before .before .before .before .before .args in let t = c .before .before in told-stop (a .sign) (a .place) (a .o) (a .vo .now) (a .text .now) (a .out .now) (a .at) _ (t .put-text .result) (not-put (t .put-text .result) (c .match .keys2)) (t .put-text .ensures .answers)
 
 returns-2 : tie.Need-returns-2
-returns-2 c = let a = c .before .before .before .before .before .before .before .before .before .before .before .before .before .args in let k = c .before .before .before .before .before .before .before .before in told-over (a .sign) (a .o) (a .vo .now) (a .text .now) (k .put-code .ensures .1) (k .put-code .ensures .3) (c .before .before .r .given .1) (c .before .before .before .before .before .put-text .ensures) (a .place) (a .out .now) (a .at) (c .if1 .taken)
+returns-2 c = let a = c .before .before .before .before .before .before .before .before .before .before .before .before .before .args in let k = c .before .before .before .before .before .before .before .before in told-over (a .sign) (a .o) (a .vo .now) (a .text .now) (k .put-code .ensures .2) (c .before .before .r .given .1) (c .before .before .before .before .before .put-text .ensures) (a .place) (a .out .now) (a .at) (c .if1 .taken)
 
 array-share-prefix-line : tie.Need-array-share-prefix-line
 array-share-prefix-line c = search needs
@@ -41,7 +41,7 @@ same-length : tie.Need-same-length
 same-length c = search needs
 
 returns-3 : tie.Need-returns-3
-returns-3 c = let a = c .before .before .before .before .before .before .before .before .before .before .before .before .before .before .before .before .before .before .args in let k = c .before .before .before .before .before .before .before .before .before .before .before .before .before in told-put (a .sign) (a .o) (a .vo .now) (a .text .now) (k .put-code .ensures .1) (k .put-code .ensures .3) (c .before .before .before .before .before .before .before .r .given .1) (c .before .before .before .before .before .before .before .before .before .before .put-text .ensures) (a .place) (a .out .now) (a .at) (search needs) (k .put-code .ensures .0) (c .before .before .lay-lines .ensures .0) (c .before .before .lay-lines .ensures .1)
+returns-3 c = let a = c .before .before .before .before .before .before .before .before .before .before .before .before .before .before .before .before .before .before .args in let k = c .before .before .before .before .before .before .before .before .before .before .before .before .before in told-put (a .sign) (a .o) (a .vo .now) (a .text .now) (k .put-code .ensures .2) (c .before .before .before .before .before .before .before .r .given .1) (c .before .before .before .before .before .before .before .before .before .before .put-text .ensures) (a .place) (a .out .now) (a .at) (search needs) (k .put-code .ensures .0) (c .before .before .lay-lines .ensures .0) (c .before .before .lay-lines .ensures .1)
 
 pub put-told-spec : {M : Type 1} → statement M
 put-told-spec =

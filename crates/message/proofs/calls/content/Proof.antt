@@ -5,10 +5,6 @@ use mathlib.Core.Path.{ap, _∙_}
 use borrow.Author.Needs.{needs}
 use Rattle.message.proofs.calls.content.Statement.{statement}
 use Rattle.message.proofs.calls.content.Tie as tie
-use Rattle.message.proofs.calls.content.Reads as reads
-use Rattle.message.proofs.calls.content.Lts as lts
-use Rattle.message.proofs.calls.cut.Reads as cut-reads
-use Rattle.message.proofs.calls.span.Reads as span-reads
 
 span-requires : tie.Need-span-requires
 span-requires c κs = search needs

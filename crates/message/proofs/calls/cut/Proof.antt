@@ -6,8 +6,6 @@ use mathlib.Core.Path.{sym, ap}
 use borrow.Author.Needs.{needs}
 use Rattle.message.proofs.calls.cut.Statement.{statement}
 use Rattle.message.proofs.calls.cut.Tie as tie
-use Rattle.message.proofs.calls.cut.Reads as reads
-use Rattle.message.proofs.calls.cut.Lts as lts
 
 enum-known-s : tie.Need-enum-known-s
 enum-known-s c = search needs

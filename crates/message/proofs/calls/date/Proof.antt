@@ -3,14 +3,6 @@ use Rattle.message.proofs.PartLaws.{day-refused, paid-inside, day-is}
 use borrow.Author.Needs.{needs}
 use Rattle.message.proofs.calls.date.Statement.{statement}
 use Rattle.message.proofs.calls.date.Tie as tie
-use Rattle.message.proofs.calls.date.Reads as reads
-use Rattle.message.proofs.calls.date.Lts as lts
-use Rattle.judge.proofs.calls.judge.Reads as judge-reads
-use Rattle.listing.proofs.spots.part_of.Reads as part-of-reads
-use Rattle.message.proofs.calls.cut.Reads as cut-reads
-use Rattle.message.proofs.calls.paid_place.Reads as paid-place-reads
-use Rattle.message.proofs.calls.split_day.Reads as split-day-reads
-use Rattle.values.proofs.days.date_of.Reads as date-of-reads
 
 judge-requires : tie.Need-judge-requires
 judge-requires c κs = search needs

@@ -3,13 +3,6 @@ use Rattle.message.proofs.PartLaws.{amount-refused, paid-inside, amount
 use borrow.Author.Needs.{needs}
 use Rattle.message.proofs.calls.kopecks.Statement.{statement}
 use Rattle.message.proofs.calls.kopecks.Tie as tie
-use Rattle.message.proofs.calls.kopecks.Reads as reads
-use Rattle.message.proofs.calls.kopecks.Lts as lts
-use Rattle.judge.proofs.calls.judge.Reads as judge-reads
-use Rattle.listing.proofs.spots.part_of.Reads as part-of-reads
-use Rattle.message.proofs.calls.cut.Reads as cut-reads
-use Rattle.message.proofs.calls.paid_place.Reads as paid-place-reads
-use Rattle.values.proofs.amounts.kopecks_of.Reads as kopecks-of-reads
 
 judge-requires : tie.Need-judge-requires
 judge-requires c κs = search needs

@@ -7,8 +7,6 @@ use mathlib.Core.Path.{sym, ap, _∙_}
 use Prim.Native.Nat.{ℕ}
 use Rattle.message.proofs.calls.paid_place.Statement.{statement}
 use Rattle.message.proofs.calls.paid_place.Tie as tie
-use Rattle.message.proofs.calls.paid_place.Reads as reads
-use Rattle.message.proofs.calls.paid_place.Lts as lts
 
 returns : tie.Need-returns
 returns c = paid-103 ∙ ap (λ (k : ℕ). find (placesOf k) (bytes "32A")) (sym (c .if1 .taken))

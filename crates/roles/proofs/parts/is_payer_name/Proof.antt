@@ -4,10 +4,6 @@ use mathlib.Core.Path.{sym, _∙_}
 use borrow.Author.Needs.{needs}
 use Rattle.roles.proofs.parts.is_payer_name.Statement.{statement}
 use Rattle.roles.proofs.parts.is_payer_name.Tie as tie
-use Rattle.roles.proofs.parts.is_payer_name.Reads as reads
-use Rattle.roles.proofs.parts.is_payer_name.Lts as lts
-use Rattle.values.proofs.parts.is_tax.Reads as is-tax-reads
-use Rattle.roles.proofs.clauses.starts.Reads as starts-reads
 
 starts-requires : tie.Need-starts-requires
 starts-requires c κs = search needs

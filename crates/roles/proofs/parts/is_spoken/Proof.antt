@@ -7,11 +7,6 @@ use mathlib.Core.Path.{refl, ap}
 use borrow.Author.Needs.{needs}
 use Rattle.roles.proofs.parts.is_spoken.Statement.{statement}
 use Rattle.roles.proofs.parts.is_spoken.Tie as tie
-use Rattle.roles.proofs.parts.is_spoken.Reads as reads
-use Rattle.roles.proofs.parts.is_spoken.Lts as lts
-use Rattle.values.proofs.parts.is_tax.Reads as is-tax-reads
-use Rattle.roles.proofs.parts.is_payer_name.Reads as is-payer-name-reads
-use Rattle.roles.proofs.clauses.starts.Reads as starts-reads
 
 returns : tie.Need-returns
 returns c = sign-off (c .before .before .args .sign) (c .before .before .args .role) (c .before .before .args .p .now) (not-true _ (c .if1 .taken))

@@ -5,9 +5,6 @@ use mathlib.Core.Path.{sym, _∙_}
 use borrow.Author.Needs.{needs}
 use Rattle.roles.proofs.parts.next_role.Statement.{statement}
 use Rattle.roles.proofs.parts.next_role.Tie as tie
-use Rattle.roles.proofs.parts.next_role.Reads as reads
-use Rattle.roles.proofs.parts.next_role.Lts as lts
-use Rattle.roles.proofs.clauses.starts.Reads as starts-reads
 
 enum-told : tie.Need-enum-told
 enum-told c = search needs

@@ -3,13 +3,6 @@ use Rattle.sheets.proofs.FieldLaws.{tag-some, tag-within, field-small, 
 use borrow.Author.Needs.{needs}
 use Rattle.sheets.proofs.built.put_field.Statement.{statement}
 use Rattle.sheets.proofs.built.put_field.Tie as tie
-use Rattle.sheets.proofs.built.put_field.Reads as reads
-use Rattle.sheets.proofs.built.put_field.Lts as lts
-use Rattle.base.proofs.bytes.put.Reads as put-reads
-use Rattle.contents.proofs.calls.put_content.Reads as put-content-reads
-use Rattle.fields.proofs.line_tag.Reads as line-tag-reads
-use Rattle.roles.proofs.shapes.shape_of.Reads as shape-of-reads
-use Rattle.sheets.proofs.built.put_tag.Reads as put-tag-reads
 
 line-tag-requires : tie.Need-line-tag-requires
 line-tag-requires c κs = search needs

@@ -1,6 +1,6 @@
 -- `sheets::built::put_records` meets its contract: from each field on as from the first. Assumes nothing.
 use borrow.Author.Needs.{needs}
-use Rattle.contents.proofs.StepLaws.{Leads}
+use Rattle.base.proofs.Room.{Leads}
 use Rattle.sheets.proofs.FieldLaws.{part, part-within, part-sound, at-on, at-end, sheet-on, sheet-end}
 use Rattle.sheets.specs.Steps.{Part, sheetBy}
 use Rattle.fields.specs.Field.{fields}
@@ -11,10 +11,6 @@ use mathlib.Core.Path.{_≡_, refl}
 use Prim.Native.Nat.{_+_, _-_, _*_, _≤_, _<_}
 use Rattle.sheets.proofs.built.put_records.Statement.{statement}
 use Rattle.sheets.proofs.built.put_records.Tie as tie
-use Rattle.sheets.proofs.built.put_records.Reads as reads
-use Rattle.sheets.proofs.built.put_records.Lts as lts
-use Rattle.sheets.proofs.built.put_field.Reads as put-field-reads
-use Rattle.sheets.proofs.built.put_type.Reads as put-type-reads
 
 abbrev Inv-loop : tie.InvT-loop
 Inv-loop back kind sign m spots n out₀ at₀ k₀ out at k = (length out ≡ length out₀) × (k ≤ n) × (at ≤ byte spots k + 2 + 5 * k)

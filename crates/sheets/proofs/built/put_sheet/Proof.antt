@@ -4,12 +4,7 @@ use mathlib.Core.Path.{_∙_}
 use borrow.Author.Needs.{needs}
 use Rattle.sheets.proofs.built.put_sheet.Statement.{statement}
 use Rattle.sheets.proofs.built.put_sheet.Tie as tie
-use Rattle.sheets.proofs.built.put_sheet.Reads as reads
-use Rattle.sheets.proofs.built.put_sheet.Lts as lts
-use Rattle.alphabets.proofs.pieces.back_table.Reads as back-table-reads
-use Rattle.judge.proofs.sign.is_signed.Reads as is-signed-reads
 use Rattle.judge.proofs.PartLaws.{signed-is}
-use Rattle.sheets.proofs.built.put_records.Reads as put-records-reads
 
 back-table-requires : tie.Need-back-table-requires
 back-table-requires c κs = search needs

@@ -4,9 +4,6 @@ use mathlib.Core.Path.{refl}
 use borrow.Author.Needs.{needs}
 use Rattle.sheets.proofs.built.put_type.Statement.{statement}
 use Rattle.sheets.proofs.built.put_type.Tie as tie
-use Rattle.sheets.proofs.built.put_type.Reads as reads
-use Rattle.sheets.proofs.built.put_type.Lts as lts
-use Rattle.base.proofs.bytes.put.Reads as put-reads
 
 slice-aggregate-put : tie.Need-slice-aggregate-put
 slice-aggregate-put c = search needs

@@ -4,8 +4,6 @@ use native.Mathlib.Omega.{arith}
 use borrow.Author.Needs.{needs}
 use Rattle.sheets.proofs.built.tag_end.Statement.{statement}
 use Rattle.sheets.proofs.built.tag_end.Tie as tie
-use Rattle.sheets.proofs.built.tag_end.Reads as reads
-use Rattle.sheets.proofs.built.tag_end.Lts as lts
 
 shared-slice-read-if1 : tie.Need-shared-slice-read-if1
 shared-slice-read-if1 c = search needs

@@ -4,9 +4,6 @@ use Rattle.sheets.proofs.CallLaws.{own-refused, judged-sound}
 use borrow.Author.Needs.{needs}
 use Rattle.sheets.proofs.calls.read_judged.Statement.{statement}
 use Rattle.sheets.proofs.calls.read_judged.Tie as tie
-use Rattle.sheets.proofs.calls.read_judged.Reads as reads
-use Rattle.sheets.proofs.calls.read_judged.Lts as lts
-use Rattle.sheets.proofs.calls.read_sound.Reads as read-sound-reads
 
 enum-known-verdict : tie.Need-enum-known-verdict
 enum-known-verdict c = search needs

@@ -3,9 +3,6 @@ use Rattle.sheets.proofs.CallLaws.{sheet-short, sheet-done}
 use borrow.Author.Needs.{needs}
 use Rattle.sheets.proofs.calls.read_measured.Statement.{statement}
 use Rattle.sheets.proofs.calls.read_measured.Tie as tie
-use Rattle.sheets.proofs.calls.read_measured.Reads as reads
-use Rattle.sheets.proofs.calls.read_measured.Lts as lts
-use Rattle.sheets.proofs.built.put_sheet.Reads as put-sheet-reads
 
 slice-aggregate-put-sheet : tie.Need-slice-aggregate-put-sheet
 slice-aggregate-put-sheet c = search needs

@@ -4,10 +4,6 @@ use Rattle.sheets.proofs.CallLaws.{sheet-done}
 use borrow.Author.Needs.{needs}
 use Rattle.sheets.proofs.calls.read_sound.Statement.{statement}
 use Rattle.sheets.proofs.calls.read_sound.Tie as tie
-use Rattle.sheets.proofs.calls.read_sound.Reads as reads
-use Rattle.sheets.proofs.calls.read_sound.Lts as lts
-use Rattle.sheets.proofs.built.put_sheet.Reads as put-sheet-reads
-use Rattle.sheets.proofs.calls.read_measured.Reads as read-measured-reads
 
 add-if1 : tie.Need-add-if1
 add-if1 c = search needs

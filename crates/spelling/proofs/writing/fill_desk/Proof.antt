@@ -1,3 +1,4 @@
+-- `spelling::writing::fill_desk` meets its contract. Assumes nothing.
 use lib.ListN.{length-drop}
 use lib.Seq.{length-take-le}
 use Prim.Native.Nat.{ℕ, _-_, _≤_, _<_, _+_}

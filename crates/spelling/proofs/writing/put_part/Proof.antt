@@ -1,3 +1,4 @@
+-- `spelling::writing::put_part` meets its contract. Assumes nothing.
 use Rattle.spelling.proofs.WriteLaws.{one-letter}
 use borrow.Author.Needs.{needs}
 use Rattle.spelling.proofs.writing.put_part.Statement.{statement}

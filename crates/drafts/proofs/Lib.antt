@@ -1,5 +1,0 @@
-pub mod PartLaws
-pub mod NoteLaws
-pub mod PutLaws
-pub mod CallLaws
-pub mod Theorems

@@ -1,3 +1,0 @@
-pub mod Sheet
-pub mod Draft
-pub mod Steps

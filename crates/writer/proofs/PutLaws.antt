@@ -1,0 +1,292 @@
+-- Records as fields, one behind another, and the whole message. Assumes nothing.
+use Prim.Native.Nat.{ℕ, _+_, _-_, _≤_, _<_}
+use mathlib.Core.Path.{_≡_, refl, sym, ap, ap₂, subst, _∙_}
+use mathlib.Core.Bool.{Bool, true, false, not, _&&_, _||_, true≢false, false≢true}
+use mathlib.Core.List.{List, [], _∷_, _++_, map, append-assoc}
+use native.Mathlib.Omega.{arith}
+use native.Mathlib.Decide.{decLt}
+use types.Run.{OneOf}
+use denote.Enum.Declared.{tagOf}
+use Rattle.roles.proofs.Shape.{the-type}
+use Rattle.roles.proofs.PartLaws.{each-lined}
+use lib.ListN.{length, take, drop}
+use Rattle.base.specs.Choice.{pick}
+use Rattle.base.specs.Bytes.{begins, empty, upTo}
+use Rattle.base.specs.Rules.{then}
+use Rattle.base.specs.Calls.{Answer, said, stuck}
+use Rattle.base.specs.declared.Verdict.{Verdict}
+use Rattle.base.specs.declared.Verdict.the-variants.{Fine, Broken}
+use Rattle.base.proofs.Bools.{left, right}
+use Rattle.base.proofs.RuleLaws.{fine-broken, then-fine}
+use Rattle.alphabets.specs.Bank.{plainly}
+use Rattle.fields.specs.Field.{field, laid, lined, linesOf, closing}
+use Rattle.fields.specs.Shapes.{shaped, pack, unpack}
+use Rattle.fields.proofs.PackLaws.{unpack-pack}
+use Rattle.fields.proofs.PlaceLaws.{laid-append}
+use Rattle.values.specs.Values.{isTax}
+use Rattle.roles.specs.Role.{Part, copy, name, taxName, taxed, cast, shapeOf, lineOf}
+use Rattle.roles.specs.Speech.{codeSize}
+use Rattle.roles.specs.declared.Shape.{Shape}
+use Rattle.roles.specs.declared.Shape.the-variants.{Details, Note103, Note202}
+use Rattle.records.specs.Record.{Record, line, recordOf}
+use Rattle.records.specs.Places.{nextOf}
+use Rattle.records.specs.Found.{piecesAt, tagNumber, badLine}
+use Rattle.records.specs.Rule19.{sole, detailed, noted, sound, good}
+use Rattle.records.specs.Sentences.{Right, plain, agent, payer, payee, details, note103, note202}
+use Rattle.records.proofs.PieceLaws.{past-end, end-within, piece-length}
+use Rattle.records.proofs.PlaceLaws.{front-at, front-end}
+use Rattle.records.proofs.FoundLaws.{record-at, tag-size}
+use Rattle.records.proofs.SheetLaws.{line-record}
+use Rattle.records.proofs.RuleLaws.{sound-right}
+use Rattle.records.proofs.WalkLaws.{bad-last, bad-hit, bad-miss}
+use Rattle.details.specs.Lines.{Division, lines}
+use Rattle.details.specs.Breaking.{Fit}
+use Rattle.details.specs.Layouts.{layout, linesFor, divided, marked, sizeFor}
+use Rattle.details.specs.Layouts as layouts
+use Rattle.details.specs.declared.Place.{Place}
+use Rattle.details.specs.declared.Place.the-variants.{In70}
+use Rattle.details.specs.declared.Size.{Size}
+use Rattle.details.specs.declared.Size.the-variants as size
+use Rattle.details.proofs.Theorems.{fitted}
+use Rattle.lines.specs.Spread.{saidPart, castParts, lineFor, told, rppLine, notePlace, noteLines, contentLines, fieldFor, spread}
+use Rattle.lines.specs.Steps.{stoppedAt, isUnfit, Adds}
+use Rattle.writer.specs.Sheet.{unsaid, crowdedNote, crowded, someCrowded, rule15}
+use Rattle.lines.specs.declared.Step.{Step}
+use Rattle.lines.specs.declared.Step.the-variants.{Stuck, Unfit}
+use Rattle.roles.specs.Parts.{castBy, firstRole}
+use Rattle.roles.specs.declared.Role.{Role}
+use Rattle.writer.specs.Steps.{recordStops, recordCrowded, recordsAt}
+use Rattle.lines.proofs.StepLaws.{Tagged, tag-puts, adds-by, adds-alike, adds-stuck, adds-front, Goes, adds-join, movedBy, came-stuck}
+use Rattle.writer.proofs.NoteLaws.{sole-part}
+
+-- ---- the content of a record, by the shape of its tag
+abbrev ContentIn : Bool → ℕ → List (List ℕ) → List ℕ → List ℕ → ℕ → Step → Shape → Type 0
+ContentIn s o ps out after at r sh = Adds (unsaid s o (castParts sh ps)) (crowded s sh ps) (laid (contentLines s sh ps)) out at r after
+
+abbrev ByRole : Bool → ℕ → List (List ℕ) → List ℕ → List ℕ → ℕ → Step → Role → Type 0
+ByRole s o ps out after at r role = Adds (unsaid s o (castBy role ps)) false (laid (map (lineFor s) (castBy role ps))) out at r after
+
+module _ (s : Bool) (o : ℕ) (ps : List (List ℕ)) {out after : List ℕ} {at : ℕ} {r : Step} where
+  -- parts that are all lines
+  pub content-parts : (sh : Shape) {role : Role} → OneOf (0 ∷ 1 ∷ 2 ∷ 3 ∷ []) (tagOf the-type sh) → role ≡ firstRole sh → ByRole s o ps out after at r role → ContentIn s o ps out after at r sh
+  unfolding cast crowded contentLines
+  content-parts sh h e a =
+      each-lined (λ x. ByRole s o ps out after at r (firstRole x) → ContentIn s o ps out after at r x) (λ z. z) (λ z. z) (λ z. z) (λ z. z) sh h (subst (ByRole s o ps out after at r) e a)
+
+  pub content-told : {sh : Shape} → sh ≡ Details → Adds (unsaid s o (castParts Details ps)) (isUnfit (sizeFor In70 (codeSize s) (told s ps))) (laid (linesFor In70 (codeSize s) (told s ps))) out at r after → ContentIn s o ps out after at r sh
+  unfolding crowded contentLines
+  content-told e a = subst (ContentIn s o ps out after at r) (sym e) a
+
+  pub content-note : {sh : Shape} → sh ≡ Note202 → Adds (unsaid s o (castParts Note202 ps)) (crowdedNote s ps) (laid (noteLines s ps)) out at r after → ContentIn s o ps out after at r sh
+  unfolding crowded contentLines
+  content-note e a = subst (ContentIn s o ps out after at r) (sym e) a
+
+pub content-rpp : (s : Bool) (l : List ℕ) (o : ℕ) {out after : List ℕ} {at : ℕ} {r : Step} {sh : Shape} → sh ≡ Note103 → o ≤ length l → sound s sh (piecesAt 9 l o) ≡ true
+    → Adds (stoppedAt o (plainly (take (length l - o) (drop o l)))) false (laid (rppLine (take (length l - o) (drop o l)) ∷ [])) out at r after
+    → Adds (unsaid s o (castParts sh (piecesAt 9 l o))) (crowded s sh (piecesAt 9 l o)) (laid (contentLines s sh (piecesAt 9 l o))) out at r after
+unfolding sound cast crowded contentLines unsaid
+content-rpp s l o {out} {after} {at} {r} {sh} e h g a =
+    subst (λ (x : Shape). Adds (unsaid s o (castParts x (piecesAt 9 l o))) (crowded s x (piecesAt 9 l o)) (laid (contentLines s x (piecesAt 9 l o))) out at r after) (sym e)
+    (subst (λ (ps : List (List ℕ)). Adds (unsaid s o (map copy ps)) false (laid (map rppLine ps)) out at r after) (sym (sole-part l o h (sym (ap (λ (x : Shape). sound s x (piecesAt 9 l o)) e) ∙ g)))
+    (adds-by (sym (then-fine (stoppedAt o (plainly (take (length l - o) (drop o l)))))) refl a))
+
+pub sole-within : (s : Bool) (l : List ℕ) (i : ℕ) {sh : Shape} → sh ≡ Note103 → sound s sh (piecesAt 9 l i) ≡ true → i ≤ length l
+unfolding sound
+sole-within s l i e g = go (decLt (length l) i)
+  where
+    go : Dec (length l < i) → i ≤ length l
+    go (yes h) = absurd (false≢true (sym (ap sole (past-end 9 l i h)) ∙ sym (ap (λ (x : Shape). sound s x (piecesAt 9 l i)) e) ∙ g))
+    go (no h) = omega arith
+
+sound-as : (s : Bool) (ps : List (List ℕ)) {sh : Shape} (to : Shape) → sh ≡ to → sound s sh ps ≡ true → sound s to ps ≡ true
+sound-as s ps to e g = sym (ap (λ (x : Shape). sound s x ps) e) ∙ g
+
+pub sound-told : (s : Bool) (ps : List (List ℕ)) {sh : Shape} → sh ≡ Details → sound s sh ps ≡ true → detailed ps ≡ true
+unfolding sound
+sound-told s ps e g = sound-as s ps Details e g
+
+pub sound-note : (s : Bool) (ps : List (List ℕ)) {sh : Shape} → sh ≡ Note202 → sound s sh ps ≡ true → noted ps ≡ true
+unfolding sound
+sound-note s ps e g = sound-as s ps Note202 e g
+
+-- ---- a right record has a line
+pub record Some (ls : List (List ℕ)) : Type 0 where
+  pub one : List ℕ
+  pub more : List (List ℕ)
+  pub is : ls ≡ one ∷ more
+
+some-behind : (ks ls : List (List ℕ)) → Some ls → Some (ks ++ ls)
+some-behind [] ls h = h
+some-behind (k ∷ ks) ls h = record { one = k; more = ks ++ ls; is = refl }
+
+some-told : (p : Place) (least : ℕ) (text : List ℕ) → isUnfit (sizeFor p least text) ≡ false → Some (linesFor p least text)
+unfolding linesFor
+some-told p least text e = go (sizeFor p least text) refl e
+  where
+    by : {ok : ℕ → Bool} {ws : List ℕ} {ls : List (List ℕ)} → Division ok least text ws ls → Some (marked (layout p) ls)
+    by (lines {l = l} {ls = ls} a b h m e) = record { one = layout p .mark ++ l; more = map (λ (k : List ℕ). layout p .next ++ k) ls; is = refl }
+
+    go : (z : Size) → sizeFor p least text ≡ z → isUnfit z ≡ false → Some (marked (layout p) (layouts.linesOf (divided (layout p) least text)))
+    go size.Unfit f g = absurd (true≢false g)
+    go (size.Bytes n) f g = let w = fitted p least text n f in subst (λ (a : Fit (List (List ℕ))). Some (marked (layout p) (layouts.linesOf a))) (sym (w .is)) (by (w .division))
+
+content-some : (s : Bool) (sh : Shape) (ps : List (List ℕ)) → Right s sh ps → crowded s sh ps ≡ false → Some (contentLines s sh ps)
+unfolding crowded contentLines cast
+content-some s _ _ (plain p ps e g) c = record { one = p; more = map (lineFor s) (map copy ps); is = refl }
+content-some s _ _ (agent p ps e g) c = record { one = p; more = map (lineFor s) (map name ps); is = refl }
+content-some s _ _ (payer p ps e g f) c = go (begins 47 p)
+  where
+    go : (b : Bool) → Some (map (lineFor s) (pick b (copy p ∷ taxed ps) (taxed (p ∷ ps))))
+    go true = record { one = p; more = map (lineFor s) (taxed ps); is = refl }
+    go false = record { one = lineFor s (pick (isTax p) (copy p) (taxName p)); more = map (lineFor s) (map name ps); is = refl }
+content-some s _ _ (payee p ps e g f) c = record { one = lineFor s (pick (begins 47 p) (copy p) (name p)); more = map (lineFor s) (taxed ps); is = refl }
+content-some s _ _ (details vo text e g) c = some-told In70 (codeSize s) (told s (vo ∷ text ∷ [])) c
+content-some s _ _ (note103 rpp e) c = record { one = rppLine rpp; more = []; is = refl }
+content-some s _ _ (note202 rpp vo text e g) c =
+    some-behind (pick (empty rpp) [] (rppLine rpp ∷ [])) (linesFor (notePlace rpp) (codeSize s) (told s (vo ∷ text ∷ []))) (some-told (notePlace rpp) (codeSize s) (told s (vo ∷ text ∷ [])) c)
+
+-- the field's tag before its lines
+lined-some : (t : List ℕ) (ls : List (List ℕ)) → Some ls → (58 ∷ t ++ 58 ∷ []) ++ laid ls ≡ laid (lined (field t ls))
+lined-some t ls h = subst (λ (ks : List (List ℕ)). (58 ∷ t ++ 58 ∷ []) ++ laid ks ≡ laid (lined (field t ks))) (sym (h .is)) (go (h .one) (h .more))
+  where
+    go : (x : List ℕ) (xs : List (List ℕ)) → (58 ∷ t ++ 58 ∷ []) ++ (x ++ 13 ∷ 10 ∷ laid xs) ≡ (58 ∷ t ++ 58 ∷ x) ++ 13 ∷ 10 ∷ laid xs
+    go x xs = ap (λ (y : List ℕ). 58 ∷ y) (append-assoc t (58 ∷ []) (x ++ 13 ∷ 10 ∷ laid xs) ∙ sym (append-assoc t (58 ∷ x) (13 ∷ 10 ∷ laid xs)))
+
+-- ---- a record by the end of its tag
+module _ (kind : ℕ) (s : Bool) (l : List ℕ) (t : ℕ) (q : t ≡ 0 + upTo 9 (drop 0 l)) (g : good kind s (recordOf l) ≡ true) where
+  abbrev ps : List (List ℕ)
+  ps = piecesAt 9 l (t + 1)
+
+  abbrev tag : List ℕ
+  tag = take t l
+
+  good-at : (shaped tag && sound s (shapeOf kind tag) ps) ≡ true
+  good-at = sym (ap (good kind s) (record-at l t q)) ∙ g
+
+  pub shape-is : {sh : Shape} {n : ℕ} → n ≡ tagNumber tag → sh ≡ shapeOf kind (unpack n) → sh ≡ shapeOf kind tag
+  unfolding tagNumber
+  shape-is {sh} {n} k e =
+      let h : shaped tag ≡ true = left (shaped tag) _ good-at in
+      let z : n ≡ pack tag = k ∙ ap (λ (b : Bool). pick b (pack tag) 0) h in
+      e ∙ ap (shapeOf kind) (ap unpack z ∙ unpack-pack tag h)
+
+  pub shape-sound : {sh : Shape} → sh ≡ shapeOf kind tag → sound s sh ps ≡ true
+  shape-sound e = ap (λ (x : Shape). sound s x ps) e ∙ right (shaped tag) _ good-at
+
+  pub record-put : {sh : Shape} {out mid after : List ℕ} {at n : ℕ} {r : Step} → sh ≡ shapeOf kind tag → Tagged tag out at n mid
+      → Adds (unsaid s (t + 1) (castParts sh ps)) (crowded s sh ps) (laid (contentLines s sh ps)) mid n r after
+      → Adds (recordStops kind s (recordOf l)) (recordCrowded kind s (recordOf l)) (laid (lined (fieldFor kind s (recordOf l)))) out at r after
+  record-put {sh} {out} {mid} {after} {at} {n} {r} e f a =
+      let a1 = subst (λ (x : Shape). Adds (unsaid s (t + 1) (castParts x ps)) (crowded s x ps) (laid (contentLines s x ps)) mid n r after) e a in
+      let z : t + 1 ≡ length tag + 1 = ap (λ (j : ℕ). j + 1) (tag-size l t q) in
+      let w : Right s (shapeOf kind tag) ps = sound-right s (shapeOf kind tag) ps (right (shaped tag) _ good-at) in
+      subst (λ (x : Record). Adds (recordStops kind s x) (recordCrowded kind s x) (laid (lined (fieldFor kind s x))) out at r after) (sym (record-at l t q))
+      (adds-by (ap (λ (j : ℕ). unsaid s j (castParts (shapeOf kind tag) ps)) z) refl
+      (adds-alike (unsaid s (t + 1) (castParts (shapeOf kind tag) ps)) (crowded s (shapeOf kind tag) ps) {t = (58 ∷ tag ++ 58 ∷ []) ++ laid (contentLines s (shapeOf kind tag) ps)} (λ _ c. lined-some tag (contentLines s (shapeOf kind tag) ps) (content-some s (shapeOf kind tag) ps w c))
+      (adds-front (58 ∷ tag ++ 58 ∷ []) (laid (contentLines s (shapeOf kind tag) ps)) (tag-puts tag f) a1)))
+
+-- ---- records one behind another
+moved-then : (o : ℕ) (v w : Verdict) → movedBy o (then v w) ≡ then (movedBy o v) (movedBy o w)
+moved-then o Fine w = refl
+moved-then o (Broken n p) w = refl
+
+moved-stopped : (o k : ℕ) (c : Part) (s : Bool) → movedBy o (stoppedAt k (saidPart s c)) ≡ stoppedAt (o + k) (saidPart s c)
+moved-stopped o k c s = go (saidPart s c)
+  where
+    go : (a : Answer) → movedBy o (stoppedAt k a) ≡ stoppedAt (o + k) a
+    go (said t) = refl
+    go (stuck j) = let z : o + (k + j) ≡ o + k + j = omega arith in ap (Broken 15) z
+
+moved-unsaid : (s : Bool) (o k : ℕ) (cs : List Part) → movedBy o (unsaid s k cs) ≡ unsaid s (o + k) cs
+unfolding unsaid
+moved-unsaid s o k [] = refl
+moved-unsaid s o k (c ∷ cs) =
+    let z : o + (k + length (lineOf c) + 1) ≡ o + k + length (lineOf c) + 1 = omega arith in
+    moved-then o (stoppedAt k (saidPart s c)) (unsaid s (k + length (lineOf c) + 1) cs)
+    ∙ ap₂ then (moved-stopped o k c s) (moved-unsaid s o (k + length (lineOf c) + 1) cs ∙ ap (λ (j : ℕ). unsaid s j cs) z)
+
+pub rule15-cons : (kind : ℕ) (s : Bool) (o : ℕ) (r : Record) (rs : List Record) → then (movedBy o (recordStops kind s r)) (rule15 kind s (nextOf o r) rs) ≡ rule15 kind s o (r ∷ rs)
+unfolding rule15
+rule15-cons kind s o (field t ps) rs =
+    let z : o + (length t + 1) ≡ o + length t + 1 = omega arith in
+    ap (λ (v : Verdict). then v (rule15 kind s (nextOf o (field t ps)) rs)) (moved-unsaid s o (length t + 1) (castParts (shapeOf kind t) ps) ∙ ap (λ (j : ℕ). unsaid s j (castParts (shapeOf kind t) ps)) z)
+
+crowded-cons : (kind : ℕ) (s : Bool) (r : Record) (rs : List Record) → (recordCrowded kind s r || someCrowded kind s rs) ≡ someCrowded kind s (r ∷ rs)
+crowded-cons kind s (field t ps) rs = refl
+
+abbrev pub bodyOf : ℕ → Bool → List Record → List ℕ
+bodyOf kind s rs = laid (linesOf (spread kind s rs)) ++ closing
+
+body-cons : (kind : ℕ) (s : Bool) (r : Record) (rs : List Record) → laid (lined (fieldFor kind s r)) ++ bodyOf kind s rs ≡ bodyOf kind s (r ∷ rs)
+unfolding spread
+body-cons kind s r rs =
+    sym (append-assoc (laid (lined (fieldFor kind s r))) (laid (linesOf (spread kind s rs))) closing)
+    ∙ ap (λ (x : List ℕ). x ++ closing) (sym (laid-append (lined (fieldFor kind s r)) (linesOf (spread kind s rs))))
+
+module _ (kind : ℕ) (g : Bool) (s : List ℕ) (i e : ℕ) (h : i ≤ length s) (q : e ≡ i + upTo 10 (drop i s)) (l : i < length s) (b : badLine kind g i (piecesAt 10 s i) ≡ Fine) where
+  abbrev this : List ℕ
+  this = take (e - i) (drop i s)
+
+  abbrev rest : List Record
+  rest = recordsAt s (e + 1)
+
+  pub ended : e < length s
+  ended = go (decLt e (length s))
+    where
+      go : Dec (e < length s) → e < length s
+      go (yes k) = k
+      go (no k) = absurd (fine-broken 19 i (sym b ∙ sym (bad-last s i e h q kind g l (omega (arith, end-within 10 s i e h q)))))
+
+  further : e ≡ length s → ⊥
+  further z = let k = ended in omega arith
+
+  pub good-here : good kind g (recordOf this) ≡ true
+  good-here = go (good kind g (recordOf this)) refl
+    where
+      go : (c : Bool) → good kind g (recordOf this) ≡ c → good kind g (recordOf this) ≡ true
+      go true k = k
+      go false k = absurd (fine-broken 19 i (sym b ∙ sym (bad-hit s i e h q kind g further k)))
+
+  pub good-on : badLine kind g (e + 1) (piecesAt 10 s (e + 1)) ≡ Fine
+  good-on = sym (bad-miss s i e h q kind g further good-here) ∙ b
+
+  list : recordsAt s i ≡ recordOf this ∷ rest
+  list = front-at s i e h q ended
+
+  next-at : nextOf i (recordOf this) ≡ e + 1
+  next-at = let n : length (line (recordOf this)) ≡ e - i = ap length (line-record this) ∙ piece-length s i e (omega arith) (end-within 10 s i e h q) in omega arith
+
+  abbrev Left : Bool → List Record → List ℕ → ℕ → Step → List ℕ → Type 0
+  Left fit rs now n r after = Adds (rule15 kind g i rs) (not fit || someCrowded kind g rs) (bodyOf kind g rs) now n r after
+
+  stops-here : then (movedBy i (recordStops kind g (recordOf this))) (rule15 kind g (e + 1) rest) ≡ rule15 kind g i (recordOf this ∷ rest)
+  stops-here = ap (λ (j : ℕ). then (movedBy i (recordStops kind g (recordOf this))) (rule15 kind g j rest)) (sym next-at) ∙ rule15-cons kind g i (recordOf this) rest
+
+  pub records-stop : (fit : Bool) {now mid after : List ℕ} {n k : ℕ} {q : Step} → q ≡ Stuck k
+      → Adds (recordStops kind g (recordOf this)) (recordCrowded kind g (recordOf this)) (laid (lined (fieldFor kind g (recordOf this)))) now n q mid
+      → Left fit (recordsAt s i) now n (Stuck (i + k)) after
+  records-stop fit {now} {mid} {after} {n} {k} f a =
+      let z = came-stuck (recordStops kind g (recordOf this)) (recordCrowded kind g (recordOf this)) (n + length (laid (lined (fieldFor kind g (recordOf this))))) k (sym f ∙ a .answers) in
+      subst (λ (rs : List Record). Left fit rs now n (Stuck (i + k)) after) (sym list)
+      (adds-stuck (sym stops-here ∙ ap (λ (v : Verdict). then (movedBy i v) (rule15 kind g (e + 1) rest)) (z .1)))
+
+  pub records-on : {fit fit′ : Bool} {now mid after : List ℕ} {n n′ : ℕ} {q r : Step} → Goes fit n q fit′ n′
+      → Adds (recordStops kind g (recordOf this)) (recordCrowded kind g (recordOf this)) (laid (lined (fieldFor kind g (recordOf this)))) now n q mid
+      → Adds (rule15 kind g (e + 1) rest) (not fit′ || someCrowded kind g rest) (bodyOf kind g rest) mid n′ r after → Left fit (recordsAt s i) now n r after
+  records-on {fit} {now = now} {after = after} {n = n} {r = r} m a d =
+      subst (λ (rs : List Record). Left fit rs now n r after) (sym list)
+      (subst (λ (c : Bool). Adds (rule15 kind g i (recordOf this ∷ rest)) (not fit || c) (bodyOf kind g (recordOf this ∷ rest)) now n r after) (crowded-cons kind g (recordOf this) rest)
+      (adds-by stops-here (body-cons kind g (recordOf this) rest)
+      (adds-join i (recordStops kind g (recordOf this)) (rule15 kind g (e + 1) rest) (recordCrowded kind g (recordOf this)) (someCrowded kind g rest) (laid (lined (fieldFor kind g (recordOf this)))) (bodyOf kind g rest) m a d)))
+
+-- no record is left
+pub records-end : (kind : ℕ) (g : Bool) (s : List ℕ) (i : ℕ) → i ≤ length s → length s ≤ i → (fit : Bool) {now after : List ℕ} {n : ℕ} {r : Step} → Adds Fine (not fit) closing now n r after
+    → Adds (rule15 kind g i (recordsAt s i)) (not fit || someCrowded kind g (recordsAt s i)) (bodyOf kind g (recordsAt s i)) now n r after
+unfolding rule15 spread
+records-end kind g s i h k fit {now} {after} {n} {r} a =
+    let z : length s ≡ i = omega arith in
+    subst (λ (rs : List Record). Adds (rule15 kind g i rs) (not fit || someCrowded kind g rs) (bodyOf kind g rs) now n r after) (sym (ap (recordsAt s) (sym z) ∙ front-end s)) (subst (λ (b : Bool). Adds Fine b closing now n r after) (sym (or-none (not fit))) a)
+  where
+    or-none : (b : Bool) → (b || false) ≡ b
+    or-none true = refl
+    or-none false = refl

@@ -1,0 +1,77 @@
+// Records as fields, and the whole message.
+ghost use mathlib.Core.Path.{_≡_};
+ghost use mathlib.Core.Bool.{true};
+ghost use Prim.Native.Nat.{_+_, _*_, _≤_};
+ghost use lib.ListN.{length};
+ghost use Rattle.base.specs.declared.Verdict.the-variants.{Fine};
+ghost use Rattle.fields.specs.Field.{laid, lined, message};
+ghost use Rattle.records.specs.Record.{recordOf};
+ghost use Rattle.records.specs.Found.{piecesAt, badLine};
+ghost use Rattle.records.specs.Rule19.{good, sound};
+ghost use Rattle.lines.specs.Spread.{castParts, contentLines, fieldFor, spread};
+ghost use Rattle.writer.specs.Sheet.{unsaid, crowded, rule15, someCrowded};
+ghost use Rattle.lines.specs.Steps.{Adds, Within, near};
+ghost use Rattle.writer.specs.Steps.{recordStops, recordCrowded, recordsAt};
+use super::notes::put_note;
+use super::notes::put_rpp;
+use super::parts::put_parts;
+use base::bytes::put;
+use base::marks::mark_at;
+use details::Place;
+use lines::Step;
+use lines::purposes::put_purpose;
+use lines::tags::put_tag;
+use records::tags::tag_number;
+use roles::Shape;
+use roles::parts::first_role;
+use roles::shapes::shape_of;
+
+// The content parts of a record, by the shape of its tag.
+fn put_content(shape: Shape, sign: bool, l: &[u8], i: usize, out: &mut [u8], at: usize) -> Step
+    requires { ⌜ (length (now l) ≤ 10000) × (i ≤ length (now l) + 1) × (at + 100000 ≤ near) × (sound sign shape (piecesAt 9 (now l) i) ≡ true) ⌝ }
+    ensures { λ r. ⌜ Adds (unsaid sign i (castParts shape (piecesAt 9 (now (l .entry)) i))) (crowded sign shape (piecesAt 9 (now (l .entry)) i)) (laid (contentLines sign shape (piecesAt 9 (now (l .entry)) i))) (now (out .entry)) at r (now (out .exit)) × Within r (length (now (l .entry))) (at + 4 * length (now (l .entry)) + 300) ⌝ }
+{
+    match shape {
+        Shape::Details => put_purpose(sign, Place::In70, l, i, out, at as u32),
+        Shape::Note103 => put_rpp(l, i, l.len(), out, at),
+        Shape::Note202 => put_note(sign, l, i, out, at),
+        _ => put_parts(sign, first_role(shape), l, i, out, at),
+    }
+}
+
+// A record, without its LF, as a field.
+fn put_record(kind: u32, sign: bool, l: &[u8], out: &mut [u8], at: usize) -> Step
+    requires { ⌜ (length (now l) ≤ 10000) × (at + 200000 ≤ near) × (good kind sign (recordOf (now l)) ≡ true) ⌝ }
+    ensures { λ r. ⌜ Adds (recordStops kind sign (recordOf (now (l .entry)))) (recordCrowded kind sign (recordOf (now (l .entry)))) (laid (lined (fieldFor kind sign (recordOf (now (l .entry)))))) (now (out .entry)) at r (now (out .exit)) × Within r (length (now (l .entry))) (at + 400 * (length (now (l .entry)) + 1)) ⌝ }
+{
+    let t = mark_at(9, l, 0);
+    let tag = &l[..t];
+    let shape = shape_of(kind, tag_number(tag));
+    let n = put_tag(tag, out, at as u32);
+    put_content(shape, sign, l, t + 1, out, n)
+}
+
+// The message of a sheet that 19 lets pass: the records behind the first, which has six bytes.
+pub(crate) fn put_message(s: &[u8], kind: u32, sign: bool, out: &mut [u8]) -> Step
+    requires { ⌜ (length (now s) ≤ 10000) × (7 ≤ length (now s)) × (badLine kind sign 7 (piecesAt 10 (now s) 7) ≡ Fine) ⌝ }
+    ensures { λ r. ⌜ Adds (rule15 kind sign 7 (recordsAt (now (s .entry)) 7)) (someCrowded kind sign (recordsAt (now (s .entry)) 7)) (message (spread kind sign (recordsAt (now (s .entry)) 7))) (now (out .entry)) 0 r (now (out .exit)) ⌝ }
+{
+    put(out, 0, b"{4:\r\n");
+    let mut fit = true;
+    let mut n = 5;
+    let mut i = 7;
+    while i < s.len() {
+        let e = mark_at(10, s, i);
+        match put_record(kind, sign, &s[i..e], out, n) {
+            Step::Stuck(k) => return Step::Stuck(i + k),
+            Step::Unfit => fit = false,
+            Step::Put(m) => n = m,
+        }
+        i = e + 1;
+    }
+    put(out, n, b"-}");
+    if !fit {
+        return Step::Unfit;
+    }
+    Step::Put(n + 2)
+}

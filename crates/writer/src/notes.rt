@@ -1,0 +1,45 @@
+// The notes of field 72.
+ghost use mathlib.Core.Path.{_≡_};
+ghost use mathlib.Core.Bool.{true, false};
+ghost use mathlib.Core.List.{[], _∷_};
+ghost use Prim.Native.Nat.{_+_, _-_, _*_, _≤_};
+ghost use lib.ListN.{length, take, drop};
+ghost use Rattle.alphabets.specs.Bank.{plainly};
+ghost use Rattle.fields.specs.Field.{laid};
+ghost use Rattle.roles.specs.declared.Shape.the-variants.{Note202};
+ghost use Rattle.records.specs.Found.{piecesAt};
+ghost use Rattle.records.specs.Rule19.{noted};
+ghost use Rattle.lines.specs.Spread.{castParts, rppLine, noteLines};
+ghost use Rattle.lines.specs.Steps.{stoppedAt, Adds, Within, near};
+ghost use Rattle.writer.specs.Sheet.{unsaid, crowdedNote};
+use base::bytes::put;
+use base::marks::mark_at;
+use details::Place;
+use lines::Step;
+use lines::purposes::put_purpose;
+use lines::texts::put_line;
+
+// The line with what follows /RPP/: the part from i to e.
+pub(crate) fn put_rpp(l: &[u8], i: usize, e: usize, out: &mut [u8], at: usize) -> Step
+    requires { ⌜ (length (now l) ≤ 10000) × (i ≤ e) × (e ≤ length (now l)) × (at + 5 ≤ near) ⌝ }
+    ensures { λ r. ⌜ Adds (stoppedAt i (plainly (take (e - i) (drop i (now (l .entry)))))) false (laid (rppLine (take (e - i) (drop i (now (l .entry)))) ∷ [])) (now (out .entry)) at r (now (out .exit)) × Within r (length (now (l .entry))) (at + 4 * length (now (l .entry)) + 7) ⌝ }
+{
+    put(out, at, b"/RPP/");
+    put_line(false, i as u32, &l[i..e], out, (at + 5) as u32)
+}
+
+// The parts of 72 in a 202.
+pub(crate) fn put_note(sign: bool, l: &[u8], i: usize, out: &mut [u8], at: usize) -> Step
+    requires { ⌜ (length (now l) ≤ 10000) × (at + 100000 ≤ near) × (noted (piecesAt 9 (now l) i) ≡ true) ⌝ }
+    ensures { λ r. ⌜ Adds (unsaid sign i (castParts Note202 (piecesAt 9 (now (l .entry)) i))) (crowdedNote sign (piecesAt 9 (now (l .entry)) i)) (laid (noteLines sign (piecesAt 9 (now (l .entry)) i))) (now (out .entry)) at r (now (out .exit)) × Within r (length (now (l .entry))) (at + 4 * length (now (l .entry)) + 300) ⌝ }
+{
+    let e = mark_at(9, l, i);
+    if e == i {
+        return put_purpose(sign, Place::In72, l, e + 1, out, at as u32);
+    }
+    let r = put_rpp(l, i, e, out, at);
+    let Step::Put(n) = r else {
+        return r;
+    };
+    put_purpose(sign, Place::BehindRpp, l, e + 1, out, n as u32)
+}
