@@ -5,7 +5,7 @@
  *
  * A slice passes as a pointer and a length. What a caller owes: each pointer is not null, also where its
  * length is 0, and stands before as many readable units (for `out` and `list`: writable ones) as the length
- * says; a list is aligned for 32-bit numbers; input and room lie apart; about 64 KB of stack are free.
+ * says; a list is aligned for 32-bit numbers; input and room lie apart; 32 KB of stack are free.
  *
  * An answer is one 64-bit number. Below 2^63 it is accepted, and means what each call says. Else it is
  * 2^63 + number * 2^32 + place: a refusal by a number of docs/NUMBERS.md at a place. A refused call has
