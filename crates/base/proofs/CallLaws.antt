@@ -1,7 +1,7 @@
 -- The ways out of a call that puts a text into lent room, and back from an outcome to what it says. Assumes nothing.
 use Prim.Native.Nat.{ℕ, _<_, _≤_}
 use mathlib.Core.Path.{_≡_, refl, sym, ap, _∙_}
-use mathlib.Core.List.{List, _∷_}
+use mathlib.Core.List.{List, [], _∷_, _++_}
 use native.Mathlib.Omega.{arith}
 use native.Mathlib.Decide.{decLt}
 use lib.ListN.{length}
@@ -12,7 +12,7 @@ use Rattle.base.specs.declared.Verdict.{Verdict}
 use Rattle.base.specs.declared.Verdict.the-variants.{Fine, Broken}
 use Rattle.base.specs.declared.Outcome.{Outcome}
 use Rattle.base.specs.declared.Outcome.the-variants.{Done, Refused}
-use Rattle.base.proofs.RuleLaws.{fine-broken}
+use Rattle.base.proofs.RuleLaws.{fine-broken, then-fine, first-append}
 
 -- a contract that gives the answer itself: any two answers are equal
 pub one-answer : {A : Type 0} {x r s : A} → r ≡ x → s ≡ x → r ≡ s
@@ -95,10 +95,11 @@ short-within t out e = go (decLt (length out) (length t))
     go (yes h) = absurd (fine-broken 17 (length t) (sym e ∙ is-short t out h))
     go (no h) = omega arith
 
--- a rule in front that is not broken
+-- rules in front none of which is broken
+pub gives-on : (us vs : List Verdict) {t out after : List ℕ} {r : Outcome} → first us ≡ Fine → Gives vs t out r after → Gives (us ++ vs) t out r after
+gives-on us vs {t} {out} e g =
+    let z : first vs ≡ first (us ++ vs) = ap (λ (v : Verdict). then v (first vs)) (sym e) ∙ sym (first-append us vs) in
+    record { answers = g .answers ∙ ap (λ (v : Verdict). outcome v (length t)) z; leaves = g .leaves ∙ ap (λ (v : Verdict). room v t out) z }
+
 pub gives-past : {v : Verdict} {rules : List Verdict} {t out : List ℕ} {r : Outcome} {after : List ℕ} → v ≡ Fine → Gives rules t out r after → Gives (v ∷ rules) t out r after
-gives-past {rules = rules} {t = t} {out = out} e g =
-    record {
-      answers = g .answers ∙ ap (λ (w : Verdict). outcome (then w (first rules)) (length t)) (sym e);
-      leaves = g .leaves ∙ ap (λ (w : Verdict). room (then w (first rules)) t out) (sym e);
-    }
+gives-past {v = v} {rules = rules} e g = gives-on (v ∷ []) rules (then-fine v ∙ e) g

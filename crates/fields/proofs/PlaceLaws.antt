@@ -1,7 +1,7 @@
 -- Where the fields stand in the bytes of a message: their contents are parts of it, and the list is given by the colons. Assumes nothing.
 use Prim.Native.Nat.{ℕ, zero, suc, _+_, _*_, _-_, _≤_, _<_}
 use mathlib.Core.Path.{_≡_, refl, sym, ap, ap₂, _∙_}
-use mathlib.Core.Bool.{Bool, true, false, false≢true}
+use mathlib.Core.Bool.{Bool, true, false≢true}
 use mathlib.Core.List.{List, [], _∷_, _++_, append-assoc}
 use native.Mathlib.Omega.{arith}
 use lib.Dec.{eqb}
@@ -10,7 +10,7 @@ use borrow.Author.Tests.{eq-eqb, ne-eqb, lt-ltb, le-ltb}
 use lib.ListN.{length, take, drop, length-append, length-drop}
 use lib.Seq.{take-at, drop-at, drop-drop, getD-drop}
 use Rattle.base.specs.Choice.{pick, all}
-use Rattle.base.specs.Bytes.{byte, capital}
+use Rattle.base.specs.Bytes.{byte}
 use Rattle.base.specs.declared.Verdict.the-variants.{Fine}
 use Rattle.fields.specs.Field.{Field, field, closing, laid, lined, linesOf, message, body, lines, fields}
 use Rattle.fields.specs.Frame.{rule2, rule3, rule4}
@@ -18,7 +18,7 @@ use Rattle.fields.specs.Places.{sizeOf, startOf, nextOf, endOf, colonsOf
 use Rattle.fields.specs.Shapes.{shaped, shapedTag, lineable, pack}
 use Rattle.fields.specs.ByLines.{colonsAt, joined, startAt, tagAt, firstOr, listedBy}
 use Rattle.base.proofs.Bools.{left, right}
-use Rattle.fields.proofs.TagLaws.{Shape, plain, lettered, shape-of}
+use Rattle.fields.proofs.TagLaws.{Shape, plain, lettered, shape-of, tag-long, no-colon}
 use Rattle.fields.proofs.ByLines.{colons-body}
 use Rattle.fields.proofs.FieldLaws.{message-fields, fields-lineable, fields-shaped, fields-dash, laid-size}
 
@@ -41,47 +41,40 @@ pub record Standing (m : List ℕ) (o : ℕ) (fs : List Field) : Type 0 where
   pub able : all lineable fs ≡ true
   pub tags : all shapedTag fs ≡ true
 
+-- the bytes from a tag's colon on
+tag-byte : (m : List ℕ) (o : ℕ) (t r : List ℕ) → drop o m ≡ 58 ∷ (t ++ 58 ∷ r) → (u : List ℕ) (i : ℕ) → t ≡ u → byte m (o + i) ≡ byte (58 ∷ (u ++ 58 ∷ r)) i
+tag-byte m o t r d u i q = sym (getD-drop o m i 0) ∙ ap (λ (x : List ℕ). byte x i) (d ∙ ap (λ (v : List ℕ). 58 ∷ (v ++ 58 ∷ r)) q)
+
 -- the content of a line with a tag starts behind the tag
 pub start-at : (m : List ℕ) (o : ℕ) (t r : List ℕ) → shaped t ≡ true → drop o m ≡ 58 ∷ (t ++ 58 ∷ r) → startAt m o ≡ o + 2 + length t
-unfolding startAt capital
+unfolding startAt
 start-at m o t r e d = go (shape-of t e)
   where
-    third : (u : List ℕ) → t ≡ u → byte m (o + 3) ≡ byte (58 ∷ (u ++ 58 ∷ r)) 3
-    third u q = sym (getD-drop o m 3 0) ∙ ap (λ (x : List ℕ). byte x 3) (d ∙ ap (λ (v : List ℕ). 58 ∷ (v ++ 58 ∷ r)) q)
-
     go : Shape t → startAt m o ≡ o + 2 + length t
     go (plain a b q x y) =
         let n : length t ≡ 2 = ap length q in
         let z : o + 4 ≡ o + 2 + length t = omega arith in
-        ap (λ (c : ℕ). pick (eqb c 58) (o + 4) (o + 5)) (third (a ∷ b ∷ []) q) ∙ z
+        ap (λ (c : ℕ). pick (eqb c 58) (o + 4) (o + 5)) (tag-byte m o t r d (a ∷ b ∷ []) 3 q) ∙ z
     go (lettered a b c q x y k) =
         let n : length t ≡ 3 = ap length q in
         let z : o + 5 ≡ o + 2 + length t = omega arith in
-        let f : eqb c 58 ≡ false = ne-eqb c 58 (λ p. false≢true (ap capital (sym p) ∙ k)) in
-        ap (λ (c : ℕ). pick (eqb c 58) (o + 4) (o + 5)) (third (a ∷ b ∷ c ∷ []) q) ∙ ap (λ (p : Bool). pick p (o + 4) (o + 5)) f ∙ z
+        ap (λ (c : ℕ). pick (eqb c 58) (o + 4) (o + 5)) (tag-byte m o t r d (a ∷ b ∷ c ∷ []) 3 q) ∙ ap (λ (p : Bool). pick p (o + 4) (o + 5)) (no-colon c k) ∙ z
 
 -- and the tag stands behind its colon
 pub tag-at : (m : List ℕ) (o : ℕ) (t r : List ℕ) → shaped t ≡ true → drop o m ≡ 58 ∷ (t ++ 58 ∷ r) → tagAt m o ≡ pack t
-unfolding tagAt capital
-tag-at m o t r e d = ap (λ (b : Bool). pick b (told (byte m (o + 1)) (byte m (o + 2)) (byte m (o + 3))) 0) (lt-ltb (o + 3) (length m) (long (shape-of t e))) ∙ go (shape-of t e)
+unfolding tagAt
+tag-at m o t r e d = ap (λ (b : Bool). pick b (told (byte m (o + 1)) (byte m (o + 2)) (byte m (o + 3))) 0) (lt-ltb (o + 3) (length m) (omega (arith, tag-long t (shape-of t e), length-drop o m, ap length d, length-append t (58 ∷ r)))) ∙ go (shape-of t e)
   where
     told : ℕ → ℕ → ℕ → ℕ
     told x y z = x * 65536 + y * 256 + pick (eqb z 58) 0 z
 
-    long : Shape t → o + 3 < length m
-    long (plain a b q x y) = let n = ap length q in omega (arith, length-drop o m, ap length d, length-append t (58 ∷ r))
-    long (lettered a b c q x y k) = let n = ap length q in omega (arith, length-drop o m, ap length d, length-append t (58 ∷ r))
-
-    nth : (u : List ℕ) (i : ℕ) → t ≡ u → byte m (o + i) ≡ byte (58 ∷ (u ++ 58 ∷ r)) i
-    nth u i q = sym (getD-drop o m i 0) ∙ ap (λ (x : List ℕ). byte x i) (d ∙ ap (λ (v : List ℕ). 58 ∷ (v ++ 58 ∷ r)) q)
-
     by : (u : List ℕ) → t ≡ u → told (byte m (o + 1)) (byte m (o + 2)) (byte m (o + 3)) ≡ told (byte (u ++ 58 ∷ r) 0) (byte (u ++ 58 ∷ r) 1) (byte (u ++ 58 ∷ r) 2)
-    by u q = ap₂ (λ (x y : ℕ). told x y (byte m (o + 3))) (nth u 1 q) (nth u 2 q) ∙ ap (told (byte (u ++ 58 ∷ r) 0) (byte (u ++ 58 ∷ r) 1)) (nth u 3 q)
+    by u q = ap₂ (λ (x y : ℕ). told x y (byte m (o + 3))) (tag-byte m o t r d u 1 q) (tag-byte m o t r d u 2 q) ∙ ap (told (byte (u ++ 58 ∷ r) 0) (byte (u ++ 58 ∷ r) 1)) (tag-byte m o t r d u 3 q)
 
     go : Shape t → told (byte m (o + 1)) (byte m (o + 2)) (byte m (o + 3)) ≡ pack t
     go (plain a b q x y) = by (a ∷ b ∷ []) q ∙ ap pack (sym q)
     go (lettered a b c q x y k) =
-        by (a ∷ b ∷ c ∷ []) q ∙ ap (λ (p : Bool). a * 65536 + b * 256 + pick p 0 c) (ne-eqb c 58 (λ p. false≢true (ap capital (sym p) ∙ k))) ∙ ap pack (sym q)
+        by (a ∷ b ∷ c ∷ []) q ∙ ap (λ (p : Bool). a * 65536 + b * 256 + pick p 0 c) (no-colon c k) ∙ ap pack (sym q)
 
 -- as code reads it
 pub no-tag : (m : List ℕ) (o : ℕ) → length m ≤ o + 3 → 0 ≡ tagAt m o

@@ -1,9 +1,11 @@
 -- A tag at the front of a line, taken off and put there. Assumes nothing.
-use Prim.Native.Nat.{ℕ}
+use Prim.Native.Nat.{ℕ, _≤_}
 use mathlib.Core.Path.{_≡_, refl, sym, ap, ap₂, _∙_}
 use mathlib.Core.Bool.{Bool, true, false, not, _&&_, _||_, or-true, false≢true}
 use mathlib.Core.List.{List, [], _∷_, _++_, tail}
+use native.Mathlib.Omega.{arith}
 use lib.Dec.{eqb}
+use lib.ListN.{length}
 use borrow.Author.Tests.{eq-eqb, ne-eqb, eqb-true}
 use Rattle.base.specs.Bytes.{byte, digit, capital, other, without}
 use Rattle.fields.specs.Field.{upto, past}
@@ -37,6 +39,15 @@ shape-of (a ∷ b ∷ c ∷ []) e =
     let f = right (digit b) _ (right (digit a) _ e) in
     lettered a b c refl (left (digit a) _ e) (left (digit b) _ (right (digit a) _ e)) (left (capital c) true f)
 shape-of (a ∷ b ∷ c ∷ d ∷ t) e = absurd (false≢true (right (capital c) false (right (digit b) _ (right (digit a) _ e))))
+
+-- a tag has two signs at least, and no capital is a colon
+pub tag-long : (t : List ℕ) → Shape t → 2 ≤ length t
+tag-long t (plain a b q x y) = let n = ap length q in omega arith
+tag-long t (lettered a b c q x y k) = let n = ap length q in omega arith
+
+pub no-colon : (c : ℕ) → capital c ≡ true → eqb c 58 ≡ false
+unfolding capital
+no-colon c k = ne-eqb c 58 (λ p. false≢true (ap capital (sym p) ∙ k))
 
 -- a byte that is neither digit nor capital does not stand in a tag
 module _ (c : ℕ) (nd : digit c ≡ false) (nc : capital c ≡ false) where

@@ -16,7 +16,7 @@ use Rattle.fields.specs.Field.{Field, field, closing, laid, linesOf, fields}
 use Rattle.fields.specs.Places.{startOf, nextOf, endOf, colonsOf}
 use Rattle.fields.specs.Shapes.{shaped, shapedTag, follows, lineable, unpack}
 use Rattle.fields.specs.ByLines.{startAt, tagAt}
-use Rattle.fields.proofs.TagLaws.{Shape, plain, lettered, shape-of}
+use Rattle.fields.proofs.TagLaws.{shape-of, tag-long}
 use Rattle.fields.proofs.PackLaws.{unpack-pack}
 use Rattle.fields.proofs.PlaceLaws.{Standing, start-at, tag-at, field-bytes, next-standing, content-bytes, content-part, fields-stand}
 use Rattle.forms.proofs.ContentLaws.{firstOf}
@@ -48,11 +48,6 @@ sign-at (x ∷ l) r = refl
 
 first-byte : (m : List ℕ) (i : ℕ) → byte m i ≡ byte (drop i m) 0
 first-byte m i = let z : i ≡ i + 0 = omega arith in ap (byte m) z ∙ sym (getD-drop i m 0 0)
-
--- a tag has two signs at least
-tag-long : (t : List ℕ) → Shape t → 2 ≤ length t
-tag-long t (plain a b q x y) = let n = ap length q in omega arith
-tag-long t (lettered a b c q x y k) = let n = ap length q in omega arith
 
 -- the field at k stands at its spot, and the next one at the next
 pub record Stands (m spots : List ℕ) (k : ℕ) : Type 0 where

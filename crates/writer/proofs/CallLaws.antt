@@ -2,7 +2,7 @@
 use Prim.Native.Nat.{ℕ, _+_, _≤_, _<_}
 use mathlib.Core.Path.{_≡_, refl, sym, ap, ap₂, subst, _∙_}
 use mathlib.Core.Bool.{Bool, true, false}
-use mathlib.Core.List.{List, [], _∷_, tail, _++_}
+use mathlib.Core.List.{List, [], _∷_, tail}
 use native.Mathlib.Omega.{arith}
 use native.Mathlib.Nat.{zero-add}
 use lib.Dec.{eqb, ltb}
@@ -11,12 +11,12 @@ use Rattle.base.specs.Choice.{pick}
 use Rattle.base.specs.Bytes.{same, upTo}
 use Rattle.base.specs.Quoted.{bytes}
 use Rattle.base.specs.Rules.{then, first}
-use Rattle.base.specs.Calls.{Answer, said, stuck, long, over, room, placed, short, outcome, Gives}
+use Rattle.base.specs.Calls.{Answer, said, stuck, long, over, placed, Gives}
 use Rattle.base.specs.declared.Verdict.{Verdict}
 use Rattle.base.specs.declared.Verdict.the-variants.{Fine, Broken}
-use Rattle.base.proofs.RuleLaws.{fine-broken, then-clean, first-append}
+use Rattle.base.proofs.RuleLaws.{fine-broken, then-clean, first-append, clean-first}
 use Rattle.base.proofs.Room.{over-sets, puts-put}
-use Rattle.base.proofs.CallLaws.{is-long, not-long, gives-refused}
+use Rattle.base.proofs.CallLaws.{is-long, not-long, gives-refused, gives-on}
 use Rattle.fields.specs.Field.{field, opening, message}
 use Rattle.fields.specs.Frame.{limit, rule1}
 use Rattle.types.specs.Walk.{rule18}
@@ -38,7 +38,7 @@ use Rattle.records.proofs.WalkLaws.{first-within, first-size, none-ended, head-
 use Rattle.records.proofs.SoundLaws.{sound-behind}
 use Rattle.lines.specs.Spread.{saidPart, castParts, spread}
 use Rattle.lines.specs.Steps.{stoppedAt, Adds}
-use Rattle.writer.specs.Sheet.{unsaid, rule15, someCrowded, rule16, fieldsOf, messageFor, sheetRules, ownRule, writeRules, MessageTo}
+use Rattle.writer.specs.Sheet.{unsaid, rule15, someCrowded, rule16, fieldsOf, messageFor, sheetRules, writeRules, MessageTo}
 use Rattle.lines.specs.declared.Step.{Step}
 use Rattle.lines.specs.declared.Step.the-variants.{Stuck, Unfit, Put}
 use Rattle.writer.specs.Steps.{recordStops, recordsAt, longRefusal}
@@ -55,15 +55,10 @@ pub long-verdict : (kind : ℕ) (t : List ℕ) → rule18 kind ≡ Fine → limi
 unfolding verdictOf rule1
 long-verdict kind t e h = rw (e, is-long limit t h)
 
-gives-on : (us vs : List Verdict) {t out after : List ℕ} {r : Outcome} → first us ≡ Fine → Gives vs t out r after → Gives (us ++ vs) t out r after
-gives-on us vs {t} {out} e g =
-    let z : first vs ≡ first (us ++ vs) = ap (λ (v : Verdict). then v (first vs)) (sym e) ∙ sym (first-append us vs) in
-    record { answers = g .answers ∙ ap (λ (v : Verdict). outcome v (length t)) z; leaves = g .leaves ∙ ap (λ (v : Verdict). room v t out) z }
-
 pub refused-first : (s out : List ℕ) {n p : ℕ} → first (sheetRules s) ≡ Broken n p → MessageTo s out (Refused n p) out
 unfolding MessageTo
 refused-first s out {n} {p} q =
-    let rest = short (messageFor s) out ∷ ownRule s ∷ [] in
+    let rest = handRules (sheetType s) (messageFor s) out in
     gives-refused (writeRules s out) (messageFor s) out n p (first-append (sheetRules s) rest ∙ ap (λ (v : Verdict). then v (first rest)) q)
 
 -- ---- the message whole
@@ -110,10 +105,6 @@ first-fine kind s r e =
     ap (recordStops kind s) (n .is)
     ∙ ap (λ (sh : Shape). unsaid s 3 (castParts sh (n .type ∷ []))) (plain-mt kind)
     ∙ ap (λ (a : Answer). then (stoppedAt 3 a) Fine) (said-digits 3 (n .type) (n .three))
-
--- ---- what is left of the rules
-three-fine : (a b c w : Verdict) → a ≡ Fine → b ≡ Fine → c ≡ Fine → then a (then b (then c w)) ≡ w
-three-fine a b c w p q r = rw (p, q, r)
 
 -- ---- a sheet that 19 and 18 let pass
 module _ (s : List ℕ) (v : sheetVerdict s ≡ Fine) where
@@ -184,7 +175,10 @@ module _ (s : List ℕ) (v : sheetVerdict s ≡ Fine) where
     Left = then (rule15 (sheetType s) (sheetSign s) 0 (records s)) (then (rule16 (sheetType s) (sheetSign s) (tail (records s))) Fine)
 
     past : first (sheetRules s) ≡ Left
-    past = three-fine (long limit s) (rule19 s) (rule18 (sheetType s)) Left (not-long limit s w) (sound-fine s h) type-fine
+    past =
+        let front = long limit s ∷ rule19 s ∷ rule18 (sheetType s) ∷ [] in
+        first-append front (rule15 (sheetType s) (sheetSign s) 0 (records s) ∷ rule16 (sheetType s) (sheetSign s) (tail (records s)) ∷ [])
+        ∙ ap (λ (v : Verdict). then v Left) (clean-first front (not-long limit s w, (sound-fine s h, (type-fine, tt))))
 
     abbrev Built : List ℕ → Step → List ℕ → Type 0
     Built m r after = Adds (rule15 (sheetType s) (sheetSign s) 7 ours) (someCrowded (sheetType s) (sheetSign s) ours) (message (spread (sheetType s) (sheetSign s) ours)) m 0 r after
@@ -245,14 +239,12 @@ module _ (s : List ℕ) (v : sheetVerdict s ≡ Fine) where
 pub too-long-sheet : (s out : List ℕ) → limit < length s → MessageTo s out (Refused 1 limit) out
 too-long-sheet s out h = refused-first s out (ap (λ (v : Verdict). then v (first (rule19 s ∷ rule18 (sheetType s) ∷ rule15 (sheetType s) (sheetSign s) 0 (records s) ∷ rule16 (sheetType s) (sheetSign s) (tail (records s)) ∷ []))) (is-long limit s h))
 
-then-two : (a b c : Verdict) {n p : ℕ} → then a (then b Fine) ≡ Broken n p → then a (then b c) ≡ Broken n p
-then-two Fine Fine c {n} {p} e = absurd (fine-broken n p e)
-then-two Fine (Broken k q) c e = e
-then-two (Broken k q) b c e = e
-
 pub bad-sheet : (s out : List ℕ) {n p : ℕ} → length s ≤ limit → sheetVerdict s ≡ Broken n p → MessageTo s out (Refused n p) out
 unfolding sheetVerdict
-bad-sheet s out w e = refused-first s out (ap (λ (v : Verdict). then v (first (rule19 s ∷ rule18 (sheetType s) ∷ rule15 (sheetType s) (sheetSign s) 0 (records s) ∷ rule16 (sheetType s) (sheetSign s) (tail (records s)) ∷ []))) (not-long limit s w) ∙ then-two (rule19 s) (rule18 (sheetType s)) _ e)
+bad-sheet s out w e =
+    let rest = rule15 (sheetType s) (sheetSign s) 0 (records s) ∷ rule16 (sheetType s) (sheetSign s) (tail (records s)) ∷ [] in
+    refused-first s out
+    (ap (λ (v : Verdict). then v (first (rule19 s ∷ rule18 (sheetType s) ∷ rest))) (not-long limit s w) ∙ first-append (rule19 s ∷ rule18 (sheetType s) ∷ []) rest ∙ ap (λ (v : Verdict). then v (first rest)) e)
 
 -- ---- what a judged sheet says
 module _ (s : List ℕ) {j : Judged} (e : j ≡ judged s) where

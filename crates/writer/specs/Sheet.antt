@@ -5,7 +5,7 @@ use mathlib.Core.List.{List, [], _∷_, _++_, tail}
 use lib.ListN.{length}
 use Rattle.base.specs.Choice.{pick}
 use Rattle.base.specs.Rules.{then}
-use Rattle.base.specs.Calls.{long, short, Gives}
+use Rattle.base.specs.Calls.{long, Gives}
 use Rattle.base.specs.declared.Verdict.{Verdict}
 use Rattle.base.specs.declared.Verdict.the-variants.{Fine, Broken}
 use Rattle.base.specs.declared.Outcome.{Outcome}
@@ -17,7 +17,7 @@ use Rattle.roles.specs.Speech.{codeSize}
 use Rattle.roles.specs.declared.Shape.{Shape}
 use Rattle.roles.specs.declared.Shape.the-variants.{Plain, Payer, Payee, Agent, Details, Note103, Note202}
 use Rattle.judge.specs.Message.{verdictOf}
-use Rattle.message.specs.Handed.{atStart}
+use Rattle.message.specs.Handed.{atStart, handRules}
 use Rattle.records.specs.Record.{Record, records}
 use Rattle.records.specs.Places.{nextOf}
 use Rattle.records.specs.Rule19.{sheetType, sheetSign, rule19}
@@ -75,7 +75,7 @@ abbrev pub ownRule : List ℕ → Verdict
 ownRule s = atStart (verdictOf (sheetType s) (messageFor s))
 
 abbrev pub writeRules : List ℕ → List ℕ → List Verdict
-writeRules s out = sheetRules s ++ short (messageFor s) out ∷ ownRule s ∷ []
+writeRules s out = sheetRules s ++ handRules (sheetType s) (messageFor s) out
 
 unfoldable pub MessageTo : List ℕ → List ℕ → Outcome → List ℕ → Type 0
 MessageTo s out r after = Gives (writeRules s out) (messageFor s) out r after
