@@ -34,11 +34,9 @@ use Rattle.roles.specs.declared.Shape as roles
 use Rattle.judge.specs.Parts.{Settled}
 use Rattle.judge.proofs.PartLaws.{Stands, stands, here}
 use Rattle.records.specs.Record.{tabbed, line}
-use Rattle.contents.specs.Contents.{contentBy, contentText}
-use Rattle.contents.proofs.StepLaws.{take-few}
-use Rattle.contents.proofs.CallLaws.{content-whole}
 use Rattle.sheets.specs.Gather.{typeRecord}
-use Rattle.sheets.specs.Steps.{tagEnd, fieldIn, Part, recordBy, recordLine, sheetBy}
+use Rattle.sheets.specs.Steps.{contentBy, tagEnd, fieldIn, Part, recordBy, recordLine, sheetBy}
+use Rattle.sheets.proofs.TextLaws.{take-few}
 
 -- ---- a field
 pub tag-short : (f : List ℕ) → byte f 3 ≡ 58 → 3 ≡ tagEnd f
@@ -49,9 +47,6 @@ pub tag-long : (f : List ℕ) → (byte f 3 ≡ 58 → ⊥) → 4 ≡ tagEnd f
 unfolding tagEnd
 tag-long f e = sym (ap (λ (b : Bool). pick b 3 4) (ne-eqb (byte f 3) 58 e))
 
-content-small : (f : List ℕ) (t : ℕ) → length f ≤ 10000 → length (take (length f - (t + 1)) (drop (t + 1) f)) ≤ 10000
-content-small f t h = omega (arith, take-few (length f - (t + 1)) (drop (t + 1) f))
-
 module _ (b : List ℕ) (kind : ℕ) (s : Bool) (f : List ℕ) {t : ℕ} (e : t ≡ tagEnd f) where
   abbrev tag : List ℕ
   tag = take (t - 1) (drop 1 f)
@@ -60,15 +55,14 @@ module _ (b : List ℕ) (kind : ℕ) (s : Bool) (f : List ℕ) {t : ℕ} (e : t 
   content = take (length f - (t + 1)) (drop (t + 1) f)
 
   pub field-put : {sh : roles.Shape} {g : ℕ} → g ≡ packed f → sh ≡ shapeOf kind (unpack g) → Part f → {out mid now after : List ℕ} {at i n : ℕ} → mid ≡ placed out at tag → i ≡ at + length tag
-      → n ≡ length (contentText b s sh content) → now ≡ placed mid i (contentText b s sh content) → after ≡ placed now (i + n) (10 ∷ []) → Puts (recordLine b kind s (fieldIn f)) out at (i + n + 1) after
-  field-put {sh} {g} h k o {out} {mid} {at = at} {i = i} {n = n} m x y p a =
-      let u : List ℕ = contentText b s sh content in
+      → Puts (tabbed (contentBy b s sh (linesIn content))) mid i n now → after ≡ placed now n (10 ∷ []) → Puts (recordLine b kind s (fieldIn f)) out at (n + 1) after
+  field-put {sh} {g} h k o m x p a =
+      let u : List ℕ = tabbed (contentBy b s sh (linesIn content)) in
       let w : sh ≡ shapeOf kind tag = k ∙ ap (shapeOf kind) (ap unpack h ∙ o .tag-is ∙ ap (λ (j : ℕ). take (j - 1) (drop 1 f)) (sym e)) in
-      let v : u ≡ tabbed (contentBy b s (shapeOf kind tag) (linesIn (drop (t + 1) f))) =
-      sym (content-whole b s sh content (content-small f t (o .within))) ∙ ap₂ (λ (z : roles.Shape) (d : List ℕ). tabbed (contentBy b s z (linesIn d))) w (past-in f (t + 1)) in
+      let v : u ≡ tabbed (contentBy b s (shapeOf kind tag) (linesIn (drop (t + 1) f))) = ap₂ (λ (z : roles.Shape) (d : List ℕ). tabbed (contentBy b s z (linesIn d))) w (past-in f (t + 1)) in
       puts-by
       (ap (λ (z : List ℕ). (tag ++ z) ++ 10 ∷ []) v ∙ ap (λ (j : ℕ). recordLine b kind s (field (take (j - 1) (drop 1 f)) (linesIn (drop (j + 1) f)))) e)
-      (puts-on (tag ++ u) (10 ∷ []) (puts-on tag u (puts-put {u = tag} x m) (puts-put {u = u} (ap (λ (j : ℕ). i + j) y) p)) (puts-put refl a))
+      (puts-on (tag ++ u) (10 ∷ []) (puts-on tag u (puts-put {u = tag} x m) p) (puts-put refl a))
 
 pub tag-some : {t : ℕ} → 3 ≤ t → 1 ≤ t
 tag-some h = omega arith
@@ -76,7 +70,7 @@ tag-some h = omega arith
 pub tag-within : {f : List ℕ} → Part f → {t : ℕ} → t ≡ tagEnd f → t < length f
 tag-within o e = omega (arith, o .closed)
 
-pub field-small : (f : List ℕ) (at t : ℕ) {n : ℕ} → 1 ≤ t → t < length f → n ≤ length (take (length f - (t + 1)) (drop (t + 1) f)) + 8 → at + t - 1 + n + 1 ≤ at + length f + 7
+pub field-small : (f : List ℕ) (at t : ℕ) {n : ℕ} → 1 ≤ t → t < length f → n ≤ at + t - 1 + length (take (length f - (t + 1)) (drop (t + 1) f)) + 8 → n + 1 ≤ at + length f + 7
 field-small f at t h k l = omega (arith, take-few (length f - (t + 1)) (drop (t + 1) f))
 
 pub tag-place : (f : List ℕ) (at t : ℕ) → 1 ≤ t → t < length f → at + t - 1 ≡ at + length (take (t - 1) (drop 1 f))

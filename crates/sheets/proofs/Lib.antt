@@ -1,4 +1,6 @@
 pub mod Examples
+pub mod TextLaws
+pub mod ContentLaws
 pub mod FieldLaws
 pub mod ReadLaws
 pub mod CallLaws

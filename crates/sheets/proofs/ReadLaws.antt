@@ -42,9 +42,8 @@ use Rattle.roles.proofs.BreachLaws.{first-clause, same-lines, rule14-fine}
 use Rattle.judge.specs.Message.{verdictOf}
 use Rattle.judge.proofs.Theorems.{message-accepts, frame-clean}
 use Rattle.records.specs.Record.{Record, line, sheet}
-use Rattle.contents.specs.Contents.{codeDigits, saidBy, sideOf, sideBy, partsBy, cutBy, overBy, toldBy, noteBy, contentBy}
-use Rattle.sheets.specs.Gather.{partFor, toldParts, noteParts, contentParts, recordFor, gather, typeRecord, recordsOf, sheetOf}
-use Rattle.sheets.specs.Steps.{recordBy, sheetBy}
+use Rattle.sheets.specs.Gather.{partFor, codeDigits, toldParts, noteParts, contentParts, recordFor, gather, typeRecord, recordsOf, sheetOf}
+use Rattle.sheets.specs.Steps.{saidBy, sideOf, sideBy, partsBy, cutBy, overBy, toldBy, noteBy, contentBy, recordBy, sheetBy}
 
 -- ---- a text that reads
 abbrev pub Speaks : Bool → List ℕ → Type 0

@@ -1,8 +1,8 @@
 -- What a field becomes on a sheet: its lines read, and the record that they make (S2, T7, T12, Cdetails, C72). Assumes nothing.
 use Prim.Native.Nat.{ℕ, _+_, _/_, _%_}
-use mathlib.Core.Bool.{Bool}
+use mathlib.Core.Bool.{Bool, true, false}
 use mathlib.Core.List.{List, [], _∷_, _++_, map}
-use lib.ListN.{drop}
+use lib.ListN.{take, drop}
 use Rattle.base.specs.Choice.{pick}
 use Rattle.base.specs.Quoted.{bytes}
 use Rattle.base.specs.Calls.{textOf}
@@ -15,7 +15,6 @@ use Rattle.roles.specs.Speech.{codeSize, behind}
 use Rattle.roles.specs.declared.Shape.{Shape}
 use Rattle.roles.specs.declared.Shape.the-variants.{Plain, Payer, Payee, Agent, Details, Note103, Note202}
 use Rattle.records.specs.Record.{Record, sheet}
-use Rattle.contents.specs.Contents.{codeDigits}
 
 -- ---- the parts
 -- names as desk text, other lines as they are
@@ -23,6 +22,11 @@ abbrev pub partFor : Bool → Part → List ℕ
 partFor s (copy l) = l
 partFor s (name l) = textOf (reading s l)
 partFor s (taxName l) = textOf (reading s l)
+
+-- the digits of the VO code at the front of details, which stand behind `(VO`, with the sign behind one apostrophe more
+abbrev pub codeDigits : Bool → List ℕ → List ℕ
+codeDigits true l = take 5 (drop 4 l)
+codeDigits false l = take 5 (drop 3 l)
 
 -- VO digits and text, of lines behind `first` bytes of mark in the first and `mark` bytes in each later one
 abbrev pub toldParts : Bool → ℕ → ℕ → List (List ℕ) → List (List ℕ)

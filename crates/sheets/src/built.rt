@@ -11,9 +11,9 @@ ghost use Rattle.judge.specs.Parts.{Settled};
 ghost use Rattle.records.specs.Record.{line};
 ghost use Rattle.sheets.specs.Gather.{typeRecord, sheetOf};
 ghost use Rattle.sheets.specs.Steps.{tagEnd, fieldIn, Part, recordLine, sheetBy, Sound};
+use super::contents::put_content;
 use alphabets::pieces::back_table;
 use base::bytes::put;
-use contents::calls::put_content;
 use fields::line_tag;
 use frame::SPOTS;
 use judge::sign::is_signed;
@@ -48,7 +48,7 @@ fn put_field(back: &[u8; 256], kind: u32, sign: bool, f: &[u8], out: &mut [u8], 
     let shape = shape_of(kind, line_tag(f));
     let t = put_tag(f, out, at);
     let n = at + t - 1;
-    let e = n + put_content(back, shape, sign, &f[t + 1..], out, n);
+    let e = put_content(back, shape, sign, &f[t + 1..], out, n);
     put(out, e, b"\n");
     e + 1
 }

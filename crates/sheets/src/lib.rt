@@ -1,3 +1,5 @@
 // A message read into its sheet.
 mod built;
 pub mod calls;
+mod contents;
+mod texts;

@@ -52,8 +52,7 @@ use Rattle.written.proofs.ReadyLaws.{speaks, Laid, laid, Ready}
 use Rattle.written.proofs.CastLaws.{turned, cast-again, frontOf, nextOf, told-again}
 use Rattle.written.proofs.BuiltLaws.{AllPass, records-pass, built-fields, built-sign}
 use Rattle.written.proofs.Theorems as writer
-use Rattle.contents.specs.Contents.{codeDigits}
-use Rattle.sheets.specs.Gather.{partFor, toldParts, noteParts, contentParts, gather, typeDigits, typeRecord, recordsOf, sheetOf}
+use Rattle.sheets.specs.Gather.{partFor, codeDigits, toldParts, noteParts, contentParts, gather, typeDigits, typeRecord, recordsOf, sheetOf}
 use Rattle.sheets.specs.Calls.{readRules, SheetTo}
 
 -- ---- parts that are copied or names

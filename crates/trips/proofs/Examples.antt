@@ -56,8 +56,7 @@ use Rattle.message.specs.Handed.{atStart}
 use Rattle.writer.specs.Sheet.{sheetRules, unsaid, rule15, crowded, rule16, fieldsOf, messageFor, writeRules}
 use Rattle.written.specs.Cases.{sheet103}
 use Rattle.sheets.specs.Calls.{readRules}
-use Rattle.contents.specs.Contents.{codeDigits}
-use Rattle.sheets.specs.Gather.{contentParts, recordFor, gather, typeRecord, recordsOf, sheetOf}
+use Rattle.sheets.specs.Gather.{codeDigits, contentParts, recordFor, gather, typeRecord, recordsOf, sheetOf}
 use Rattle.trips.specs.Cases.{AllHold, plain202, plainSheet, signed202, signedSheet, otherwise103, otherwiseSheet, best103, trips, idle, stops}
 
 infixr 4 _also_

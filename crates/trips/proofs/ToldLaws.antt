@@ -44,8 +44,7 @@ use Rattle.writer.specs.Sheet.{crowded}
 use Rattle.written.proofs.SpeltLaws.{said-is}
 use Rattle.written.proofs.ReadyLaws.{speaks}
 use Rattle.written.proofs.CastLaws.{behind-code, code-size, unmarked}
-use Rattle.contents.specs.Contents.{codeDigits}
-use Rattle.sheets.specs.Gather.{toldParts, noteParts, contentParts}
+use Rattle.sheets.specs.Gather.{codeDigits, toldParts, noteParts, contentParts}
 use Rattle.trips.proofs.Held.{Held, Noted, Sheeted}
 use Rattle.trips.proofs.TakenLaws.{Told, told-lines, rpp-alone, Note, with-rpp, without, note-lines}
 use Rattle.trips.proofs.LinesLaws.{Began, details, note103, note202, began}

@@ -21,7 +21,8 @@ use Rattle.roles.specs.Parts.{named, nextRole}
 use Rattle.roles.specs.declared.Role.{Role}
 use Rattle.roles.proofs.LineLaws.{lines-from, past-none, past-at, line-length}
 use Rattle.records.specs.Record.{tabbed}
-use Rattle.contents.specs.Contents.{codeDigits, saidBy, sideOf, sideBy, partsBy, cutBy, overBy, far}
+use Rattle.sheets.specs.Gather.{codeDigits}
+use Rattle.sheets.specs.Steps.{saidBy, sideOf, sideBy, partsBy, cutBy, overBy}
 
 -- ---- the first of a part
 pub take-few : (n : ℕ) (l : List ℕ) → length (take n l) ≤ n
@@ -110,7 +111,7 @@ module _ (c : List ℕ) (i e : ℕ) (q : e ≡ i + upTo 13 (drop i c)) where
 
   -- the places behind it are near
   module _ (h : i ≤ length c) (d : ℕ) {l : List ℕ} (z : l ≡ drop d this) (at : ℕ) {n : ℕ} (a : n ≤ at + i) where
-    pub part-needs : length c ≤ 10000 → at + 100000 ≤ far → (length l ≤ 10000) × (n + 1 ≤ far)
+    pub part-needs : length c ≤ 10000 → at ≤ 400000 → (length l ≤ 10000) × (n ≤ 500000)
     part-needs k b = (omega (arith, cut-small d z, this-within h), omega arith)
 
     pub part-last : {k : ℕ} → k ≤ n + 1 + length l → k ≤ at + length c + 1
@@ -119,14 +120,8 @@ module _ (c : List ℕ) (i e : ℕ) (q : e ≡ i + upTo 13 (drop i c)) where
     pub part-next : {k : ℕ} (j : ℕ) → e < length c → j ≡ min (e + 2) (length c) → k ≤ n + 1 + length l → (j ≤ length c) × (k ≤ at + j)
     part-next j f p b = (omega arith, omega (arith, cut-small d z, this-within h))
 
-    pub piece-needs : length c ≤ 10000 → at + 100000 ≤ far → (length l ≤ 10000) × (n ≤ far)
-    piece-needs k b = (omega (arith, cut-small d z, this-within h), omega arith)
-
     pub piece-last : {k : ℕ} → k ≤ n + length l → k ≤ at + length c
     piece-last b = omega (arith, cut-small d z, this-within h)
-
-    pub piece-next : {k : ℕ} (j : ℕ) → e < length c → j ≡ min (e + 2) (length c) → k ≤ n + length l → (j ≤ length c) × (k ≤ at + j)
-    piece-next j f p b = (omega arith, omega (arith, cut-small d z, this-within h))
 
   -- each as a part
   module _ (t : List ℕ) (s : Bool) (role : Role) (mark : ℕ) {l : List ℕ} (z : l ≡ drop mark this) {b : Bool} (y : b ≡ (s && named role l)) where

@@ -1,11 +1,11 @@
--- `contents::texts::put_text` meets its contract: its bytes, or what the table reads in them. Assumes nothing.
+-- `sheets::texts::put_text` meets its contract: its bytes, or what the table reads in them. Assumes nothing.
 use mathlib.Core.Path.{sym, _∙_}
 use native.Mathlib.Omega.{arith}
 use borrow.Author.Needs.{needs}
 use borrow.Author.Tests.{not-true, not-false}
-use Rattle.contents.proofs.StepLaws.{text-plain, text-halts, units-small, text-reads}
-use Rattle.contents.proofs.texts.put_text.Statement.{statement}
-use Rattle.contents.proofs.texts.put_text.Tie as tie
+use Rattle.sheets.proofs.TextLaws.{text-plain, text-halts, units-small, text-reads}
+use Rattle.sheets.proofs.texts.put_text.Statement.{statement}
+use Rattle.sheets.proofs.texts.put_text.Tie as tie
 
 put-requires : tie.Need-put-requires
 put-requires c κs = search needs

@@ -1,7 +1,7 @@
--- `contents::texts::put_lines` meets its contract: from each line on as from the first. Assumes nothing.
-use Rattle.contents.proofs.StepLaws.{this-within, line-less, part-needs, part-last, part-next, lines-last, lines-on}
+-- `sheets::texts::put_lines` meets its contract: from each line on as from the first. Assumes nothing.
+use Rattle.sheets.proofs.TextLaws.{this-within, line-less, part-needs, part-last, part-next, lines-last, lines-on}
 use Rattle.base.proofs.Room.{Leads}
-use Rattle.contents.specs.Contents.{partsBy}
+use Rattle.sheets.specs.Steps.{partsBy}
 use Rattle.machine.specs.Lines.{linesIn}
 use Rattle.records.specs.Record.{tabbed}
 use lib.ListN.{length, drop}
@@ -10,8 +10,8 @@ use mathlib.Core.List.{map}
 use mathlib.Core.Path.{_≡_, refl}
 use Prim.Native.Nat.{_+_, _-_, _≤_}
 use borrow.Author.Needs.{needs}
-use Rattle.contents.proofs.texts.put_lines.Statement.{statement}
-use Rattle.contents.proofs.texts.put_lines.Tie as tie
+use Rattle.sheets.proofs.texts.put_lines.Statement.{statement}
+use Rattle.sheets.proofs.texts.put_lines.Tie as tie
 
 abbrev Inv-loop : tie.InvT-loop
 Inv-loop back sign mark c out₀ at role₀ n₀ i₀ out role n i = (length out ≡ length out₀) × (i ≤ length c) × (n ≤ at + i)

@@ -1,13 +1,14 @@
-// Details, and the notes of field 72.
+// A field's content as the parts of a record: details, the notes of field 72, and lines, by the shape of the tag.
 ghost use mathlib.Core.Path.{_≡_};
-ghost use mathlib.Core.Bool.{false};
 ghost use Prim.Native.Nat.{_+_, _≤_};
 ghost use lib.ListN.{length};
 ghost use Rattle.base.specs.Calls.{Puts};
 ghost use Rattle.machine.specs.Lines.{linesIn};
 ghost use Rattle.roles.specs.Speech.{codeSize};
 ghost use Rattle.records.specs.Record.{tabbed};
-ghost use Rattle.contents.specs.Contents.{codeDigits, toldBy, noteBy, far};
+ghost use Rattle.sheets.specs.Gather.{codeDigits};
+ghost use Rattle.sheets.specs.Steps.{toldBy, noteBy, contentBy};
+use super::texts::put_lines;
 use super::texts::put_over;
 use super::texts::put_part;
 use base::bytes::front;
@@ -15,6 +16,9 @@ use base::bytes::past;
 use base::bytes::put;
 use base::marks::mark_at;
 use machine::lines::next_line;
+use roles::Role;
+use roles::Shape;
+use roles::parts::first_role;
 use values::parts::is_rpp;
 
 // The VO digits behind the code's front.
@@ -37,7 +41,7 @@ fn code_size(sign: bool) -> usize
 }
 
 // VO digits and the text, of lines behind `first` bytes of mark in the first and `mark` bytes in each later one.
-pub(crate) fn put_told(
+fn put_told(
     back: &[u8; 256],
     sign: bool,
     first: usize,
@@ -46,7 +50,7 @@ pub(crate) fn put_told(
     out: &mut [u8],
     at: usize,
 ) -> usize
-    requires { ⌜ (first ≤ 5) × (length (now c) ≤ 10000) × (at + 200000 ≤ far) ⌝ }
+    requires { ⌜ (first ≤ 5) × (length (now c) ≤ 10000) × (at ≤ 300000) ⌝ }
     ensures { λ r. ⌜ (r ≤ at + length (now (c .entry)) + 7) × Puts (tabbed (toldBy (now (back .entry)) sign first mark (linesIn (now (c .entry))))) (now (out .entry)) at r (now (out .exit)) ⌝ }
 {
     let e = mark_at(13, c, 0);
@@ -56,8 +60,8 @@ pub(crate) fn put_told(
 }
 
 // 72 of a 202: what follows /RPP/ or an empty part, then VO digits and text.
-pub(crate) fn put_note(back: &[u8; 256], sign: bool, c: &[u8], out: &mut [u8], at: usize) -> usize
-    requires { ⌜ (length (now c) ≤ 10000) × (at + 300000 ≤ far) ⌝ }
+fn put_note(back: &[u8; 256], sign: bool, c: &[u8], out: &mut [u8], at: usize) -> usize
+    requires { ⌜ (length (now c) ≤ 10000) × (at ≤ 200000) ⌝ }
     ensures { λ r. ⌜ (r ≤ at + length (now (c .entry)) + 8) × Puts (tabbed (noteBy (now (back .entry)) sign (linesIn (now (c .entry))))) (now (out .entry)) at r (now (out .exit)) ⌝ }
 {
     let e = mark_at(13, c, 0);
@@ -71,4 +75,24 @@ pub(crate) fn put_note(back: &[u8; 256], sign: bool, c: &[u8], out: &mut [u8], a
     }
     let i = next_line(e, c.len());
     put_told(back, sign, 5, 2, &c[i..], out, n)
+}
+
+// The parts of a content, each behind a tab, by the shape of its tag.
+pub(crate) fn put_content(
+    back: &[u8; 256],
+    shape: Shape,
+    sign: bool,
+    c: &[u8],
+    out: &mut [u8],
+    at: usize,
+) -> usize
+    requires { ⌜ (length (now c) ≤ 10000) × (at ≤ 200000) ⌝ }
+    ensures { λ r. ⌜ (r ≤ at + length (now (c .entry)) + 8) × Puts (tabbed (contentBy (now (back .entry)) sign shape (linesIn (now (c .entry))))) (now (out .entry)) at r (now (out .exit)) ⌝ }
+{
+    match shape {
+        Shape::Details => put_told(back, sign, 0, 0, c, out, at),
+        Shape::Note103 => put_lines(back, sign, Role::Copies, 5, c, out, at),
+        Shape::Note202 => put_note(back, sign, c, out, at),
+        _ => put_lines(back, sign, first_role(shape), 0, c, out, at),
+    }
 }

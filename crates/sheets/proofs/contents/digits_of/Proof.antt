@@ -1,11 +1,11 @@
--- `contents::notes::digits_of` meets its contract. Assumes nothing.
-use Rattle.contents.specs.Contents.{codeDigits}
+-- `sheets::contents::digits_of` meets its contract. Assumes nothing.
+use Rattle.sheets.specs.Gather.{codeDigits}
 use lib.ListN.{take}
 use mathlib.Core.Bool.{Bool}
 use mathlib.Core.Path.{sym, ap, _∙_}
 use borrow.Author.Needs.{needs}
-use Rattle.contents.proofs.notes.digits_of.Statement.{statement}
-use Rattle.contents.proofs.notes.digits_of.Tie as tie
+use Rattle.sheets.proofs.contents.digits_of.Statement.{statement}
+use Rattle.sheets.proofs.contents.digits_of.Tie as tie
 
 past-requires : tie.Need-past-requires
 past-requires c κs = search needs

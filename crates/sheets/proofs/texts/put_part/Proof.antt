@@ -1,9 +1,9 @@
--- `contents::texts::put_part` meets its contract. Assumes nothing.
-use Rattle.contents.proofs.StepLaws.{tab-put}
+-- `sheets::texts::put_part` meets its contract. Assumes nothing.
+use Rattle.sheets.proofs.TextLaws.{tab-put}
 use native.Mathlib.Omega.{arith}
 use borrow.Author.Needs.{needs}
-use Rattle.contents.proofs.texts.put_part.Statement.{statement}
-use Rattle.contents.proofs.texts.put_part.Tie as tie
+use Rattle.sheets.proofs.texts.put_part.Statement.{statement}
+use Rattle.sheets.proofs.texts.put_part.Tie as tie
 
 slice-aggregate-put : tie.Need-slice-aggregate-put
 slice-aggregate-put c = search needs

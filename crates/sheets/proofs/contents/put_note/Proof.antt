@@ -1,10 +1,11 @@
--- `contents::notes::put_note` meets its contract: with an RPP line and without. Assumes nothing.
-use Rattle.contents.proofs.NoteLaws.{first-needs, note-none, rpp-needs, rest-needs, note-alone, note-more}
+-- `sheets::contents::put_note` meets its contract: with an RPP line and without. Assumes nothing.
+use Rattle.sheets.proofs.ContentLaws.{head-small, note-none, note-alone, note-more}
 use Rattle.roles.proofs.LineLaws.{head-size}
+use native.Mathlib.Omega.{arith}
 use borrow.Author.Tests.{not-true, not-false}
 use borrow.Author.Needs.{needs}
-use Rattle.contents.proofs.notes.put_note.Statement.{statement}
-use Rattle.contents.proofs.notes.put_note.Tie as tie
+use Rattle.sheets.proofs.contents.put_note.Statement.{statement}
+use Rattle.sheets.proofs.contents.put_note.Tie as tie
 
 mark-at-requires : tie.Need-mark-at-requires
 mark-at-requires c κs = search needs
@@ -25,7 +26,7 @@ add-put-told : tie.Need-add-put-told
 add-put-told c = search needs
 
 put-told-requires : tie.Need-put-told-requires
-put-told-requires c κs = let s = c .before .before .before .before .before .before .before .before .before .before .before .before in let a = s .args in first-needs (a .c .now) (c .before .before .before .before .before .before .before .before .before .mark-at .result) (c .before .before .before .before .before .before .before .before .before .mark-at .ensures) (a .back .now) (a .sign) (c .before .before .before .before .before .before .before .is-rpp .ensures) (a .at) (s .pre .0) (s .pre .1)
+put-told-requires c κs = search needs
 
 same-length : tie.Need-same-length
 same-length c = search needs
@@ -40,7 +41,7 @@ past-requires : tie.Need-past-requires
 past-requires c κs = search needs
 
 put-part-requires : tie.Need-put-part-requires
-put-part-requires c κs = let s = c .before .before .before .before .before .before .before .before .before in let a = s .args in rpp-needs (a .c .now) (c .before .before .before .before .before .before .mark-at .result) (c .before .before .before .before .before .before .mark-at .ensures) (a .back .now) (a .sign) (c .before .before .before .before .is-rpp .ensures) (not-false _ (c .before .before .before .if1 .left)) (c .before .past .ensures) (a .at) (s .pre .0) (s .pre .1)
+put-part-requires c κs = let s = c .before .before .before .before .before .before .before .before .before in let w = head-small (s .args .c .now) (c .before .before .before .before .before .before .mark-at .result) (c .before .before .before .before .before .before .mark-at .ensures) (s .args .back .now) (s .args .sign) 5 (c .before .past .ensures) in (omega (arith, w, s .pre), omega (arith, s .pre))
 
 same-length-2 : tie.Need-same-length-2
 same-length-2 c = search needs
@@ -61,7 +62,7 @@ part-put-told-end : tie.Need-part-put-told-end
 part-put-told-end c = search needs
 
 put-told-requires-2 : tie.Need-put-told-requires-2
-put-told-requires-2 c κs = let s = c .before .before .before .before .before .before .before .before .before .before .before .before .before .before .before .before in let a = s .args in rest-needs (a .c .now) (c .before .before .before .before .before .before .before .before .before .before .before .before .before .mark-at .result) (c .before .before .before .before .before .before .before .before .before .before .before .before .before .mark-at .ensures) (a .back .now) (a .sign) (c .before .before .before .before .before .before .before .before .before .before .before .is-rpp .ensures) (not-false _ (c .before .before .before .before .before .before .before .before .before .before .if1 .left)) (c .before .before .before .before .before .before .before .before .past .ensures) (a .at) (c .before .before .next-line .result) (s .pre .0) (s .pre .1) (c .before .before .before .before .before .before .put-part .ensures .0)
+put-told-requires-2 c κs = let s = c .before .before .before .before .before .before .before .before .before .before .before .before .before .before .before .before in (omega arith, search needs, omega (arith, head-small (s .args .c .now) (c .before .before .before .before .before .before .before .before .before .before .before .before .before .mark-at .result) (c .before .before .before .before .before .before .before .before .before .before .before .before .before .mark-at .ensures) (s .args .back .now) (s .args .sign) 5 (c .before .before .before .before .before .before .before .before .past .ensures), c .before .before .before .before .before .before .put-part .ensures .0, s .pre))
 
 same-length-3 : tie.Need-same-length-3
 same-length-3 c = search needs

@@ -7,7 +7,7 @@ ghost use lib.ListN.{length, drop};
 ghost use Rattle.base.specs.Calls.{Puts};
 ghost use Rattle.machine.specs.Lines.{linesIn};
 ghost use Rattle.records.specs.Record.{tabbed};
-ghost use Rattle.contents.specs.Contents.{saidBy, sideBy, partsBy, cutBy, overBy, far};
+ghost use Rattle.sheets.specs.Steps.{saidBy, sideBy, partsBy, cutBy, overBy};
 use alphabets::parts::put_piece;
 use alphabets::pieces::Piece;
 use base::bytes::past;
@@ -19,9 +19,9 @@ use roles::parts::is_spoken;
 use roles::parts::next_role;
 
 // The place behind a piece of a text, and the side there.
-pub(crate) struct Behind {
-    pub at: usize,
-    pub latin: bool,
+struct Behind {
+    at: usize,
+    latin: bool,
 }
 
 // A piece of a text, spoken or as it is.
@@ -33,7 +33,7 @@ fn put_text(
     out: &mut [u8],
     at: usize,
 ) -> Behind
-    requires { ⌜ (length (now p) ≤ 10000) × (at ≤ far) ⌝ }
+    requires { ⌜ (length (now p) ≤ 10000) × (at ≤ 600000) ⌝ }
     ensures { λ r. ⌜ (r .latin ≡ sideBy (now (back .entry)) spoken latin (now (p .entry))) × (r .at ≤ at + length (now (p .entry))) × Puts (saidBy (now (back .entry)) spoken latin (now (p .entry))) (now (out .entry)) at (r .at) (now (out .exit)) ⌝ }
 {
     if !spoken {
@@ -54,7 +54,7 @@ fn put_text(
 
 // A part: a tab and its text.
 pub(crate) fn put_part(back: &[u8; 256], spoken: bool, p: &[u8], out: &mut [u8], at: usize) -> usize
-    requires { ⌜ (length (now p) ≤ 10000) × (at + 1 ≤ far) ⌝ }
+    requires { ⌜ (length (now p) ≤ 10000) × (at ≤ 500000) ⌝ }
     ensures { λ r. ⌜ (r ≤ at + 1 + length (now (p .entry))) × Puts (9 ∷ saidBy (now (back .entry)) spoken false (now (p .entry))) (now (out .entry)) at r (now (out .exit)) ⌝ }
 {
     put(out, at, b"\t");
@@ -72,7 +72,7 @@ pub(crate) fn put_lines(
     out: &mut [u8],
     at: usize,
 ) -> usize
-    requires { ⌜ (length (now c) ≤ 10000) × (at + 100000 ≤ far) ⌝ }
+    requires { ⌜ (length (now c) ≤ 10000) × (at ≤ 400000) ⌝ }
     ensures { λ r. ⌜ (r ≤ at + length (now (c .entry)) + 1) × Puts (tabbed (partsBy (now (back .entry)) sign role (map (drop mark) (linesIn (now (c .entry)))))) (now (out .entry)) at r (now (out .exit)) ⌝ }
 {
     let mut role = role;
@@ -101,7 +101,7 @@ pub(crate) fn put_over(
     out: &mut [u8],
     at: usize,
 ) -> usize
-    requires { ⌜ (length (now c) ≤ 10000) × (at + 100000 ≤ far) ⌝ }
+    requires { ⌜ (length (now c) ≤ 10000) × (at ≤ 400000) ⌝ }
     ensures { λ r. ⌜ (r ≤ at + length (now (c .entry))) × Puts (overBy (now (back .entry)) sign false (cutBy front mark (linesIn (now (c .entry))))) (now (out .entry)) at r (now (out .exit)) ⌝ }
 {
     let mut d = front;

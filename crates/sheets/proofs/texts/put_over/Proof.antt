@@ -1,7 +1,7 @@
--- `contents::texts::put_over` meets its contract: from each line on as from the first. Assumes nothing.
-use Rattle.contents.proofs.StepLaws.{this-within, line-less, piece-needs, piece-last, piece-next, over-last, over-on}
+-- `sheets::texts::put_over` meets its contract: from each line on as from the first. Assumes nothing.
+use Rattle.sheets.proofs.TextLaws.{this-within, line-less, part-needs, part-next, piece-last, over-last, over-on}
 use Rattle.base.proofs.Room.{Leads}
-use Rattle.contents.specs.Contents.{cutBy, overBy}
+use Rattle.sheets.specs.Steps.{cutBy, overBy}
 use Rattle.machine.specs.Lines.{linesIn}
 use lib.ListN.{length, drop}
 use native.Mathlib.Omega.{arith}
@@ -9,8 +9,8 @@ use mathlib.Core.Bool.{false}
 use mathlib.Core.Path.{_≡_, refl}
 use Prim.Native.Nat.{_+_, _-_, _≤_}
 use borrow.Author.Needs.{needs}
-use Rattle.contents.proofs.texts.put_over.Statement.{statement}
-use Rattle.contents.proofs.texts.put_over.Tie as tie
+use Rattle.sheets.proofs.texts.put_over.Statement.{statement}
+use Rattle.sheets.proofs.texts.put_over.Tie as tie
 
 abbrev Inv-loop : tie.InvT-loop
 Inv-loop back sign front mark c out₀ at d₀ latin₀ n₀ i₀ out d latin n i = (length out ≡ length out₀) × (i ≤ length c) × (n ≤ at + i)
@@ -41,7 +41,7 @@ past-requires : tie.Need-past-requires Inv-loop μ-loop
 past-requires c κs = search needs
 
 put-text-requires : tie.Need-put-text-requires Inv-loop μ-loop
-put-text-requires c κs = let l = c .before .before .before .before in let a = l .before .before .before .args in let p = l .before .before .before .pre in piece-needs (a .c .now) (l .loop .i) (c .before .before .before .mark-at .result) (c .before .before .before .mark-at .ensures) (l .loop .inv .1) (l .loop .d) (c .before .past .ensures) (a .at) (l .loop .inv .2) (p .0) (p .1)
+put-text-requires c κs = let l = c .before .before .before .before in let a = l .before .before .before .args in let p = l .before .before .before .pre in let w = part-needs (a .c .now) (l .loop .i) (c .before .before .before .mark-at .result) (c .before .before .before .mark-at .ensures) (l .loop .inv .1) (l .loop .d) (c .before .past .ensures) (a .at) (l .loop .inv .2) (p .0) (p .1) in (w .0, omega (arith, w .1))
 
 same-length : tie.Need-same-length Inv-loop μ-loop
 same-length c = search needs
@@ -56,7 +56,7 @@ loop-less : tie.Need-loop-less Inv-loop μ-loop
 loop-less c = let l = c .before .before .before .before .before .before .before .before .before in let a = l .before .before .before .args in line-less (a .c .now) (l .loop .i) (c .before .before .before .before .before .before .before .before .mark-at .result) (c .before .before .before .before .before .before .before .before .mark-at .ensures) (c .next-line .result) (l .loop .inv .1) (c .before .if1 .left) (c .next-line .ensures)
 
 loop-again : tie.Need-loop-again Inv-loop μ-loop
-loop-again c = let l = c .before .before .before .before .before .before .before .before .before in let a = l .before .before .before .args in let w = piece-next (a .c .now) (l .loop .i) (c .before .before .before .before .before .before .before .before .mark-at .result) (c .before .before .before .before .before .before .before .before .mark-at .ensures) (l .loop .inv .1) (l .loop .d) (c .before .before .before .before .before .before .past .ensures) (a .at) (l .loop .inv .2) (c .next-line .result) (c .before .if1 .left) (c .next-line .ensures) (c .before .before .before .before .put-text .ensures .1) in (search needs, w .0, w .1, over-on (a .c .now) (l .loop .i) (c .before .before .before .before .before .before .before .before .mark-at .result) (c .before .before .before .before .before .before .before .before .mark-at .ensures) (a .back .now) (a .sign) (l .loop .latin) (l .loop .d) (a .mark) (c .before .before .before .before .before .before .past .ensures) (c .next-line .result) (c .before .if1 .left) (c .next-line .ensures) (c .before .before .before .before .put-text .ensures .0) (l .loop .inv .3) (c .before .before .before .before .put-text .ensures .2))
+loop-again c = let l = c .before .before .before .before .before .before .before .before .before in let a = l .before .before .before .args in let w = part-next (a .c .now) (l .loop .i) (c .before .before .before .before .before .before .before .before .mark-at .result) (c .before .before .before .before .before .before .before .before .mark-at .ensures) (l .loop .inv .1) (l .loop .d) (c .before .before .before .before .before .before .past .ensures) (a .at) (l .loop .inv .2) {k = c .before .before .before .before .put-text .result .at} (c .next-line .result) (c .before .if1 .left) (c .next-line .ensures) (omega (arith, c .before .before .before .before .put-text .ensures .1)) in (search needs, w .0, w .1, over-on (a .c .now) (l .loop .i) (c .before .before .before .before .before .before .before .before .mark-at .result) (c .before .before .before .before .before .before .before .before .mark-at .ensures) (a .back .now) (a .sign) (l .loop .latin) (l .loop .d) (a .mark) (c .before .before .before .before .before .before .past .ensures) (c .next-line .result) (c .before .if1 .left) (c .next-line .ensures) (c .before .before .before .before .put-text .ensures .0) (l .loop .inv .3) (c .before .before .before .before .put-text .ensures .2))
 
 pub put-over-spec : {M : Type 1} → statement M
 put-over-spec =

@@ -1,11 +1,11 @@
--- `contents::notes::put_told` meets its contract. Assumes nothing.
-use Rattle.contents.proofs.StepLaws.{code-few}
-use Rattle.contents.proofs.NoteLaws.{digits-need, over-needs, told-put}
+-- `sheets::contents::put_told` meets its contract. Assumes nothing.
+use Rattle.sheets.proofs.TextLaws.{code-few}
+use Rattle.sheets.proofs.ContentLaws.{told-put}
 use Rattle.roles.proofs.LineLaws.{head-size}
 use native.Mathlib.Omega.{arith}
 use borrow.Author.Needs.{needs}
-use Rattle.contents.proofs.notes.put_told.Statement.{statement}
-use Rattle.contents.proofs.notes.put_told.Tie as tie
+use Rattle.sheets.proofs.contents.put_told.Statement.{statement}
+use Rattle.sheets.proofs.contents.put_told.Tie as tie
 
 mark-at-requires : tie.Need-mark-at-requires
 mark-at-requires c κs = search needs
@@ -20,7 +20,7 @@ digits-of-requires : tie.Need-digits-of-requires
 digits-of-requires c κs = search needs
 
 put-part-requires : tie.Need-put-part-requires
-put-part-requires c κs = let s = c .before .before .before .before .before .before .before in digits-need (s .args .c .now) (c .before .before .before .before .mark-at .result) (c .before .before .before .before .mark-at .ensures) (s .args .back .now) (s .args .sign) _ (c .before .digits-of .ensures) (s .args .at) (s .pre .2)
+put-part-requires c κs = let s = c .before .before .before .before .before .before .before in (omega (arith, code-few (s .args .sign) _ (c .before .digits-of .ensures)), omega (arith, s .pre))
 
 slice-aggregate-put : tie.Need-slice-aggregate-put
 slice-aggregate-put c = search needs
@@ -38,7 +38,7 @@ add-put-over-2 : tie.Need-add-put-over-2
 add-put-over-2 c = omega (arith, code-few (c .before .before .before .before .before .before .before .before .before .before .before .before .before .before .before .before .before .args .sign) _ (c .before .before .before .before .before .before .before .before .before .before .before .digits-of .ensures), (c .before .before .before .before .before .before .before .before .before .put-part .ensures .0), (c .before .before .before .before .before .before .before .before .before .before .before .before .before .before .before .before .before .pre))
 
 put-over-requires : tie.Need-put-over-requires
-put-over-requires c κs = let s = c .before .before .before .before .before .before .before .before .before .before .before .before .before .before .before .before .before in over-needs (s .args .c .now) (c .before .before .before .before .before .before .before .before .before .before .before .before .before .before .mark-at .result) (c .before .before .before .before .before .before .before .before .before .before .before .before .before .before .mark-at .ensures) (s .args .back .now) (s .args .sign) _ (c .before .before .before .before .before .before .before .before .before .before .before .digits-of .ensures) (s .args .at) (s .pre .1) (s .pre .2) (c .before .before .before .before .before .before .before .before .before .put-part .ensures .0)
+put-over-requires c κs = let s = c .before .before .before .before .before .before .before .before .before .before .before .before .before .before .before .before .before in (s .pre .1, omega (arith, code-few (s .args .sign) _ (c .before .before .before .before .before .before .before .before .before .before .before .digits-of .ensures), c .before .before .before .before .before .before .before .before .before .put-part .ensures .0, s .pre))
 
 same-length : tie.Need-same-length
 same-length c = search needs

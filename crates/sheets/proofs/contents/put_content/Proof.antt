@@ -1,10 +1,10 @@
--- `contents::calls::put_parts` meets its contract: by the shape. Assumes nothing.
+-- `sheets::contents::put_content` meets its contract: by the shape. Assumes nothing.
 use native.Mathlib.Omega.{arith}
-use Rattle.contents.specs.Contents.{contentBy}
-use Rattle.contents.proofs.CallLaws.{shape-put, lines-put}
+use Rattle.sheets.specs.Steps.{contentBy}
+use Rattle.sheets.proofs.ContentLaws.{shape-put, lines-put}
 use borrow.Author.Needs.{needs}
-use Rattle.contents.proofs.calls.put_parts.Statement.{statement}
-use Rattle.contents.proofs.calls.put_parts.Tie as tie
+use Rattle.sheets.proofs.contents.put_content.Statement.{statement}
+use Rattle.sheets.proofs.contents.put_content.Tie as tie
 
 enum-told : tie.Need-enum-told
 enum-told c = search needs
@@ -57,8 +57,8 @@ same-length-4 c = search needs
 returns-4 : tie.Need-returns-4
 returns-4 c = let a = c .before .before .before .before .before .before .before .before .args in let p = c .before .before .put-lines2 .ensures in (omega (arith, p .0), lines-put (a .back .now) (a .sign) (a .c .now) (a .shape) (c .before .before .before .before .before .match .keys4) (c .before .before .before .before .first-role .ensures) (p .1))
 
-pub put-parts-spec : {M : Type 1} → statement M
-put-parts-spec =
+pub put-content-spec : {M : Type 1} → statement M
+put-content-spec =
     tie.close
     (tie.spec
     enum-told

@@ -1,9 +1,11 @@
--- The steps of details and of the note of a 202. Assumes nothing.
+-- The steps of details and of the note of a 202, and a content by the shape of its tag. Assumes nothing.
 use Prim.Native.Nat.{ℕ, _+_, _-_, _≤_, _<_, min}
-use mathlib.Core.Path.{_≡_, sym, ap, ap₂, _∙_}
+use mathlib.Core.Path.{_≡_, refl, sym, ap, ap₂, _∙_}
 use mathlib.Core.Bool.{Bool, true, false}
-use mathlib.Core.List.{List, [], _∷_, _++_, append-nil}
+use mathlib.Core.List.{List, [], _∷_, _++_, map, map-id, append-nil}
 use native.Mathlib.Omega.{arith}
+use types.Run.{OneOf}
+use denote.Enum.Declared.{tagOf}
 use lib.ListN.{length, take, drop, length-drop}
 use Rattle.base.proofs.ByteLaws.{past-in}
 use Rattle.base.proofs.Room.{puts-on, puts-by}
@@ -14,10 +16,16 @@ use Rattle.machine.specs.Lines.{linesIn}
 use Rattle.values.specs.Values.{isRpp}
 use Rattle.roles.specs.Speech.{codeSize}
 use Rattle.roles.specs.Found.{linesPast}
+use Rattle.roles.specs.Parts.{firstRole}
+use Rattle.roles.specs.declared.Shape.{Shape}
+use Rattle.roles.specs.declared.Role.{Role}
+use Rattle.roles.proofs.Shape.{the-type}
+use Rattle.roles.proofs.PartLaws.{each-lined}
 use Rattle.roles.proofs.LineLaws.{lines-head, past-none, past-at, head-size, head-within}
 use Rattle.records.specs.Record.{tabbed}
-use Rattle.contents.specs.Contents.{codeDigits, cutBy, overBy, toldBy, noteBy, far}
-use Rattle.contents.proofs.StepLaws.{tab-put, take-few, code-few}
+use Rattle.sheets.specs.Gather.{codeDigits}
+use Rattle.sheets.specs.Steps.{partsBy, cutBy, overBy, toldBy, noteBy, contentBy}
+use Rattle.sheets.proofs.TextLaws.{tab-put, take-few, code-few}
 
 -- ---- details, of a content whose first line ends at e
 module _ (c : List ℕ) (e : ℕ) (q : e ≡ 0 + upTo 13 (drop 0 c)) (t : List ℕ) (s : Bool) where
@@ -35,14 +43,7 @@ module _ (c : List ℕ) (e : ℕ) (q : e ≡ 0 + upTo 13 (drop 0 c)) (t : List �
             (puts-on (9 ∷ v) (9 ∷ x) p (tab-put f o)),
       )
 
-  -- the VO digits are few
-  pub digits-need : (k : List ℕ) {v : List ℕ} → v ≡ codeDigits s k → (at : ℕ) → at + 200000 ≤ far → (length v ≤ 10000) × (at + 1 ≤ far)
-  digits-need k hv at a = (omega (arith, code-few s k hv), omega arith)
-
-  pub over-needs : (k : List ℕ) {v : List ℕ} → v ≡ codeDigits s k → (at : ℕ) {n : ℕ} → length c ≤ 10000 → at + 200000 ≤ far → n ≤ at + 1 + length v → (length c ≤ 10000) × (n + 1 + 100000 ≤ far)
-  over-needs k hv at h a b = (h, omega (arith, code-few s k hv))
-
-  head-small : (d : ℕ) {l : List ℕ} → l ≡ drop d (take e c) → (length l ≤ e) × (e ≤ length c)
+  pub head-small : (d : ℕ) {l : List ℕ} → l ≡ drop d (take e c) → (length l ≤ e) × (e ≤ length c)
   head-small d z = (omega (arith, ap length z ∙ length-drop d (take e c), head-size c e q), head-within c e q)
 
   -- 72 of a 202
@@ -53,20 +54,11 @@ module _ (c : List ℕ) (e : ℕ) (q : e ≡ 0 + upTo 13 (drop 0 c)) (t : List �
       ∙ ap (λ (xs : List (List ℕ)). tabbed (noteBy t s xs)) (sym (lines-head c e q))
 
   module _ {b : Bool} (f : b ≡ isRpp (take e c)) where
-    pub first-needs : (at : ℕ) → length c ≤ 10000 → at + 300000 ≤ far → (5 ≤ 5) × (length c ≤ 10000) × (at + 1 + 200000 ≤ far)
-    first-needs at h a = (omega arith, h, omega arith)
-
     pub note-none : {out mid after : List ℕ} {at r : ℕ} → b ≡ false → mid ≡ placed out at (9 ∷ []) → r ≤ at + 1 + length c + 7 → Puts (tabbed (toldBy t s 5 2 (linesIn c))) mid (at + 1) r after
         → (r ≤ at + length c + 8) × Puts (tabbed (noteBy t s (linesIn c))) out at r after
     note-none g m k p = (omega arith, puts-by (note-is (sym g ∙ f)) (tab-put m p))
 
     module _ (g : b ≡ true) {p : List ℕ} (h : p ≡ drop 5 (take e c)) where
-      pub rpp-needs : (at : ℕ) → length c ≤ 10000 → at + 300000 ≤ far → (length p ≤ 10000) × (at + 1 ≤ far)
-      rpp-needs at k a = (omega (arith, head-small 5 h), omega arith)
-
-      pub rest-needs : (at : ℕ) {n : ℕ} (i : ℕ) → length c ≤ 10000 → at + 300000 ≤ far → n ≤ at + 1 + length p → (5 ≤ 5) × (length (take (length c - i) (drop i c)) ≤ 10000) × (n + 200000 ≤ far)
-      rest-needs at i k a b = (omega arith, omega (arith, take-few (length c - i) (drop i c)), omega (arith, head-small 5 h))
-
       pub note-alone : {out mid : List ℕ} {at n : ℕ} → length c ≤ e → n ≤ at + 1 + length p → Puts (9 ∷ p) out at n mid → (n ≤ at + length c + 8) × Puts (tabbed (noteBy t s (linesIn c))) out at n mid
       note-alone k i a =
           (omega (arith, head-small 5 h), puts-by (ap (λ (x : List ℕ). 9 ∷ x) (h ∙ sym (append-nil (drop 5 (take e c)))) ∙ ap (λ (xs : List (List ℕ)). 9 ∷ (drop 5 (take e c) ++ tabbed (toldBy t s 5 2 xs))) (sym (past-none c e k)) ∙ note-is (sym g ∙ f)) a)
@@ -80,3 +72,16 @@ module _ (c : List ℕ) (e : ℕ) (q : e ≡ 0 + upTo 13 (drop 0 c)) (t : List �
             (ap₂ (λ (x : List ℕ) (xs : List (List ℕ)). 9 ∷ (x ++ tabbed (toldBy t s 5 2 xs))) h (ap linesIn (past-in c i) ∙ sym (past-at c e i k j)) ∙ note-is (sym g ∙ f))
             (puts-on (9 ∷ p) (tabbed (toldBy t s 5 2 (linesIn (take (length c - i) (drop i c))))) a d),
       )
+
+-- ---- a content by the shape of its tag
+module _ (t : List ℕ) (s : Bool) (c : List ℕ) {out after : List ℕ} {at r : ℕ} where
+  pub shape-put : {sh to : Shape} → sh ≡ to → Puts (tabbed (contentBy t s to (linesIn c))) out at r after → Puts (tabbed (contentBy t s sh (linesIn c))) out at r after
+  shape-put e p = puts-by (ap (λ (x : Shape). tabbed (contentBy t s x (linesIn c))) (sym e)) p
+
+  -- parts that are all lines
+  pub lines-put : (sh : Shape) {role : Role} → OneOf (0 ∷ 1 ∷ 2 ∷ 3 ∷ []) (tagOf the-type sh) → role ≡ firstRole sh → Puts (tabbed (partsBy t s role (map (drop 0) (linesIn c)))) out at r after
+      → Puts (tabbed (contentBy t s sh (linesIn c))) out at r after
+  unfolding contentBy
+  lines-put sh h e p =
+      puts-by (ap₂ (λ (x : Role) (ls : List (List ℕ)). tabbed (partsBy t s x ls)) e (map-id (linesIn c))
+      ∙ each-lined (λ x. tabbed (partsBy t s (firstRole x) (linesIn c)) ≡ tabbed (contentBy t s x (linesIn c))) refl refl refl refl sh h) p
