@@ -90,7 +90,7 @@ pub(crate) fn fill_piece(back: &[u8; 256], latin: bool, part: &[u8], out: &mut [
         if k == part.len() {
             return;
         }
-        if part[k] != 39 {
+        if part[k] != b'\'' {
             return;
         }
         side = !side;

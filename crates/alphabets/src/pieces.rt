@@ -59,7 +59,7 @@ pub fn read_piece(back: &[u8; 256], latin: bool, part: &[u8]) -> Piece
                 latin: side,
             };
         }
-        if part[k] != 39 {
+        if part[k] != b'\'' {
             return Piece::Stops(k);
         }
         marks += 1;
@@ -88,7 +88,7 @@ pub fn sign_from(back: &[u8; 256], latin: bool, part: &[u8], from: usize) -> Sig
                 latin: side,
             };
         }
-        if b != 39 {
+        if b != b'\'' {
             return Sign {
                 value: 0,
                 next: i,

@@ -5,6 +5,7 @@ ghost use Rattle.records.specs.Rule19.{number};
 ghost use Rattle.answers.specs.Programs.{MessageAnswered, SheetAnswered, namesType};
 ghost use Rattle.answers.specs.Steps.{roomless, ReadsNamed};
 use base::Outcome;
+use base::bytes::ZERO;
 use base::bytes::is_digit;
 use base::bytes::wide;
 use refusals::put_shown;
@@ -52,14 +53,14 @@ fn names_type(i: &[u8]) -> bool
     if !is_digit(i[2]) {
         return false;
     }
-    i[3] == 10
+    i[3] == b'\n'
 }
 
 fn type_of(i: &[u8]) -> u32
     requires { ⌜ namesType (now i) ≡ true ⌝ }
     ensures { λ r. ⌜ r ≡ number (now (i .entry)) ⌝ }
 {
-    (wide(i[0]) - 48) * 100 + (wide(i[1]) - 48) * 10 + (wide(i[2]) - 48)
+    (wide(i[0]) - ZERO) * 100 + (wide(i[1]) - ZERO) * 10 + (wide(i[2]) - ZERO)
 }
 
 // The type, then the message behind it.

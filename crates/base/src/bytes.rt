@@ -5,6 +5,9 @@ ghost use lib.ListN.{length, take, drop, getD};
 ghost use Rattle.base.specs.Bytes.{digit, capital, lead, same};
 ghost use Rattle.base.specs.Calls.{placed};
 
+// The digit 0 as a number: what a digit is above its value.
+pub const ZERO: u32 = b'0' as u32;
+
 pub fn wide(x: u8) -> u32
     ensures { λ r. ⌜ (r ≡ x) × (r < 256) ⌝ }
 {
@@ -14,19 +17,19 @@ pub fn wide(x: u8) -> u32
 pub fn is_digit(x: u8) -> bool
     ensures { λ r. ⌜ r ≡ digit x ⌝ }
 {
-    if x < 48 {
+    if x < b'0' {
         return false;
     }
-    x <= 57
+    x <= b'9'
 }
 
 pub fn is_capital(x: u8) -> bool
     ensures { λ r. ⌜ r ≡ capital x ⌝ }
 {
-    if x < 65 {
+    if x < b'A' {
         return false;
     }
-    x <= 90
+    x <= b'Z'
 }
 
 fn class_of(t: &[u8; 256], b: u8) -> u32

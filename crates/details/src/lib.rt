@@ -71,10 +71,10 @@ fn may_open(barred: bool, b: u8) -> bool
     if !barred {
         return true;
     }
-    if b == 58 {
+    if b == b':' {
         return false;
     }
-    b != 45
+    b != b'-'
 }
 
 // The last place behind low, up to high, whose byte may open a line; low if there is none.

@@ -17,19 +17,19 @@ fn is_opened(m: &[u8]) -> bool
     requires { ⌜ 7 ≤ length (now m) ⌝ }
     ensures { λ r. ⌜ r ≡ same (take 5 (now (m .entry))) opening ⌝ }
 {
-    if m[0] != 123 {
+    if m[0] != b'{' {
         return false;
     }
-    if m[1] != 52 {
+    if m[1] != b'4' {
         return false;
     }
-    if m[2] != 58 {
+    if m[2] != b':' {
         return false;
     }
-    if m[3] != 13 {
+    if m[3] != b'\r' {
         return false;
     }
-    m[4] == 10
+    m[4] == b'\n'
 }
 
 // CR LF -} stands at the end.
@@ -38,16 +38,16 @@ fn is_closed(m: &[u8]) -> bool
     ensures { λ r. ⌜ r ≡ same (drop (length (now (m .entry)) - 4) (now (m .entry))) (13 ∷ 10 ∷ closing) ⌝ }
 {
     let at = m.len() - 4;
-    if m[at] != 13 {
+    if m[at] != b'\r' {
         return false;
     }
-    if m[at + 1] != 10 {
+    if m[at + 1] != b'\n' {
         return false;
     }
-    if m[at + 2] != 45 {
+    if m[at + 2] != b'-' {
         return false;
     }
-    m[at + 3] == 125
+    m[at + 3] == b'}'
 }
 
 // Whether 2 leaves the message alone.
@@ -74,13 +74,13 @@ fn four_tag(a: u8, b: u8, c: u8, d: u8) -> u32
         return 0;
     }
     let number = wide(a) * 65536 + wide(b) * 256;
-    if c == 58 {
+    if c == b':' {
         return number;
     }
     if !is_capital(c) {
         return 0;
     }
-    if d != 58 {
+    if d != b':' {
         return 0;
     }
     number + wide(c)
@@ -93,7 +93,7 @@ pub fn line_tag(line: &[u8]) -> u32
     if line.len() < 4 {
         return 0;
     }
-    if line[0] != 58 {
+    if line[0] != b':' {
         return 0;
     }
     if line.len() == 4 {
@@ -109,10 +109,10 @@ pub fn is_bad_start(first: bool, line: &[u8]) -> bool
     if line.len() == 0 {
         return true;
     }
-    if line[0] == 45 {
+    if line[0] == b'-' {
         return true;
     }
-    if line[0] == 58 {
+    if line[0] == b':' {
         return false;
     }
     first
@@ -126,7 +126,7 @@ pub fn start_at(m: &[u8], colon: u32) -> usize
     if m.len() <= o + 3 {
         return o + 5;
     }
-    if m[o + 3] == 58 {
+    if m[o + 3] == b':' {
         return o + 4;
     }
     o + 5
@@ -141,7 +141,7 @@ pub fn tag_at(m: &[u8], colon: u32) -> u32
         return 0;
     }
     let number = wide(m[o + 1]) * 65536 + wide(m[o + 2]) * 256;
-    if m[o + 3] == 58 {
+    if m[o + 3] == b':' {
         return number;
     }
     number + wide(m[o + 3])

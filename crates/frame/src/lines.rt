@@ -24,10 +24,10 @@ pub(crate) fn is_ended(m: &[u8], i: usize) -> bool
     requires { ⌜ i + 1 < length (now m) ⌝ }
     ensures { λ r. ⌜ r ≡ (eqb (byte (now (m .entry)) i) 13 && eqb (byte (now (m .entry)) (i + 1)) 10) ⌝ }
 {
-    if m[i] != 13 {
+    if m[i] != b'\r' {
         return false;
     }
-    m[i + 1] == 10
+    m[i + 1] == b'\n'
 }
 
 // The tag is the line's, 0 where it has none.
@@ -41,5 +41,5 @@ pub(crate) fn is_bad_line(first: bool, line: &[u8], tag: u32) -> bool
     if tag != 0 {
         return false;
     }
-    line[0] == 58
+    line[0] == b':'
 }

@@ -82,13 +82,13 @@ pub fn put_purpose(sign: bool, place: Place, l: &[u8], i: usize, out: &mut [u8],
     if 10000 < l.len() {
         return Step::Unfit;
     }
-    let v = mark_at(9, l, i);
+    let v = mark_at(b'\t', l, i);
     if l.len() <= v {
         return Step::Unfit;
     }
     if v - i != 5 {
         return Step::Unfit;
     }
-    let e = mark_at(9, l, v + 1);
+    let e = mark_at(b'\t', l, v + 1);
     put_told(sign, place, v + 1, &l[i..v], &l[v + 1..e], out, at as usize)
 }

@@ -21,10 +21,10 @@ fn goes_on(p: &[u8]) -> bool
     if p.len() == 0 {
         return false;
     }
-    if p[0] == 45 {
+    if p[0] == b'-' {
         return false;
     }
-    p[0] != 58
+    p[0] != b':'
 }
 
 fn all_go_on(l: &[u8], from: usize) -> bool
@@ -32,7 +32,7 @@ fn all_go_on(l: &[u8], from: usize) -> bool
 {
     let mut i = from;
     while i <= l.len() {
-        let e = mark_at(9, l, i);
+        let e = mark_at(b'\t', l, i);
         if !goes_on(&l[i..e]) {
             return false;
         }
@@ -48,7 +48,7 @@ fn is_general(l: &[u8], i: usize) -> bool
     if l.len() < i {
         return false;
     }
-    let e = mark_at(9, l, i);
+    let e = mark_at(b'\t', l, i);
     if e == i {
         return false;
     }
@@ -62,7 +62,7 @@ fn is_sole(l: &[u8], i: usize) -> bool
     if l.len() < i {
         return false;
     }
-    let e = mark_at(9, l, i);
+    let e = mark_at(b'\t', l, i);
     if e == i {
         return false;
     }
@@ -91,7 +91,7 @@ fn is_detailed(l: &[u8], i: usize) -> bool
     if l.len() < i {
         return false;
     }
-    let e = mark_at(9, l, i);
+    let e = mark_at(b'\t', l, i);
     if !is_digits(5, &l[i..e]) {
         return false;
     }
@@ -104,7 +104,7 @@ fn is_noted(l: &[u8], i: usize) -> bool
     if l.len() < i {
         return false;
     }
-    let e = mark_at(9, l, i);
+    let e = mark_at(b'\t', l, i);
     is_detailed(l, e + 1)
 }
 
@@ -118,7 +118,7 @@ fn is_untaxed(sign: bool, l: &[u8], i: usize) -> bool
     if l.len() < i {
         return true;
     }
-    let e = mark_at(9, l, i);
+    let e = mark_at(b'\t', l, i);
     !is_numbered(&l[i..e], 200, 205, 205)
 }
 
@@ -128,8 +128,8 @@ fn is_payer(sign: bool, l: &[u8], i: usize) -> bool
     if !is_general(l, i) {
         return false;
     }
-    let e = mark_at(9, l, i);
-    if l[i] == 47 {
+    let e = mark_at(b'\t', l, i);
+    if l[i] == b'/' {
         return is_untaxed(sign, l, e + 1);
     }
     is_untaxed(sign, l, i)
@@ -141,7 +141,7 @@ fn is_payee(sign: bool, l: &[u8], i: usize) -> bool
     if !is_general(l, i) {
         return false;
     }
-    let e = mark_at(9, l, i);
+    let e = mark_at(b'\t', l, i);
     is_untaxed(sign, l, e + 1)
 }
 
@@ -164,7 +164,7 @@ fn is_sound(shape: Shape, sign: bool, l: &[u8], i: usize) -> bool
 pub(crate) fn is_good(kind: u32, sign: bool, l: &[u8]) -> bool
     ensures { λ r. ⌜ r ≡ good kind sign (recordOf (now (l .entry))) ⌝ }
 {
-    let t = mark_at(9, l, 0);
+    let t = mark_at(b'\t', l, 0);
     let tag = tag_number(&l[..t]);
     if tag == 0 {
         return false;

@@ -17,6 +17,7 @@ use super::Judged;
 use super::parts::is_digits;
 use super::parts::is_good;
 use base::Verdict;
+use base::bytes::ZERO;
 use base::marks::mark_at;
 use types::forms::count_of;
 
@@ -37,19 +38,19 @@ fn is_two(p: &[u8], a: u8, b: u8) -> bool
 fn is_twenty(l: &[u8]) -> bool
     ensures { λ r. ⌜ r ≡ same (tagOf (recordOf (now (l .entry)))) (bytes "20") ⌝ }
 {
-    let t = mark_at(9, l, 0);
-    is_two(&l[..t], 50, 48)
+    let t = mark_at(b'\t', l, 0);
+    is_two(&l[..t], b'2', b'0')
 }
 
 // Its first content part begins with +.
 fn has_plus(l: &[u8]) -> bool
     ensures { λ r. ⌜ r ≡ begins 43 (firstLine (partsIn (recordOf (now (l .entry))))) ⌝ }
 {
-    let t = mark_at(9, l, 0);
+    let t = mark_at(b'\t', l, 0);
     if l.len() <= t + 1 {
         return false;
     }
-    l[t + 1] == 43
+    l[t + 1] == b'+'
 }
 
 // The sign, by the first record with the tag 20, ended or not.
@@ -58,7 +59,7 @@ fn sign_of(s: &[u8]) -> bool
 {
     let mut at = 0;
     while at <= s.len() {
-        let e = mark_at(10, s, at);
+        let e = mark_at(b'\n', s, at);
         if is_twenty(&s[at..e]) {
             return has_plus(&s[at..e]);
         }
@@ -74,10 +75,10 @@ fn is_typed(l: &[u8]) -> bool
     if l.len() != 6 {
         return false;
     }
-    if l[2] != 9 {
+    if l[2] != b'\t' {
         return false;
     }
-    if !is_two(&l[..2], 77, 84) {
+    if !is_two(&l[..2], b'M', b'T') {
         return false;
     }
     is_digits(3, &l[3..])
@@ -87,7 +88,7 @@ fn number_of(p: &[u8]) -> u32
     requires { ⌜ digits 3 (now p) ≡ true ⌝ }
     ensures { λ r. ⌜ r ≡ number (now (p .entry)) ⌝ }
 {
-    (p[0] as u32 - 48) * 100 + (p[1] as u32 - 48) * 10 + (p[2] as u32 - 48)
+    (p[0] as u32 - ZERO) * 100 + (p[1] as u32 - ZERO) * 10 + (p[2] as u32 - ZERO)
 }
 
 // The first bad record from a place on.
@@ -97,7 +98,7 @@ fn bad_record(s: &[u8], kind: u32, sign: bool, from: usize) -> Verdict
 {
     let mut at = from;
     while at < s.len() {
-        let e = mark_at(10, s, at);
+        let e = mark_at(b'\n', s, at);
         if e == s.len() {
             return Verdict::Broken {
                 number: 19,
@@ -153,7 +154,7 @@ pub fn judge_sheet(s: &[u8]) -> Judged
     ensures { λ r. ⌜ r ≡ judged (now (s .entry)) ⌝ }
 {
     let sign = sign_of(s);
-    let e = mark_at(10, s, 0);
+    let e = mark_at(b'\n', s, 0);
     if e == s.len() {
         return unnamed(sign);
     }

@@ -8,6 +8,8 @@ use base::Outcome;
 use base::bytes::front;
 use base::bytes::put;
 
+const ZERO: usize = b'0' as usize;
+
 // The digits of n put in front of a place, the last first; answers where they begin.
 fn put_digits(out: &mut [u8], end: usize, n: usize) -> usize
     requires { ⌜ (20 ≤ end) × (end ≤ length (now out)) ⌝ }
@@ -17,11 +19,11 @@ fn put_digits(out: &mut [u8], end: usize, n: usize) -> usize
     let mut left = n;
     while 10 <= left {
         at -= 1;
-        out[at] = (48 + left % 10) as u8;
+        out[at] = (ZERO + left % 10) as u8;
         left /= 10;
     }
     at -= 1;
-    out[at] = (48 + left) as u8;
+    out[at] = (ZERO + left) as u8;
     at
 }
 
@@ -30,9 +32,9 @@ fn lay_line(number: u32, place: usize, line: &mut [u8]) -> usize
     requires { ⌜ length (now line) ≡ 50 ⌝ }
     ensures { λ r. ⌜ (r ≤ 50) × (drop r (now (line .exit)) ≡ refusalLine number place) ⌝ }
 {
-    line[49] = 10;
+    line[49] = b'\n';
     let p = put_digits(line, 49, place);
-    line[p - 1] = 9;
+    line[p - 1] = b'\t';
     let n = put_digits(line, p - 1, number as usize);
     put(line, n - 8, b"refused\t");
     n - 8

@@ -13,7 +13,7 @@ fn length_of(text: &[u8]) -> usize
     if n == 0 {
         return 0;
     }
-    if text[n - 1] == 10 { n - 1 } else { n }
+    if text[n - 1] == b'\n' { n - 1 } else { n }
 }
 
 // A text as a line, or the refusal's number and place.

@@ -91,9 +91,9 @@ fn quote(part: &[u8], out: &mut [u8], n: usize)
     requires { ⌜ n + (length (now part) + 2) ≤ length (now out) ⌝ }
     ensures { λ _. ⌜ now (out .exit) ≡ sets (now (out .entry)) n (39 ∷ (now (part .entry) ++ 39 ∷ [])) ⌝ }
 {
-    out[n] = 39;
+    out[n] = b'\'';
     put_part(part, out, n + 1);
-    out[n + 1 + part.len()] = 39;
+    out[n + 1 + part.len()] = b'\'';
 }
 
 pub(crate) fn fill_desk(grid: &[u8; 256], desk: &[u8], out: &mut [u8])

@@ -27,6 +27,8 @@ pub struct Entry {
     pub next: usize,
 }
 
+const ZERO: usize = b'0' as usize;
+
 // No number.
 const NONE: usize = 10000000000;
 
@@ -73,7 +75,7 @@ fn digit_of(b: u8) -> usize
     if !is_digit(b) {
         return 10;
     }
-    wide(b) as usize - 48
+    wide(b) as usize - ZERO
 }
 
 // A number of at most ten digits; 10,000,000,000 for any other text.
@@ -110,7 +112,7 @@ pub fn cut(list: &[u8], at: usize, n: usize) -> &[u8]
 pub fn line_at(list: &[u8], at: usize) -> &[u8]
     ensures { λ r. ⌜ now r ≡ lineAt (now (list .entry)) at ⌝ }
 {
-    up_to(10, past(list, at))
+    up_to(b'\n', past(list, at))
 }
 
 // The place behind n bytes and the LF that ends them; 0 where no LF stands there.
@@ -124,7 +126,7 @@ pub fn behind(list: &[u8], at: usize, n: usize) -> usize
         return 0;
     }
     let end = at + n;
-    if list[end] != 10 {
+    if list[end] != b'\n' {
         return 0;
     }
     end + 1
@@ -143,7 +145,7 @@ pub fn body_at(list: &[u8], at: usize, spaces: usize) -> Body
             next: 0,
         };
     }
-    let size = number(rest(32, head, spaces));
+    let size = number(rest(b' ', head, spaces));
     let next = behind(list, start, size);
     Body { start, size, next }
 }
@@ -152,8 +154,8 @@ pub fn entry_at(list: &[u8], at: usize) -> Entry
     ensures { λ r. ⌜ r ≡ entryAt (now (list .entry)) at ⌝ }
 {
     let head = line_at(list, at);
-    let kind = number(word(32, head, 0));
-    let room = number(word(32, head, 1));
+    let kind = number(word(b' ', head, 0));
+    let room = number(word(b' ', head, 1));
     let body = body_at(list, at, 2);
     Entry {
         kind,

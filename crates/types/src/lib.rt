@@ -1,6 +1,7 @@
 // The message types as tables, and the steps of the walk over a message's fields.
 pub mod forms;
 pub mod steps;
+pub mod tags;
 
 // The room of the tables: as many places as the longest type has, and two tags for each.
 pub const PLACES: usize = 14;

@@ -44,7 +44,7 @@ fn put_record(kind: u32, sign: bool, l: &[u8], out: &mut [u8], at: usize) -> Ste
     requires { ⌜ (length (now l) ≤ 10000) × (at + 200000 ≤ near) × (good kind sign (recordOf (now l)) ≡ true) ⌝ }
     ensures { λ r. ⌜ Adds (recordStops kind sign (recordOf (now (l .entry)))) (recordCrowded kind sign (recordOf (now (l .entry)))) (laid (lined (fieldFor kind sign (recordOf (now (l .entry)))))) (now (out .entry)) at r (now (out .exit)) × Within r (length (now (l .entry))) (at + 400 * (length (now (l .entry)) + 1)) ⌝ }
 {
-    let t = mark_at(9, l, 0);
+    let t = mark_at(b'\t', l, 0);
     let tag = &l[..t];
     let shape = shape_of(kind, tag_number(tag));
     let n = put_tag(tag, out, at as u32);
@@ -61,7 +61,7 @@ pub(crate) fn put_message(s: &[u8], kind: u32, sign: bool, out: &mut [u8]) -> St
     let mut n = 5;
     let mut i = 7;
     while i < s.len() {
-        let e = mark_at(10, s, i);
+        let e = mark_at(b'\n', s, i);
         match put_record(kind, sign, &s[i..e], out, n) {
             Step::Stuck(k) => return Step::Stuck(i + k),
             Step::Unfit => fit = false,

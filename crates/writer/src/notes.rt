@@ -33,7 +33,7 @@ pub(crate) fn put_note(sign: bool, l: &[u8], i: usize, out: &mut [u8], at: usize
     requires { ⌜ (length (now l) ≤ 10000) × (at + 100000 ≤ near) × (noted (piecesAt 9 (now l) i) ≡ true) ⌝ }
     ensures { λ r. ⌜ Adds (unsaid sign i (castParts Note202 (piecesAt 9 (now (l .entry)) i))) (crowdedNote sign (piecesAt 9 (now (l .entry)) i)) (laid (noteLines sign (piecesAt 9 (now (l .entry)) i))) (now (out .entry)) at r (now (out .exit)) × Within r (length (now (l .entry))) (at + 4 * length (now (l .entry)) + 300) ⌝ }
 {
-    let e = mark_at(9, l, i);
+    let e = mark_at(b'\t', l, i);
     if e == i {
         return put_purpose(sign, Place::In72, l, e + 1, out, at as u32);
     }

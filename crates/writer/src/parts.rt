@@ -29,7 +29,7 @@ pub(crate) fn put_parts(
     ensures { λ r. ⌜ Adds (unsaid sign i (castBy role (piecesAt 9 (now (l .entry)) i))) false (laid (map (lineFor sign) (castBy role (piecesAt 9 (now (l .entry)) i)))) (now (out .entry)) at r (now (out .exit)) × Within r (length (now (l .entry))) (at + 4 * length (now (l .entry)) + 4) ⌝ }
 {
     while i <= l.len() {
-        let e = mark_at(9, l, i);
+        let e = mark_at(b'\t', l, i);
         let p = &l[i..e];
         let spoken = is_spoken(sign, role, p);
         let r = put_line(spoken, i as u32, p, out, at as u32);
