@@ -29,10 +29,6 @@ Holds (answered s t) = messageAnswer (desk s) ≡ bytes t
 Holds (read i s) = sheetAnswer (49 ∷ 48 ∷ 51 ∷ 10 ∷ bytes i) ≡ desk s
 Holds (told i t) = sheetAnswer (bytes i) ≡ bytes t
 
-abbrev pub AllHold : List Case → Type 0
-AllHold [] = Unit {0}
-AllHold (c ∷ cs) = Holds c × AllHold cs
-
 unfoldable pub cases : List Case
 cases =
     spelt 0 "0" ∷ spelt 7 "7" ∷ spelt 10 "10" ∷ spelt 10000 "10000"

@@ -4,3 +4,4 @@ pub mod Rules
 pub mod Calls
 pub mod Bits
 pub mod Quoted
+pub mod Examples

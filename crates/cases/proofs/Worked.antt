@@ -3,6 +3,7 @@ use Prim.Native.Nat.{ℕ}
 use mathlib.Core.Path.{_≡_, refl}
 use mathlib.Core.List.{List}
 use lib.ListN.{length}
+use Rattle.base.specs.Examples.{AllHold, _also_}
 use Rattle.base.specs.Rules.{first}
 use Rattle.base.specs.Calls.{Gives, long, short, outcome, room, placed}
 use Rattle.base.specs.Bytes.{isIn, digit, capital, letter, marks, shared, xset}
@@ -20,17 +21,13 @@ use Rattle.values.specs.Number.{onward}
 use Rattle.values.specs.Day.{leap, daysIn, isDay, yearOf, realDay}
 use Rattle.values.specs.Money.{kopecks}
 use Rattle.values.specs.Answers.{dayAt, kopecksOf}
-use Rattle.cases.specs.Cases.{cases, AllHold}
-
-infixr 4 _also_
-abbrev _also_ : {A B : Type 0} → A → B → A × B
-a also b = (a, b)
+use Rattle.cases.specs.Cases.{cases, Holds}
 
 -- a call gives what is computed
 gives : {rules : List Verdict} {t out : List ℕ} {r : Outcome} {after : List ℕ} → r ≡ outcome (first rules) (length t) → after ≡ room (first rules) t out → Gives rules t out r after
 gives p q = record { answers = p; leaves = q }
 
-pub worked : AllHold cases
+pub worked : AllHold Holds cases
 unfolding cases placed plainly code codes floorOf heardOf pieceIn extent written spoken pieceText xset isIn digit capital letter marks shared grid kind sign reads latinNext best bad writes long short ReadTo WrittenTo upto past onward leap daysIn isDay yearOf realDay kopecks dayAt kopecksOf
 worked =
     (gives refl refl, gives refl refl) also (gives refl refl, gives refl refl) also (gives refl refl, gives refl refl) also (gives refl refl, gives refl refl)

@@ -63,10 +63,6 @@ Holds (worth a k) = kopecksOf (bytes "240229RUB" ++ bytes a) ≡ k
 Holds (isDay d) = dayAt (bytes d) 0 ≡ true
 Holds (noDay d) = dayAt (bytes d) 0 ≡ false
 
-abbrev pub AllHold : List Case → Type 0
-AllHold [] = Unit {0}
-AllHold (c ∷ cs) = Holds c × AllHold cs
-
 unfoldable pub cases : List Case
 cases =
     -- 1 to 12

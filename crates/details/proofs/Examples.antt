@@ -1,15 +1,12 @@
 -- The worked examples hold: each is computed. Assumes nothing.
 use mathlib.Core.Path.{refl}
+use Rattle.base.specs.Examples.{AllHold, _also_}
 use Rattle.base.specs.Bytes.{isIn}
 use Rattle.details.specs.Breaking.{opens, last, breaks, broken}
 use Rattle.details.specs.Layouts.{linesFor, sizeFor}
-use Rattle.details.specs.Cases.{AllHold, cases}
+use Rattle.details.specs.Cases.{Holds, cases}
 
-infixr 4 _also_
-abbrev _also_ : {A B : Type 0} → A → B → A × B
-a also b = (a, b)
-
-pub worked : AllHold cases
+pub worked : AllHold Holds cases
 unfolding cases isIn opens last breaks broken linesFor sizeFor
 worked =
     refl also refl

@@ -26,10 +26,6 @@ Holds (goes p c t ns n) = (map length (linesFor p (length (bytes c)) (bytes c ++
 Holds (stays p c t) = sizeFor p (length (bytes c)) (bytes c ++ t) ≡ Unfit
 Holds (short p least t) = sizeFor p least (bytes t) ≡ Unfit
 
-abbrev pub AllHold : List Case → Type 0
-AllHold [] = Unit
-AllHold (c ∷ cs) = Holds c × AllHold cs
-
 abbrev code : String
 code = "(VO10100)"
 

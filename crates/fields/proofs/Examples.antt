@@ -1,17 +1,14 @@
 -- The worked examples hold: each is computed. Assumes nothing.
 use mathlib.Core.Path.{refl}
+use Rattle.base.specs.Examples.{AllHold, _also_}
 use Rattle.base.specs.Calls.{long}
 use Rattle.base.specs.Bytes.{isIn, digit, capital, letter, marks, shared, xset, same}
 use Rattle.fields.specs.Field.{message, body, cut, upto, past, grouped, fields}
 use Rattle.fields.specs.Frame.{rule1, framed, rule2, scan, rule3, tagged, lineBad, badLine, rule4}
 use Rattle.fields.specs.Places.{listed}
-use Rattle.fields.specs.Cases.{AllHold, cases}
+use Rattle.fields.specs.Cases.{Holds, cases}
 
-infixr 4 _also_
-abbrev _also_ : {A B : Type 0} → A → B → A × B
-a also b = (a, b)
-
-pub worked : AllHold cases
+pub worked : AllHold Holds cases
 unfolding cases long isIn digit capital letter marks shared xset same message body cut upto past grouped fields rule1 framed rule2 scan rule3 tagged lineBad badLine rule4 listed
 worked =
     refl also refl also refl also refl also refl

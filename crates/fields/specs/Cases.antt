@@ -25,10 +25,6 @@ abbrev pub Holds : Case → Type 0
 Holds (refused s n p) = judged (bytes s) ≡ Broken n p
 Holds (reads s fs ps) = (judged (bytes s) ≡ Fine) × (fields (bytes s) ≡ fs) × (message fs ≡ bytes s) × (listed 5 fs ≡ ps)
 
-abbrev pub AllHold : List Case → Type 0
-AllHold [] = Unit {0}
-AllHold (c ∷ cs) = Holds c × AllHold cs
-
 abbrev pub texts : List String → List (List ℕ)
 texts [] = []
 texts (s ∷ ss) = bytes s ∷ texts ss

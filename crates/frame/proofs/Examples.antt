@@ -1,5 +1,6 @@
 -- The worked examples hold: each is computed. Assumes nothing.
 use mathlib.Core.Path.{refl}
+use Rattle.base.specs.Examples.{AllHold, _also_}
 use Rattle.base.specs.Calls.{long}
 use Rattle.base.specs.Bytes.{isIn, digit, capital, letter, marks, shared, xset, same}
 use Rattle.fields.specs.Field.{body, cut, upto, past, grouped, fields}
@@ -7,12 +8,8 @@ use Rattle.fields.specs.Frame.{rule1, framed, rule2, scan, rule3, tagged, lineB
 use Rattle.types.specs.Form.{form103, form202, forms, placesOf}
 use Rattle.types.specs.Walk.{find, wrong, walk, rule18, walked, word}
 use Rattle.frame.specs.Frame.{refusal, spotsOf, frameBy, frameOf}
-use Rattle.frame.specs.Cases.{AllHold, cases}
+use Rattle.frame.specs.Cases.{Holds, cases}
 
-infixr 4 _also_
-abbrev _also_ : {A B : Type 0} → A → B → A × B
-a also b = (a, b)
-
-pub worked : AllHold cases
+pub worked : AllHold Holds cases
 unfolding cases long isIn digit capital letter marks shared xset same body cut upto past grouped fields rule1 framed rule2 scan rule3 tagged lineBad badLine rule4 form103 form202 forms placesOf find wrong walk rule18 walked word refusal spotsOf frameBy frameOf
 worked = refl also refl also refl also refl also refl also refl also refl also refl also refl also tt

@@ -18,10 +18,6 @@ abbrev pub Holds : Case → Type 0
 Holds (finds kind s n w spots) = frameOf kind (bytes s) ≡ record { verdict = Fine; fields = n; present = w; spots = padded capacity 0 spots }
 Holds (refuses kind s number place) = frameOf kind (bytes s) ≡ bare (Broken number place)
 
-abbrev pub AllHold : List Case → Type 0
-AllHold [] = Unit {0}
-AllHold (c ∷ cs) = Holds c × AllHold cs
-
 -- the example of the rules
 abbrev pub sample : String
 sample =

@@ -1,5 +1,6 @@
 -- The worked examples hold: each is computed. Assumes nothing.
 use mathlib.Core.Path.{refl}
+use Rattle.base.specs.Examples.{AllHold, _also_}
 use Rattle.base.specs.Bytes.{digit, capital, same}
 use Rattle.fields.specs.Shapes.{shaped}
 use Rattle.types.specs.Form.{form103, form202, forms, placesOf}
@@ -9,13 +10,9 @@ use Rattle.roles.specs.Role.{shape103, shape202, shapeOf}
 use Rattle.roles.specs.Rule14.{isInn}
 use Rattle.records.specs.Record.{pieces, recordOf, records, rest, begun}
 use Rattle.records.specs.Rule19.{digits, general, untaxed, sound, badFrom, judge, sheetSign, sheetType, rule19, sheetVerdict}
-use Rattle.records.specs.Cases.{AllHold, cases}
+use Rattle.records.specs.Cases.{Holds, cases}
 
-infixr 4 _also_
-abbrev _also_ : {A B : Type 0} → A → B → A × B
-a also b = (a, b)
-
-pub worked : AllHold cases
+pub worked : AllHold Holds cases
 unfolding cases digit capital same shaped form103 form202 forms placesOf rule18 signOf shape103 shape202 shapeOf isInn pieces recordOf records rest begun digits general untaxed sound badFrom judge sheetSign sheetType rule19 sheetVerdict
 worked =
     (refl, refl, refl) also (refl, refl, refl, refl) also refl also (refl, refl, refl, refl) also (refl, refl, refl, refl) also (refl, refl, refl, refl) also refl also refl

@@ -41,10 +41,6 @@ Holds (signed s g) = sheetSign (desk s) ≡ g
 Holds (reads s rs w ps) = (records (desk s) ≡ rs) × (rest (desk s) ≡ desk w) × (sheet rs ++ desk w ≡ desk s) × (startsOf 0 rs ≡ ps)
 Holds (parts o r ps) = partsOf o r ≡ ps
 
-abbrev pub AllHold : List Case → Type 0
-AllHold [] = Unit {0}
-AllHold (c ∷ cs) = Holds c × AllHold cs
-
 abbrev pub desks : List String → List (List ℕ)
 desks [] = []
 desks (s ∷ ss) = desk s ∷ desks ss

@@ -2,6 +2,7 @@
 use Prim.Native.Nat.{ℕ}
 use mathlib.Core.Path.{_≡_, refl}
 use mathlib.Core.List.{List, [], _∷_}
+use Rattle.base.specs.Examples.{AllHold, _also_}
 use Rattle.base.specs.Bytes.{same}
 use Rattle.base.specs.Rules.{first}
 use Rattle.base.specs.declared.Verdict.{Verdict}
@@ -42,10 +43,6 @@ abbrev pub Holds : Case → Type 0
 Holds (accepts kind fs w) = (judged kind fs ≡ Fine) × (word (placesOf kind) fs ≡ w)
 Holds (refuses kind fs n p) = judged kind fs ≡ Broken n p
 
-abbrev pub AllHold : List Case → Type 0
-AllHold [] = Unit {0}
-AllHold (c ∷ cs) = Holds c × AllHold cs
-
 unfoldable pub cases : List Case
 cases =
     accepts 103 full103 16383
@@ -70,7 +67,8 @@ cases =
     ∷ refuses 102 full103 18 0
     ∷ []
 
-pub worked : AllHold cases
+pub worked : AllHold Holds cases
 unfolding cases rule18 placesOf forms form103 form202 walk word wrong find same
 worked =
-    ((refl, refl), ((refl, refl), ((refl, refl), ((refl, refl), (refl, (refl, (refl, (refl, (refl, (refl, (refl, (refl, tt))))))))))))
+    (refl, refl) also (refl, refl) also (refl, refl) also (refl, refl)
+    also refl also refl also refl also refl also refl also refl also refl also refl also tt

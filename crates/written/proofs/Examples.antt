@@ -1,5 +1,6 @@
 -- The worked examples hold: each is computed. Assumes nothing.
 use mathlib.Core.Path.{refl}
+use Rattle.base.specs.Examples.{AllHold, _also_}
 use Rattle.base.specs.Calls.{long, short}
 use Rattle.base.specs.Bytes.{isIn, digit, capital, letter, marks, shared, xset, same}
 use Rattle.fields.specs.Field.{message, body, cut, upto, past, grouped, fields}
@@ -34,13 +35,9 @@ use Rattle.details.specs.Breaking as breaking
 use Rattle.details.specs.Layouts.{linesFor, sizeFor}
 use Rattle.lines.specs.Spread.{contentLines, spread}
 use Rattle.writer.specs.Sheet.{unsaid, rule15, crowded, rule16, fieldsOf, messageFor}
-use Rattle.written.specs.Cases.{AllHold, cases}
+use Rattle.written.specs.Cases.{Holds, cases}
 
-infixr 4 _also_
-abbrev _also_ : {A B : Type 0} → A → B → A × B
-a also b = (a, b)
-
-pub worked : AllHold cases
+pub worked : AllHold Holds cases
 unfolding cases long short isIn digit capital letter marks shared xset same message body cut upto past grouped fields rule1 framed rule2 scan rule3 tagged lineBad badLine rule4 shaped form103 form202 forms placesOf find wrong walk rule18 walked signOf verdictOf sign member run counted apart notPlus wayFirst purpose meets fits cell tookOf right formats rows firstWrong starts103 starts202 stateOf rightField rule8 onward leap daysIn isDay yearOf realDay dated behindDigits payment pointIn datesBehind rpp bothParts parties taxPlace isTax withKpp taxes valuesOf firstBad rule9 rule10 rule11 rule12 rule13 shape103 shape202 shapeOf cast names details noted speeches speech.behind hidden isInn taxLike breaks unheard spoken rule14 grid kind signs.sign reads plainly latinNext best bad writes pieces recordOf records rest begun digits general untaxed sound badFrom judge sheetSign sheetType rule19 opens last broken breaking.breaks linesFor sizeFor contentLines spread unsaid rule15 crowded rule16 fieldsOf messageFor isAs holds lives behind widest
 worked =
     (refl, refl) also (refl, refl) also (refl, refl) also refl also refl also refl also refl also refl also refl also refl also refl also refl

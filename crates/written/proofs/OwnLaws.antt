@@ -7,6 +7,7 @@ use mathlib.Core.Logic.{inl, inr}
 use native.Mathlib.Omega.{arith}
 use lib.Dec.{ltb}
 use lib.ListN.{length}
+use Rattle.base.specs.Examples.{AllHold, _also_}
 use Rattle.base.specs.Choice.{pick}
 use Rattle.base.specs.Rules.{first}
 use Rattle.base.specs.Calls.{long}
@@ -32,19 +33,11 @@ use Rattle.writer.specs.Sheet.{messageFor, sheetRules, ownRule}
 use Rattle.written.proofs.BuiltLaws.{built-rule2, built-rule3, built-rule4, built-fields}
 use Rattle.written.proofs.TextLaws.{built-rule14}
 
-infixr 4 _also_
-abbrev _also_ : {A B : Type 0} → A → B → A × B
-a also b = (a, b)
-
 -- ---- rules in order: what is given has a number that one of them gives
 abbrev Gives : (ℕ → Type 0) → Verdict → Type 0
 Gives P v = (n p : ℕ) → v ≡ Broken n p → P n
 
-abbrev AllGive : (ℕ → Type 0) → List Verdict → Type 0
-AllGive P [] = Unit {0}
-AllGive P (v ∷ vs) = Gives P v × AllGive P vs
-
-first-gives : (P : ℕ → Type 0) (vs : List Verdict) → AllGive P vs → Gives P (first vs)
+first-gives : (P : ℕ → Type 0) (vs : List Verdict) → AllHold (Gives P) vs → Gives P (first vs)
 first-gives P [] h n p e = absurd (fine-broken n p e)
 first-gives P (Fine ∷ vs) h n p e = first-gives P vs (h .1) n p e
 first-gives P (Broken m q ∷ vs) h n p e = h .0 n p e
@@ -86,7 +79,7 @@ module _ (s : List ℕ) (c : Clean (sheetRules s)) where
   rule14-fine : rule14 (sheetType s) (fields (messageFor s)) ≡ Fine
   rule14-fine = ap (rule14 (sheetType s)) (built-fields s c) ∙ built-rule14 s c
 
-  all-give : AllGive Own (messageRules (sheetType s) (messageFor s))
+  all-give : AllHold (Gives Own) (messageRules (sheetType s) (messageFor s))
   all-give =
       none-given (c .1 .1 .0) also gives-1 (messageFor s) also none-given (built-rule2 s c) also none-given (built-rule3 s c) also none-given (built-rule4 s c)
       also gives-5-7 (sheetType s) (messageFor s) also gives-8 (sheetType s) (messageFor s)

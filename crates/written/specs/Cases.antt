@@ -25,10 +25,6 @@ Holds (written s m) = (first (writeRules (desk s) (bytes m)) ≡ Fine) × (messa
 Holds (narrow s k n) = first (writeRules (desk s) (replicate k 0)) ≡ Broken 17 n
 Holds (refused s n p) = first (writeRules (desk s) (replicate 1000 0)) ≡ Broken n p
 
-abbrev pub AllHold : List Case → Type 0
-AllHold [] = Unit {0}
-AllHold (c ∷ cs) = Holds c × AllHold cs
-
 abbrev pub sheet103 : String
 sheet103 =
     "MT\t103\n20\t+A17\n23B\tCRED\n32A\t240229RUB1500,5\n50K\t/40702\tNORD\n53B\t/D/30111810500000100000\n59\t/40702810700000099079\tINN7707083893\tООО ПЁТР\n70\t10100\tОПЛАТА CNTR 5\n71A\tOUR\n"
