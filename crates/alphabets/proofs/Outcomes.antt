@@ -1,11 +1,12 @@
 -- What is promised of the two calls: one outcome, the room, the places of 14 and 15, and the way there and back (D1c, D3, N15, K6, K9). Assumes nothing.
-use Prim.Native.Nat.{ℕ, zero, suc, _+_, _*_, _<_, _≤_}
+use Prim.Native.Nat.{ℕ, zero, suc, _+_, _*_, _≤_}
 use mathlib.Core.Path.{_≡_, refl, sym, ap, _∙_, subst}
 use mathlib.Core.List.{List, [], _∷_, _++_}
-use mathlib.Core.Bool.{Bool, true, false, not}
+use mathlib.Core.Bool.{Bool, true, false, not, true≢false, false≢true}
+use mathlib.Core.Logic.{_↔_}
 use native.Mathlib.Omega.{arith}
 use lib.Dec.{eqb, ltb}
-use lib.ListN.{length, take, drop, getD}
+use lib.ListN.{length, take, drop}
 use borrow.Author.Tests.{ltb-false}
 use lib.Seq.{take-append-seam}
 use Rattle.base.specs.Choice.{pick}
@@ -16,11 +17,13 @@ use Rattle.base.specs.declared.Verdict.{Verdict}
 use Rattle.base.specs.declared.Verdict.the-variants.{Fine, Broken}
 use Rattle.base.specs.declared.Outcome.{Outcome}
 use Rattle.base.specs.declared.Outcome.the-variants.{Done, Refused}
+use Rattle.base.proofs.Bools.{left, right, both}
 use Rattle.base.proofs.RuleLaws.{Clean, first-clean, fine-broken}
 use Rattle.base.proofs.CallLaws.{not-said, gives-one, Accepted, accepted, refused, gives-done, not-long, not-short, within-limit, short-within}
 use Rattle.alphabets.specs.Grid.{Kind, unwritable, russian, latin, common, kind, spell, sign}
 use Rattle.alphabets.specs.Bank.{past, after, reads, plainly, reading}
 use Rattle.alphabets.specs.Best.{latinNext, sideFor, cross, best, Spot, nowhere, at, behind, spotAfter, bad, orStuck, writes, writing}
+use Rattle.alphabets.specs.Sentences.{hasKind, canSay, FirstFails}
 use Rattle.alphabets.specs.Text.{textRules, ReadTo, WrittenTo}
 use Rattle.alphabets.proofs.Theorems.{reads-back, plain-only, no-xset-zero}
 
@@ -120,77 +123,95 @@ written-reads s desk out n a back after r w h m =
         (gives-done (textRules 10000 14 bank (said desk) back) desk back
         (ap (λ (v : Verdict). first (v ∷ Fine ∷ short desk back ∷ [])) (not-long 10000 bank l) ∙ ap (λ (v : Verdict). first (v ∷ [])) (not-short desk back h)))
 
--- ---- 15 is at the first sign that can't be written
-abbrev known : Kind → Bool
-known unwritable = false
-known russian = true
-known latin = true
-known common = true
+-- ---- 15 is at the first byte that can't be written
+module _ (ok : ℕ → Bool) where
+  fails-here : (x : ℕ) (d : List ℕ) → ok x ≡ false → FirstFails ok (x ∷ d) 0
+  fails-here x d e = record { within = omega arith; fails = e; before = refl }
 
--- a desk sign that can be written, with the sign and without it
-abbrev pub writable : Bool → ℕ → Bool
-writable true x = known (kind x)
-writable false x = xset x
+  fails-on : (x : ℕ) (d : List ℕ) (k : ℕ) → ok x ≡ true → FirstFails ok d k → FirstFails ok (x ∷ d) (suc k)
+  fails-on x d k e f = record { within = let h = f .within in omega arith; fails = f .fails; before = both e (f .before) }
 
-pub record FirstAt (good : ℕ → Bool) (d : List ℕ) (k : ℕ) : Type 0 where
-  pub inside : k < length d
-  pub here : good (getD d k 0) ≡ false
-  pub before : (j : ℕ) → j < k → good (getD d j 0) ≡ true
+  fails-tail : (x : ℕ) (d : List ℕ) (k : ℕ) → FirstFails ok (x ∷ d) (suc k) → FirstFails ok d k
+  fails-tail x d k f = record { within = let h = f .within in omega arith; fails = f .fails; before = right (ok x) _ (f .before) }
 
--- one sign more in front
-first-zero : (good : ℕ → Bool) (x : ℕ) (xs : List ℕ) → good x ≡ false → FirstAt good (x ∷ xs) 0
-first-zero good x xs e = record { inside = omega arith; here = e; before = λ j h. absurd (omega arith) }
-
-first-suc : (good : ℕ → Bool) (x : ℕ) (xs : List ℕ) (k : ℕ) → good x ≡ true → FirstAt good xs k → FirstAt good (x ∷ xs) (suc k)
-first-suc good x xs k e w = record { inside = omega (arith, w .inside); here = w .here; before = go }
-  where
-    go : (j : ℕ) → j < suc k → good (getD (x ∷ xs) j 0) ≡ true
-    go zero h = e
-    go (suc j) h = w .before j (omega arith)
+stuck-same : (j k : ℕ) → stuck j ≡ stuck k → j ≡ k
+stuck-same j k e = cc
 
 at-same : (j k : ℕ) → at j ≡ at k → j ≡ k
 at-same j k e = cc
 
-not-at : (k : ℕ) → nowhere ≡ at k → ⊥
-not-at k e = let z : _≡_ {A = ℕ} 0 1 = cc in omega arith
+nowhere-at : (k : ℕ) → nowhere ≡ at k → ⊥
+nowhere-at k e = let z : _≡_ {A = ℕ} 0 1 = cc in omega arith
 
-bad-first : (d : List ℕ) (k : ℕ) → bad d ≡ at k → FirstAt (writable true) d k
-unfolding bad
-bad-first [] k e = absurd (not-at k e)
-bad-first (x ∷ xs) k e = go (kind x) refl (bad xs) refl e (λ j f. bad-first xs j f)
-  where
-    more : (p : Spot) → bad xs ≡ p → behind p ≡ at k → known (kind x) ≡ true → ((j : ℕ) → bad xs ≡ at j → FirstAt (writable true) xs j) → FirstAt (writable true) (x ∷ xs) k
-    more nowhere q e w ih = absurd (not-at k e)
-    more (at j) q e w ih = subst (λ (i : ℕ). FirstAt (writable true) (x ∷ xs) i) (at-same (suc j) k e) (first-suc (writable true) x xs j w (ih j q))
-
-    go : (c : Kind) → kind x ≡ c → (p : Spot) → bad xs ≡ p → spotAfter c p ≡ at k → ((j : ℕ) → bad xs ≡ at j → FirstAt (writable true) xs j) → FirstAt (writable true) (x ∷ xs) k
-    go unwritable c p q e ih = subst (λ (i : ℕ). FirstAt (writable true) (x ∷ xs) i) (at-same 0 k e) (first-zero (writable true) x xs (ap known c))
-    go russian c p q e ih = more p q e (ap known c) ih
-    go latin c p q e ih = more p q e (ap known c) ih
-    go common c p q e ih = more p q e (ap known c) ih
-
-plain-first : (d : List ℕ) (k : ℕ) → plainly d ≡ stuck k → FirstAt (writable false) d k
+-- without the sign
+plain-stuck : (d : List ℕ) (k : ℕ) → plainly d ≡ stuck k → FirstFails xset d k
 unfolding plainly
-plain-first [] k e = absurd (not-said k [] (sym e))
-plain-first (x ∷ xs) k e = go x (xset x) refl (plainly xs) refl e (λ j f. plain-first xs j f)
+plain-stuck [] k e = absurd (not-said k [] (sym e))
+plain-stuck (x ∷ xs) k e = go x (xset x) (plainly xs) refl e (λ j f. plain-stuck xs j f)
   where
-    same-stuck : (i j : ℕ) → stuck i ≡ stuck j → i ≡ j
-    same-stuck i j e = cc
+    go : (y : ℕ) (q : Bool) (a : Answer) → xset y ≡ q → after (pick q y 0) a ≡ stuck k → ((j : ℕ) → a ≡ stuck j → FirstFails xset xs j) → FirstFails xset (y ∷ xs) k
+    go y false a q e ih = subst (FirstFails xset (y ∷ xs)) (stuck-same 0 k e) (fails-here xset y xs q)
+    go zero true a q e ih = absurd (no-xset-zero 0 q refl)
+    go (suc y) true (said t) q e ih = absurd (not-said k (suc y ∷ t) (sym e))
+    go (suc y) true (stuck j) q e ih = subst (FirstFails xset (suc y ∷ xs)) (stuck-same (suc j) k e) (fails-on xset (suc y) xs j q (ih j refl))
 
-    go : (y : ℕ) (q : Bool) → xset y ≡ q → (a : Answer) → plainly xs ≡ a → after (pick q y 0) a ≡ stuck k → ((j : ℕ) → plainly xs ≡ stuck j → FirstAt (writable false) xs j) → FirstAt (writable false) (y ∷ xs) k
-    go y false q a p e ih = subst (λ (i : ℕ). FirstAt (writable false) (y ∷ xs) i) (same-stuck 0 k e) (first-zero (writable false) y xs q)
-    go zero true q a p e ih = absurd (no-xset-zero 0 q refl)
-    go (suc y) true q (said t) p e ih = absurd (not-said k (suc y ∷ t) (sym e))
-    go (suc y) true q (stuck j) p e ih = subst (λ (i : ℕ). FirstAt (writable false) (suc y ∷ xs) i) (same-stuck (suc j) k e) (first-suc (writable false) (suc y) xs j q (ih j p))
+stuck-plain : (d : List ℕ) (k : ℕ) → FirstFails xset d k → plainly d ≡ stuck k
+unfolding plainly
+stuck-plain [] k f = absurd (omega (arith, f .within))
+stuck-plain (x ∷ xs) zero f = ap (λ (q : Bool). after (pick q x 0) (plainly xs)) (f .fails)
+stuck-plain (x ∷ xs) (suc k) f = go x (left (xset x) _ (f .before)) (stuck-plain xs k (fails-tail xset x xs k f))
+  where
+    go : (y : ℕ) → xset y ≡ true → plainly xs ≡ stuck k → after (pick (xset y) y 0) (plainly xs) ≡ stuck (suc k)
+    go zero q e = absurd (no-xset-zero 0 q refl)
+    go (suc y) q e = rw (q, e)
 
-pub unwritable-at : (s : Bool) (d : List ℕ) (k : ℕ) → writing s d ≡ stuck k → FirstAt (writable s) d k
+-- with the sign
+no-kind : (q : Kind) (p : Spot) → hasKind q ≡ false → spotAfter q p ≡ at 0
+no-kind unwritable p e = refl
+no-kind russian p e = absurd (true≢false e)
+no-kind latin p e = absurd (true≢false e)
+no-kind common p e = absurd (true≢false e)
+
+some-kind : (q : Kind) (p : Spot) → hasKind q ≡ true → spotAfter q p ≡ behind p
+some-kind unwritable p e = absurd (false≢true e)
+some-kind russian p e = refl
+some-kind latin p e = refl
+some-kind common p e = refl
+
+spot-by : (x k : ℕ) (xs : List ℕ) (b : Bool) (p : Spot) → hasKind (kind x) ≡ b → spotAfter (kind x) p ≡ at k → ((j : ℕ) → p ≡ at j → FirstFails (canSay true) xs j)
+    → FirstFails (canSay true) (x ∷ xs) k
+spot-by x k xs false p h e ih = subst (FirstFails (canSay true) (x ∷ xs)) (at-same 0 k (sym (no-kind (kind x) p h) ∙ e)) (fails-here (canSay true) x xs h)
+spot-by x k xs true nowhere h e ih = absurd (nowhere-at k (sym (some-kind (kind x) nowhere h) ∙ e))
+spot-by x k xs true (at j) h e ih =
+    subst (FirstFails (canSay true) (x ∷ xs)) (at-same (suc j) k (sym (some-kind (kind x) (at j) h) ∙ e)) (fails-on (canSay true) x xs j h (ih j refl))
+
+bad-fails : (d : List ℕ) (k : ℕ) → bad d ≡ at k → FirstFails (canSay true) d k
+unfolding bad
+bad-fails [] k e = absurd (nowhere-at k e)
+bad-fails (x ∷ xs) k e = spot-by x k xs (hasKind (kind x)) (bad xs) refl e (λ j f. bad-fails xs j f)
+
+fails-bad : (d : List ℕ) (k : ℕ) → FirstFails (canSay true) d k → bad d ≡ at k
+unfolding bad
+fails-bad [] k f = absurd (omega (arith, f .within))
+fails-bad (x ∷ xs) zero f = no-kind (kind x) (bad xs) (f .fails)
+fails-bad (x ∷ xs) (suc k) f =
+    some-kind (kind x) (bad xs) (left (hasKind (kind x)) _ (f .before)) ∙ ap behind (fails-bad xs k (fails-tail (canSay true) x xs k f))
+
+writes-stuck : (d : List ℕ) (k : ℕ) → writes d ≡ stuck k → bad d ≡ at k
 unfolding writes
-unwritable-at false d k e = plain-first d k e
-unwritable-at true d k e = go (bad d) refl e
+writes-stuck d k e = go (bad d) e
   where
-    go : (p : Spot) → bad d ≡ p → orStuck p (best false d) ≡ stuck k → FirstAt (writable true) d k
-    go nowhere q e = absurd (not-said k (best false d) (sym e))
-    go (at j) q e = let f : j ≡ k = cc in bad-first d k (q ∙ ap at f)
+    go : (p : Spot) → orStuck p (best false d) ≡ stuck k → p ≡ at k
+    go nowhere e = absurd (not-said k (best false d) (sym e))
+    go (at j) e = ap at (stuck-same j k e)
+
+stuck-writes : (d : List ℕ) (k : ℕ) → bad d ≡ at k → writes d ≡ stuck k
+unfolding writes
+stuck-writes d k e = ap (λ (p : Spot). orStuck p (best false d)) e
+
+pub unwritable-at : (s : Bool) (d : List ℕ) (k : ℕ) → (writing s d ≡ stuck k) ↔ FirstFails (canSay s) d k
+unwritable-at true d k = (λ e. bad-fails d k (writes-stuck d k e), λ f. stuck-writes d k (fails-bad d k f))
+unwritable-at false d k = (plain-stuck d k, stuck-plain d k)
 
 -- ---- numbers and places are small: an answer fits one word
 abbrev pub Small : Outcome → Type 0
@@ -261,4 +282,4 @@ write-small s desk out r a g = text-small 5000 15 desk (writing s desk) out r a 
   where
     go : (x : Answer) → writing s desk ≡ x → length desk ≤ 5000 → Within (writing s desk) 10000
     go (said t) e h = rw e (written-within s desk t e h)
-    go (stuck k) e h = rw e (let i = unwritable-at s desk k e .inside in omega arith)
+    go (stuck k) e h = rw e (let i = unwritable-at s desk k .0 e .within in omega arith)

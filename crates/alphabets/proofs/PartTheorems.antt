@@ -22,8 +22,9 @@ use Rattle.alphabets.specs.Parts.{extentOf, extent, written, spoken, pie
 use Rattle.alphabets.specs.declared.parts.Extent.the-variants.{Takes, Halts, Long}
 use Rattle.alphabets.specs.declared.pieces.Piece.{Piece}
 use Rattle.alphabets.specs.declared.pieces.Piece.the-variants.{Read, Stops}
+use Rattle.alphabets.specs.Sentences.{canSay, FirstFails}
 use Rattle.alphabets.proofs.Theorems.{reads-back}
-use Rattle.alphabets.proofs.Outcomes.{FirstAt, writable, unwritable-at, twice-at-most}
+use Rattle.alphabets.proofs.Outcomes.{unwritable-at, twice-at-most}
 use Rattle.alphabets.proofs.CodeLaws.{Heard, heard-above, heard-below}
 use Rattle.alphabets.proofs.PieceLaws.{piece-codes, piece-append, reads-partly}
 use Rattle.alphabets.proofs.PartLaws.{takes-halts, takes-long, halts-long, extent-long, written-long, extent-is, written-is}
@@ -67,7 +68,7 @@ size-takes s desk n e = go (decLt 10000 (length desk))
 pub record Unwritten (s : Bool) (desk : List ℕ) (k : ℕ) : Type 0 where
   pub within : length desk ≤ 10000
   pub is : writing s desk ≡ stuck k
-  pub first : FirstAt (writable s) desk k
+  pub first : FirstFails (canSay s) desk k
   pub none : written s desk ≡ []
 
 pub size-halts : (s : Bool) (desk : List ℕ) (k : ℕ) → extent s desk ≡ Halts k → Unwritten s desk k
@@ -78,7 +79,7 @@ size-halts s desk k e = go (decLt 10000 (length desk))
     by h (stuck j) p f =
         let m : j ≡ k = cc in
         let q : writing s desk ≡ stuck k = p ∙ ap stuck m in
-        record { within = h; is = q; first = unwritable-at s desk k q; none = written-is s desk h ∙ ap textOf p }
+        record { within = h; is = q; first = unwritable-at s desk k .0 q; none = written-is s desk h ∙ ap textOf p }
 
     go : Dec (10000 < length desk) → Unwritten s desk k
     go (yes h) = absurd (halts-long k (sym e ∙ sym (extent-long s desk h)))

@@ -5,3 +5,4 @@ pub mod Steps
 pub mod Text
 pub mod Pieces
 pub mod Parts
+pub mod Sentences

@@ -11,7 +11,7 @@ use Rattle.base.specs.Rules.{then, first}
 use Rattle.base.specs.Calls.{short}
 use Rattle.base.specs.declared.Verdict.{Verdict}
 use Rattle.base.specs.declared.Verdict.the-variants.{Fine, Broken}
-use Rattle.base.proofs.RuleLaws.{first-append, then-fine, first-last, first-clean}
+use Rattle.base.proofs.RuleLaws.{same-broken, first-append, then-fine, first-last, first-clean}
 use Rattle.base.proofs.CallLaws.{is-long, is-short, not-short, short-within}
 use Rattle.fields.specs.Frame.{limit}
 use Rattle.types.specs.Walk.{rule18}
@@ -23,9 +23,6 @@ use Rattle.written.specs.Sentences.{Reason}
 use Rattle.writer.proofs.CallLaws.{long-verdict}
 use Rattle.written.proofs.Theorems.{refusal-reason}
 use Rattle.answers.specs.Programs.{messageVerdict}
-
-same-number : {m n p q : ℕ} → Broken m p ≡ Broken n q → m ≡ n
-same-number e = cc
 
 -- 17 comes only with too little room
 no-room : {s out : List ℕ} {n p : ℕ} → Reason s out p n → n ≡ 17 → length (messageFor s) ≤ length out → ⊥
@@ -77,7 +74,7 @@ module _ (s : List ℕ) where
     other-verdict n p k e = go (decLt (length out) (length (messageFor s)))
       where
         at : length out < length (messageFor s) → (v : Verdict) → first (sheetRules s) ≡ v → messageVerdict s ≡ Broken n p
-        at h Fine f = absurd (k (sym (same-number (sym (crowded h Fine f) ∙ e))))
+        at h Fine f = absurd (k (sym (same-broken (sym (crowded h Fine f) ∙ e) .0)))
         at h (Broken m q) f = verdict-by ∙ ap (λ (u : Verdict). then u (ownRule s)) f ∙ sym (crowded h (Broken m q) f) ∙ e
 
         go : Dec (length out < length (messageFor s)) → messageVerdict s ≡ Broken n p

@@ -1,15 +1,15 @@
--- Bytes of a range, texts that are the same, the table of classes, and the loop to the first byte outside the x set. Assumes nothing.
-use Prim.Native.Nat.{ℕ, suc, _+_, _-_, _<_, _≤_}
+-- Bytes of a range, texts that are the same, parts of a text, the table of classes, and the loop to the first byte outside the x set. Assumes nothing.
+use Prim.Native.Nat.{ℕ, zero, suc, _+_, _-_, _<_, _≤_}
 use mathlib.Core.Path.{_≡_, refl, sym, ap, ap₂, _∙_}
-use mathlib.Core.Bool.{Bool, true, false, _&&_, false≢true}
+use mathlib.Core.Bool.{Bool, true, false, _&&_, _||_, false≢true}
 use mathlib.Core.List.{List, [], _∷_}
 use native.Mathlib.Omega.{arith}
 use native.Mathlib.Numerals.{add-one}
 use lib.Dec.{T, eqb, leb, leb→le}
 use lib.ListN.{length, getD, take, drop, drop-of-length-le, length-drop}
-use lib.Seq.{drop-cons, take-all}
+use lib.Seq.{drop-cons, take-all, take-nil}
 use borrow.Author.Tests.{eq-eqb, ne-eqb, eqb-true, lt-leb, le-leb, leb-true}
-use Rattle.base.specs.Bytes.{byte, begins, isIn, digit, capital, letter, marks, shared, outside, classes, lead, same}
+use Rattle.base.specs.Bytes.{byte, begins, isIn, digit, capital, letter, marks, shared, xset, outside, classes, lead, same, empty}
 use Rattle.base.proofs.Bools.{left, right, both}
 use Rattle.base.proofs.Table.{every, and-left, and-right, values-at}
 
@@ -25,6 +25,28 @@ digit-range x e = (leb-true 48 x (left (leb 48 x) (leb x 57) e), leb-true x 57 (
 pub capital-range : (x : ℕ) → capital x ≡ true → (65 ≤ x) × (x ≤ 90)
 unfolding capital
 capital-range x e = (leb-true 65 x (left (leb 65 x) (leb x 90) e), leb-true x 90 (right (leb 65 x) (leb x 90) e))
+
+-- both are of the x set
+pub digit-set : (x : ℕ) → digit x ≡ true → xset x ≡ true
+unfolding xset shared
+digit-set x e = go (letter x)
+  where
+    go : (a : Bool) → (a || ((digit x || isIn x marks) || eqb x 39)) ≡ true
+    go true = refl
+    go false = ap (λ (b : Bool). (b || isIn x marks) || eqb x 39) e
+
+pub capital-set : (x : ℕ) → capital x ≡ true → xset x ≡ true
+unfolding xset letter
+capital-set x e = rw e
+
+-- no byte, or some
+pub is-empty : (p : List ℕ) → length p ≡ 0 → empty p ≡ true
+is-empty [] e = refl
+is-empty (x ∷ p) e = absurd (omega arith)
+
+pub is-filled : (p : List ℕ) → (length p ≡ 0 → ⊥) → empty p ≡ false
+is-filled [] k = absurd (k refl)
+is-filled (x ∷ p) k = refl
 
 -- the first byte, which no text without one has
 pub begins-byte : (c : ℕ) (b : List ℕ) → eqb 0 c ≡ false → begins c b ≡ eqb (byte b 0) c
@@ -75,6 +97,13 @@ past-end s n h = sym (drop-of-length-le s {i = n} (omega arith))
 
 pub past-in : (s : List ℕ) (n : ℕ) → take (length s - n) (drop n s) ≡ drop n s
 past-in s n = take-all (length s - n) (drop n s) (omega (arith, length-drop n s))
+
+-- the rest of a front
+pub drop-take : (j n : ℕ) (l : List ℕ) → drop j (take n l) ≡ take (n - j) (drop j l)
+drop-take zero n l = let z : n ≡ n - 0 = omega arith in ap (λ (k : ℕ). take k l) z
+drop-take (suc j) zero l = let z : 0 ≡ 0 - suc j = omega arith in ap (λ (k : ℕ). take k (drop (suc j) l)) z
+drop-take (suc j) (suc n) [] = sym (take-nil (suc n - suc j))
+drop-take (suc j) (suc n) (x ∷ l) = let z : n - j ≡ suc n - suc j = omega arith in drop-take j n l ∙ ap (λ (k : ℕ). take k (drop j l)) z
 
 -- ---- a loop that passes over the front
 module _ (t s : List ℕ) (i : ℕ) (h : i < length s) where

@@ -11,6 +11,9 @@ use Rattle.base.specs.declared.Verdict.the-variants.{Fine, Broken}
 pub fine-broken : (n p : ℕ) → Fine ≡ Broken n p → ⊥
 fine-broken n p e = let z : _≡_ {A = ℕ} 0 1 = cc in omega arith
 
+pub same-broken : {m n p q : ℕ} → Broken m p ≡ Broken n q → (m ≡ n) × (p ≡ q)
+same-broken e = (cc, cc)
+
 -- what stands behind a rule need only be the same where the rule is not broken
 pub then-under : (v w u : Verdict) → (v ≡ Fine → w ≡ u) → then v w ≡ then v u
 then-under Fine w u h = h refl

@@ -12,6 +12,7 @@ use lib.ListN.{length, drop, length-append, length-drop}
 use borrow.Author.Tests.{ltb-true, lt-ltb, le-ltb, le-leb, lt-leb}
 use Rattle.base.specs.Choice.{pick}
 use Rattle.base.specs.Calls.{placed}
+use Rattle.base.proofs.Bools.{pick-same}
 use Rattle.base.proofs.Room.{placed-not, placed-none}
 use Rattle.details.specs.Breaking.{opens, Fit, fits, unfit, last, part, pieces, cutBy, broken}
 use Rattle.details.specs.Layouts.{Layout, layout, divided, behind, laid, linesOf, laidFor, sizeOf, sizeFor, Lays}
@@ -157,15 +158,11 @@ module _ (p : Place) (least : ℕ) (text : List ℕ) where
   unfolding sizeFor laidFor
   lay-unfit e out at =
       let f : laid (layout p) (linesOf (divided (layout p) least text)) ≡ [] = go (divided (layout p) least text) e in
-      record { answers = rw f (sym (either (leb (at + 0) (length out)))); leaves = rw f (sym (placed-none out at)) }
+      record { answers = rw f (sym (pick-same (leb (at + 0) (length out)) 0)); leaves = rw f (sym (placed-none out at)) }
     where
       go : (a : Fit (List (List ℕ))) → Unfit ≡ sizeOf (layout p) a → laid (layout p) (linesOf a) ≡ []
       go (fits ls) q = absurd (bytes-not (sym q))
       go unfit q = refl
-
-      either : (b : Bool) → _≡_ {A = ℕ} (pick b 0 0) 0
-      either true = refl
-      either false = refl
 
   module _ {n : ℕ} (k : Known n) (out : List ℕ) (at : ℕ) where
     pub lay-short : length out < at + n → Lays p least text out at 0 out

@@ -30,7 +30,7 @@ lines-laid (l ∷ ls) e =
     ∙ ap (λ (k : List (List ℕ)). l ∷ k) (lines-laid ls (right (without 13 l) (all (without 13) ls) e))
 
 -- ---- a line found has no CR
-onto-all : (t : ℕ → Bool) (x : ℕ) (ls : List (List ℕ)) → t x ≡ true → all (all t) ls ≡ true → all (all t) (onto x ls) ≡ true
+pub onto-all : (t : ℕ → Bool) (x : ℕ) (ls : List (List ℕ)) → t x ≡ true → all (all t) ls ≡ true → all (all t) (onto x ls) ≡ true
 onto-all t x [] e h = both (both e refl) refl
 onto-all t x (l ∷ ls) e h = both (both e (left (all t l) (all (all t) ls) h)) (right (all t l) (all (all t) ls) h)
 

@@ -8,13 +8,13 @@ use native.Mathlib.Decide.{decLt}
 use native.Mathlib.Numerals.{add-one}
 use lib.Dec.{eqb}
 use lib.ListN.{length, take, drop, getD, length-take, length-drop, take-append-drop}
-use lib.Seq.{take-all, take-nil, take-take, drop-drop, getD-drop, drop-cons}
+use lib.Seq.{take-all, take-take, drop-drop, getD-drop, drop-cons}
 use borrow.Author.Tests.{eqb-true}
 use Rattle.base.specs.Choice.{pick, all}
 use Rattle.base.specs.Bytes.{byte, begins, xset, classes, lead}
 use Rattle.base.specs.declared.Verdict.the-variants.{Broken}
 use Rattle.base.proofs.Bools.{left, right, both}
-use Rattle.base.proofs.ByteLaws.{Bytes, class-at}
+use Rattle.base.proofs.ByteLaws.{Bytes, drop-take, class-at}
 use Rattle.fields.specs.Field.{lines}
 use Rattle.fields.specs.Frame.{scan}
 use Rattle.fields.specs.Shapes.{ended}
@@ -65,12 +65,6 @@ rest-end m i h = let z : length m - 2 - i ≡ 0 = omega arith in ap (λ (n : ℕ
 
 rest-length : (m : List ℕ) (at : ℕ) → length (rest m at) ≡ length m - 2 - at
 rest-length m at = simp (length-take, length-drop) (omega arith)
-
-drop-take : (j n : ℕ) (l : List ℕ) → drop j (take n l) ≡ take (n - j) (drop j l)
-drop-take zero n l = let z : n ≡ n - 0 = omega arith in ap (λ (k : ℕ). take k l) z
-drop-take (suc j) zero l = let z : 0 ≡ 0 - suc j = omega arith in ap (λ (k : ℕ). take k (drop (suc j) l)) z
-drop-take (suc j) (suc n) [] = sym (take-nil (suc n - suc j))
-drop-take (suc j) (suc n) (x ∷ l) = let z : n - j ≡ suc n - suc j = omega arith in drop-take j n l ∙ ap (λ (k : ℕ). take k (drop j l)) z
 
 rest-drop : (m : List ℕ) (at k : ℕ) → drop k (rest m at) ≡ rest m (at + k)
 rest-drop m at k =

@@ -38,7 +38,7 @@ pub text-max : (s : Bool) (p : List ℕ) (n : ℕ) → Takes n ≡ extent s p �
 text-max s p n e = size-takes s p n (sym e) .small
 
 pub text-inside : (s : Bool) (p : List ℕ) (k : ℕ) → Halts k ≡ extent s p → (k ≤ length p) × (length p ≤ 10000)
-text-inside s p k e = let w = size-halts s p k (sym e) in let f = w .first .inside in (omega arith, w .within)
+text-inside s p k e = let w = size-halts s p k (sym e) in let f = w .first .within in (omega arith, w .within)
 
 pub text-long : (s : Bool) (p : List ℕ) → Long ≡ extent s p → length p ≤ 10000 → ⊥
 text-long s p e h = omega (arith, size-long s p (sym e) .0)

@@ -1,10 +1,9 @@
 -- The next bit that is set, and that it is the next place with a content (K2, K5). Assumes nothing.
-use Prim.Native.Nat.{ℕ, zero, suc, _+_, _-_, _^_, _<_, _≤_}
+use Prim.Native.Nat.{ℕ, zero, suc, _+_, _-_, _<_, _≤_}
 use mathlib.Core.Path.{_≡_, refl, sym, ap, ap₂, _∙_}
 use mathlib.Core.Bool.{Bool, true, false, not, true≢false, false≢true}
 use mathlib.Core.List.{List, [], _∷_}
 use native.Mathlib.Omega.{arith}
-use native.Mathlib.Nat.{div-le-self}
 use lib.Dec.{eqb, leb}
 use borrow.Author.Tests.{eq-eqb, ne-eqb, eqb-false, le-leb, leb-true}
 use Rattle.base.specs.Choice.{pick}
@@ -13,6 +12,7 @@ use Rattle.base.specs.Bits.{bit}
 use Rattle.base.specs.declared.Verdict.{Verdict}
 use Rattle.base.specs.declared.Verdict.the-variants.{Fine, Broken}
 use Rattle.base.proofs.RuleLaws.{fine-broken}
+use Rattle.base.proofs.BitLaws.{bit-0}
 use Rattle.fields.specs.Field.{fields}
 use Rattle.types.specs.Form.{placesOf}
 use Rattle.types.proofs.WordLaws.{Present}
@@ -103,10 +103,7 @@ clean-filled kind m e i = go (empty (contentOf kind m i)) refl
             absurd (true≢false (sym (ap empty (content-empty kind m i .1 (absent (λ p. eqb-false (bit (wordOf kind m) i) 1 f (bits .1 p))))) ∙ q))
 
 none-set : (i : ℕ) → isSet 0 i ≡ false
-none-set i = ne-eqb (bit 0 i) 1 (λ e. absurd (omega (arith, zero-bit i, e)))
-  where
-    zero-bit : (i : ℕ) → bit 0 i ≡ 0
-    zero-bit i = let h = div-le-self 0 (2 ^ i) in omega arith
+none-set i = ne-eqb (bit 0 i) 1 (λ e. absurd (omega (arith, bit-0 i, e)))
 
 refused-empty : (kind : ℕ) (m : List ℕ) (n p : ℕ) → verdictOf kind m ≡ Broken n p → (i : ℕ) → filled kind m i ≡ false
 refused-empty kind m n p e i = ap (λ (l : List ℕ). not (empty l)) (content-empty kind m i .1 (refused n p e))

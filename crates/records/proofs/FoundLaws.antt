@@ -13,7 +13,7 @@ use Rattle.base.specs.Choice.{pick, all}
 use Rattle.base.specs.Bytes.{byte, digit, begins, empty, same, upTo}
 use Rattle.base.specs.Quoted.{bytes}
 use Rattle.base.proofs.MarkLaws.{up-end}
-use Rattle.base.proofs.ByteLaws.{digit-range}
+use Rattle.base.proofs.ByteLaws.{digit-range, is-empty, is-filled}
 use Rattle.base.proofs.Bools.{left, right}
 use Rattle.fields.specs.Field.{Field, field, tagOf, onto}
 use Rattle.fields.specs.Shapes.{shaped, pack, unpack, goesOn}
@@ -71,14 +71,6 @@ module _ (l : List ℕ) (i e : ℕ) (h : i ≤ length l) (q : e ≡ i + upTo 9 (
 
   sized : length part ≡ e - i
   sized = piece-length l i e (omega arith) (end-within 9 l i e h q)
-
-  is-empty : (p : List ℕ) → length p ≡ 0 → empty p ≡ true
-  is-empty [] k = refl
-  is-empty (x ∷ p) k = absurd (omega arith)
-
-  is-filled : (p : List ℕ) → (length p ≡ 0 → ⊥) → empty p ≡ false
-  is-filled [] k = absurd (k refl)
-  is-filled (x ∷ p) k = refl
 
   void : e ≡ i → empty part ≡ true
   void k = is-empty part (omega (arith, sized))

@@ -1,7 +1,7 @@
 -- One part, byte by byte: a part that goes on, digits, a tag as one number, two bytes. Assumes nothing.
 use Prim.Native.Nat.{ℕ, _+_, _*_, _<_, _≤_}
 use mathlib.Core.Path.{_≡_, refl, sym, ap, _∙_}
-use mathlib.Core.Bool.{Bool, true, false, not, _&&_}
+use mathlib.Core.Bool.{Bool, true, false, not, _&&_, and-true, and-false}
 use mathlib.Core.List.{List, [], _∷_}
 use native.Mathlib.Omega.{arith}
 use native.Mathlib.Numerals.{add-one}
@@ -16,15 +16,6 @@ use Rattle.fields.specs.Shapes.{shaped, pack, unpack, goesOn}
 use Rattle.fields.proofs.PackLaws.{unpack-pack}
 use Rattle.records.specs.Found.{tagNumber}
 use Rattle.records.specs.Rule19.{digits}
-
--- ---- tests joined by and
-and-false : (a : Bool) → false ≡ (a && false)
-and-false true = refl
-and-false false = refl
-
-and-true : (a : Bool) → (a && true) ≡ a
-and-true true = refl
-and-true false = refl
 
 -- ---- a part that may stand behind the first
 pub goes-none : (p : List ℕ) → length p ≡ 0 → false ≡ goesOn p
@@ -62,12 +53,12 @@ digits-all n p h e = sym (ap (λ (q : Bool). q && all digit p) (eq-eqb (length p
 pub two-size : (p : List ℕ) (a b : ℕ) → (length p ≡ 2 → ⊥) → false ≡ same p (a ∷ b ∷ [])
 unfolding same
 two-size [] a b h = refl
-two-size (x ∷ []) a b h = and-false (eqb x a)
+two-size (x ∷ []) a b h = sym (and-false (eqb x a))
 two-size (x ∷ y ∷ []) a b h = absurd (h refl)
 two-size (x ∷ y ∷ z ∷ p) a b h = go (eqb x a) (eqb y b)
   where
     go : (q r : Bool) → false ≡ (q && (r && false))
-    go true r = and-false r
+    go true r = sym (and-false r)
     go false r = refl
 
 pub two-bytes : {r : Bool} (p : List ℕ) (a b : ℕ) → length p ≡ 2 → r ≡ (eqb (byte p 0) a && eqb (byte p 1) b) → r ≡ same p (a ∷ b ∷ [])
@@ -89,7 +80,7 @@ module _ (a b : ℕ) where
 
   pub two-second : digit b ≡ false → 0 ≡ tagNumber (a ∷ b ∷ [])
   unfolding tagNumber shaped
-  two-second e = rw e (ap (λ (q : Bool). pick q (pack (a ∷ b ∷ [])) 0) (and-false (digit a)))
+  two-second e = rw e (ap (λ (q : Bool). pick q (pack (a ∷ b ∷ [])) 0) (sym (and-false (digit a))))
 
   pub two-within : a < 256 → b < 256 → tagNumber (a ∷ b ∷ []) < 16777216
   unfolding tagNumber shaped
@@ -143,7 +134,7 @@ of-three (x ∷ y ∷ z ∷ w ∷ t) h = absurd (omega arith)
 pub tag-other : (t : List ℕ) → (length t ≡ 2 → ⊥) → (length t ≡ 3 → ⊥) → 0 ≡ tagNumber t
 unfolding tagNumber shaped digit
 tag-other [] h k = refl
-tag-other (x ∷ []) h k = ap (λ (q : Bool). pick q (pack (x ∷ [])) 0) (and-false (digit x))
+tag-other (x ∷ []) h k = ap (λ (q : Bool). pick q (pack (x ∷ [])) 0) (sym (and-false (digit x)))
 tag-other (x ∷ y ∷ []) h k = absurd (h refl)
 tag-other (x ∷ y ∷ z ∷ []) h k = absurd (k refl)
 tag-other (x ∷ y ∷ z ∷ w ∷ t) h k = go (digit x) (digit y) (capital z)

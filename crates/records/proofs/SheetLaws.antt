@@ -9,9 +9,10 @@ use lib.ListN.{length}
 use borrow.Author.Tests.{eqb-true}
 use Rattle.base.specs.Choice.{pick, all}
 use Rattle.base.specs.Bytes.{other, without}
-use Rattle.base.proofs.Bools.{left, right, both, all-append, all-imp}
+use Rattle.base.proofs.Bools.{left, right, both, or-right, all-append, all-imp}
 use Rattle.fields.specs.Field.{field, onto}
 use Rattle.fields.specs.Shapes.{ended}
+use Rattle.fields.proofs.LineLaws.{onto-all}
 use Rattle.records.specs.Record.{Record, tabbed, line, sheet, pieces, front, final, parted, recordOf, records, rest, plainText, writable}
 use Rattle.records.proofs.PieceLaws.{piece-at, piece-last, some-piece}
 
@@ -123,10 +124,6 @@ unfolding rest
 rest-sheet rs e = ap final (pieces-sheet rs e) ∙ final-last (map line rs) []
 
 -- ---- records read are such as can be written
-onto-all : (t : ℕ → Bool) (x : ℕ) (ls : List (List ℕ)) → t x ≡ true → all (all t) ls ≡ true → all (all t) (onto x ls) ≡ true
-onto-all t x [] e h = both (both e refl) refl
-onto-all t x (l ∷ ls) e h = both (both e (left (all t l) (all (all t) ls) h)) (right (all t l) (all (all t) ls) h)
-
 -- a test that holds of every byte but c holds of every byte of the pieces
 pieces-keep : (c : ℕ) (t : ℕ → Bool) (s : List ℕ) → all (λ (x : ℕ). eqb x c || t x) s ≡ true → all (all t) (pieces c s) ≡ true
 unfolding pieces
@@ -147,10 +144,6 @@ no-c c (x ∷ s) = both (go (eqb x c)) (no-c c s)
 
 pub pieces-without : (c : ℕ) (s : List ℕ) → all (without c) (pieces c s) ≡ true
 pieces-without c s = pieces-keep c (other c) s (no-c c s)
-
-or-right : (a b : Bool) → b ≡ true → (a || b) ≡ true
-or-right true b e = refl
-or-right false b e = e
 
 record-writable : (l : List ℕ) → without 10 l ≡ true → writable (recordOf l) ≡ true
 unfolding recordOf

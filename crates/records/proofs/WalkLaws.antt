@@ -7,12 +7,13 @@ use native.Mathlib.Omega.{arith}
 use lib.ListN.{length, take, drop, drop-of-length-le}
 use lib.Seq.{length-take-le}
 use Rattle.base.specs.Choice.{pick}
-use Rattle.base.specs.Bytes.{begins, empty, same, upTo}
+use Rattle.base.specs.Bytes.{begins, same, upTo}
 use Rattle.base.specs.Quoted.{bytes}
-use Rattle.base.specs.Rules.{then, first}
+use Rattle.base.specs.Rules.{then}
 use Rattle.base.specs.declared.Verdict.{Verdict}
 use Rattle.base.specs.declared.Verdict.the-variants.{Fine, Broken}
 use Rattle.base.proofs.RuleLaws.{then-fine}
+use Rattle.base.proofs.ByteLaws.{is-filled}
 use Rattle.fields.specs.Field.{field, tagOf}
 use Rattle.types.specs.Walk.{rule18}
 use Rattle.types.specs.Sign.{firstLine, signOf}
@@ -55,10 +56,6 @@ module _ (s : List ℕ) (i e : ℕ) (h : i ≤ length s) (q : e ≡ i + upTo 10 
   sign-miss k = sign-here false k
 
   -- ---- 19
-  filled : (l : List ℕ) → (length l ≡ 0 → ⊥) → empty l ≡ false
-  filled [] k = absurd (k refl)
-  filled (x ∷ l) k = refl
-
   sized : length this ≡ e - i
   sized = piece-length s i e (omega arith) (end-within 10 s i e h q)
 
@@ -67,7 +64,7 @@ module _ (s : List ℕ) (i e : ℕ) (h : i ≤ length s) (q : e ≡ i + upTo 10 
     unfolding badLine
     bad-last k z =
         sym (ap (badLine kind g i) (last-at 10 s i e h q z)
-        ∙ ap (λ (b : Bool). pick b Fine (Broken 19 i)) (filled this (λ w. absurd (omega (arith, sized, w)))))
+        ∙ ap (λ (b : Bool). pick b Fine (Broken 19 i)) (is-filled this (λ w. absurd (omega (arith, sized, w)))))
 
     bad-here : (b : Bool) → (e ≡ length s → ⊥) → good kind g (recordOf this) ≡ b → badLine kind g i (piecesAt 10 s i) ≡ pick b (badLine kind g (e + 1) (piecesAt 10 s (e + 1))) (Broken 19 i)
     unfolding badLine

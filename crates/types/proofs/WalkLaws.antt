@@ -10,7 +10,7 @@ use lib.ListN.{length, take, drop, getD}
 use borrow.Author.Tests.{eq-eqb, ne-eqb, eqb-true, eqb-false, leb-true, leb-false, ltb-true, ltb-false, le-leb, lt-leb, lt-ltb, le-ltb, not-true}
 use Rattle.base.specs.Choice.{pick, all}
 use Rattle.base.specs.declared.Verdict.the-variants.{Fine, Broken}
-use Rattle.base.proofs.RuleLaws.{fine-broken}
+use Rattle.base.proofs.RuleLaws.{fine-broken, same-broken}
 use Rattle.fields.specs.Field.{Field, fields, tagOf}
 use Rattle.fields.specs.Places.{nextOf}
 use Rattle.types.specs.Form.{Place, may, placesOf}
@@ -281,9 +281,6 @@ accepted-iff ps next o fs = (
 )
 
 -- ---- refused
-same-broken : {m n p q : ℕ} → Broken m p ≡ Broken n q → (m ≡ n) × (p ≡ q)
-same-broken e = (cc, cc)
-
 refused : (ps : List Place) (next o : ℕ) (fs : List Field) (n p : ℕ) → walk ps next o fs ≡ Broken n p → Refused ps next o fs n p
 refused ps next o [] n p e = go (skips ps next (length ps)) refl
   where

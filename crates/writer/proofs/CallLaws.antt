@@ -5,7 +5,7 @@ use mathlib.Core.Bool.{Bool, true, false}
 use mathlib.Core.List.{List, [], _∷_, tail}
 use native.Mathlib.Omega.{arith}
 use native.Mathlib.Nat.{zero-add}
-use lib.Dec.{eqb, ltb}
+use lib.Dec.{ltb}
 use lib.ListN.{length, take, drop}
 use Rattle.base.specs.Choice.{pick}
 use Rattle.base.specs.Bytes.{same, upTo}
@@ -14,6 +14,7 @@ use Rattle.base.specs.Rules.{then, first}
 use Rattle.base.specs.Calls.{Answer, said, stuck, long, over, placed, Gives}
 use Rattle.base.specs.declared.Verdict.{Verdict}
 use Rattle.base.specs.declared.Verdict.the-variants.{Fine, Broken}
+use Rattle.base.proofs.Bools.{pick-same}
 use Rattle.base.proofs.RuleLaws.{fine-broken, then-clean, first-append, clean-first}
 use Rattle.base.proofs.Room.{over-sets, puts-put}
 use Rattle.base.proofs.CallLaws.{is-long, not-long, gives-refused, gives-on}
@@ -91,12 +92,7 @@ rule15-number kind s o (field t ps ∷ rs) j p e =
 -- ---- the first record can be written
 plain-mt : (kind : ℕ) → shapeOf kind (bytes "MT") ≡ Plain
 unfolding shapeOf shape103 shape202 same
-plain-mt kind = go (eqb kind 103) (eqb kind 202)
-  where
-    go : (a b : Bool) → pick a Plain (pick b Plain Plain) ≡ Plain
-    go true b = refl
-    go false true = refl
-    go false false = refl
+plain-mt kind = simp pick-same
 
 first-fine : (kind : ℕ) (s : Bool) (r : Record) → typed r ≡ true → recordStops kind s r ≡ Fine
 unfolding unsaid cast

@@ -1,19 +1,20 @@
 -- Details and notes: their parts as code finds them, and their lines. Assumes nothing.
 use Prim.Native.Nat.{ℕ, _+_, _-_, _≤_, _<_}
 use mathlib.Core.Path.{_≡_, refl, sym, ap, subst, _∙_}
-use mathlib.Core.Bool.{Bool, true, false, _||_, false≢true}
+use mathlib.Core.Bool.{Bool, true, false, false≢true}
 use mathlib.Core.List.{List, [], _∷_, _++_, append-assoc}
 use native.Mathlib.Omega.{arith}
 use native.Mathlib.Decide.{decLt}
 use lib.Dec.{eqb}
 use lib.ListN.{length, take, drop}
 use Rattle.base.specs.Choice.{pick, all}
-use Rattle.base.specs.Bytes.{digit, letter, shared, xset, isIn, marks, empty, upTo}
+use Rattle.base.specs.Bytes.{digit, xset, empty, upTo}
 use Rattle.base.specs.Quoted.{bytes}
 use Rattle.base.specs.Rules.{then}
 use Rattle.base.specs.Calls.{Answer, said, textOf, placed}
 use Rattle.base.specs.declared.Verdict.the-variants.{Fine}
 use Rattle.base.proofs.Bools.{left, right, all-imp}
+use Rattle.base.proofs.ByteLaws.{digit-set, is-filled}
 use Rattle.base.proofs.RuleLaws.{then-fine}
 use Rattle.base.proofs.Room.{puts-put}
 use Rattle.alphabets.specs.Bank.{plainly}
@@ -39,17 +40,9 @@ use Rattle.lines.proofs.StepLaws.{adds-same, adds-by, adds-front, adds-then, ad
 use Rattle.writer.proofs.PartLaws.{plain-line}
 
 -- ---- digits are copied as they are
-digit-x : (x : ℕ) → digit x ≡ true → xset x ≡ true
-unfolding xset shared
-digit-x x e = ap (λ (b : Bool). letter x || ((b || isIn x marks) || eqb x 39)) e ∙ go (letter x)
-  where
-    go : (b : Bool) → (b || true) ≡ true
-    go true = refl
-    go false = refl
-
 pub said-digits : (n : ℕ) (p : List ℕ) → digits n p ≡ true → plainly p ≡ said p
 unfolding digits
-said-digits n p e = plain-iff p .1 (all-imp digit xset digit-x p (right (eqb (length p) n) (all digit p) e))
+said-digits n p e = plain-iff p .1 (all-imp digit xset digit-set p (right (eqb (length p) n) (all digit p) e))
 
 -- ---- the parts of details: VO digits and text
 abbrev Detailed : Bool → Place → ℕ → List (List ℕ) → List ℕ → ℕ → Step → List ℕ → Type 0
@@ -122,10 +115,6 @@ pub empty-part : (p : List ℕ) → length p ≡ 0 → p ≡ []
 empty-part [] e = refl
 empty-part (x ∷ p) e = absurd (omega arith)
 
-some-part : (p : List ℕ) → (length p ≡ 0 → ⊥) → empty p ≡ false
-some-part [] e = absurd (e refl)
-some-part (x ∷ p) e = refl
-
 module _ (s : Bool) (l : List ℕ) (i e : ℕ) (q : e ≡ i + upTo 9 (drop i l)) (d : noted (piecesAt 9 l i) ≡ true) where
   inside : i ≤ length l
   inside = note-within l i d
@@ -163,7 +152,7 @@ module _ (s : Bool) (l : List ℕ) (i e : ℕ) (q : e ≡ i + upTo 9 (drop i l))
 
   module _ (some : e ≡ i → ⊥) where
     full : empty rpp ≡ false
-    full = some-part rpp (λ z. some (omega (arith, rpp-long)))
+    full = is-filled rpp (λ z. some (omega (arith, rpp-long)))
 
     note-list : then (stoppedAt i (plainly rpp)) (unsaid s (e + 1) (coded rest)) ≡ unsaid s i (castParts Note202 (rpp ∷ rest))
     unfolding unsaid

@@ -2,15 +2,14 @@
 -- is the sheet's (F1-F6, S8, T1, D2d). Assumes nothing.
 use Prim.Native.Nat.{ℕ}
 use mathlib.Core.Path.{_≡_, refl, sym, ap, _∙_}
-use mathlib.Core.Bool.{Bool, true, false, _||_}
+use mathlib.Core.Bool.{Bool, true, false}
 use mathlib.Core.List.{List, [], _∷_, map, tail}
-use lib.Dec.{eqb}
 use Rattle.base.specs.Choice.{pick, all}
 use Rattle.base.specs.Bytes.{begins, same, isIn, digit, capital, letter, marks, shared, xset}
 use Rattle.base.specs.Quoted.{bytes}
 use Rattle.base.specs.declared.Verdict.the-variants.{Fine}
-use Rattle.base.proofs.Bools.{left, right, both, isnt, all-append}
-use Rattle.base.proofs.ByteLaws.{same-is}
+use Rattle.base.proofs.Bools.{left, right, both, isnt, pick-same, all-append}
+use Rattle.base.proofs.ByteLaws.{digit-set, capital-set, same-is}
 use Rattle.base.proofs.RuleLaws.{Clean}
 use Rattle.fields.specs.Field.{Field, field, linesOf, fields}
 use Rattle.fields.specs.Frame.{rule2, rule3, rule4}
@@ -32,18 +31,6 @@ use Rattle.writer.specs.Sheet.{crowded, fieldsOf, messageFor, sheetRules}
 use Rattle.written.proofs.ReadyLaws.{speaking, roomy, rule15-fine, rule16-fine, Ready, fair-proper, ready-fair}
 
 -- ---- a tag's bytes are of the set
-digit-set : (x : ℕ) → digit x ≡ true → xset x ≡ true
-unfolding xset shared
-digit-set x e = go (letter x)
-  where
-    go : (a : Bool) → (a || ((digit x || isIn x marks) || eqb x 39)) ≡ true
-    go true = refl
-    go false = ap (λ (b : Bool). (b || isIn x marks) || eqb x 39) e
-
-capital-set : (x : ℕ) → capital x ≡ true → xset x ≡ true
-unfolding xset letter
-capital-set x e = rw e
-
 tag-set : (t : List ℕ) → shaped t ≡ true → all xset t ≡ true
 tag-set t e = go (shape-of t e)
   where
@@ -103,12 +90,7 @@ module _ (kind : ℕ) (s : Bool) where
 
   pub shape-20 : shapeOf kind (bytes "20") ≡ Plain
   unfolding shapeOf shape103 shape202 same
-  shape-20 = go (eqb kind 103) (eqb kind 202)
-    where
-      go : (a b : Bool) → pick a Plain (pick b Plain Plain) ≡ Plain
-      go true b = refl
-      go false true = refl
-      go false false = refl
+  shape-20 = simp pick-same
 
   lines-20 : (t : List ℕ) (ps : List (List ℕ)) → same t (bytes "20") ≡ true → contentLines s (shapeOf kind t) ps ≡ ps
   lines-20 t ps e = ap (λ (u : List ℕ). contentLines s (shapeOf kind u) ps) (same-is t (bytes "20") e) ∙ ap (λ (sh : Shape). contentLines s sh ps) shape-20 ∙ plain-lines ps

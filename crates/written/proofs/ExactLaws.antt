@@ -1,6 +1,6 @@
 -- 15 is given exactly if some part can't be written, at the first byte that can't; 16 exactly if some details can't be divided in any way (N15,
 -- N16, T9, T11, D3d, D3e). Assumes nothing.
-use Prim.Native.Nat.{ℕ, zero, suc, _+_}
+use Prim.Native.Nat.{ℕ, _+_}
 use mathlib.Core.Path.{_≡_, refl, sym, ap, _∙_, subst}
 use mathlib.Core.Bool.{Bool, true, false, _||_, true≢false, false≢true}
 use mathlib.Core.List.{List, [], _∷_, _++_}
@@ -16,10 +16,11 @@ use Rattle.base.specs.declared.Verdict.the-variants.{Fine, Broken}
 use Rattle.base.proofs.Bools.{left, right, both}
 use Rattle.base.proofs.RuleLaws.{fine-broken}
 use Rattle.base.proofs.CallLaws.{not-said}
-use Rattle.alphabets.specs.Grid.{Kind, unwritable, russian, latin, common, kind}
-use Rattle.alphabets.specs.Bank.{after, plainly, reading}
-use Rattle.alphabets.specs.Best.{best, Spot, nowhere, at, behind, spotAfter, bad, orStuck, writes, writing}
-use Rattle.alphabets.proofs.Theorems.{no-xset-zero, plain-iff, reads-back, unwritable-iff}
+use Rattle.alphabets.specs.Sentences.{FirstFails}
+use Rattle.alphabets.specs.Bank.{plainly, reading}
+use Rattle.alphabets.specs.Best.{writing}
+use Rattle.alphabets.proofs.Outcomes.{unwritable-at}
+use Rattle.alphabets.proofs.Theorems.{plain-iff, reads-back, unwritable-iff}
 use Rattle.fields.specs.Field.{field}
 use Rattle.roles.specs.Role.{shapeOf, Part, copy, name, taxName, lineOf}
 use Rattle.roles.specs.Speech.{codeSize}
@@ -36,116 +37,17 @@ use Rattle.details.proofs.Theorems.{unfit-none, none-unfit}
 use Rattle.lines.specs.Spread.{saidPart, castParts, told}
 use Rattle.lines.specs.Steps.{stoppedAt, isUnfit}
 use Rattle.writer.specs.Sheet.{unsaid, rule15, crowded, someCrowded, rule16}
-use Rattle.written.specs.Sentences.{Every, Writable, Unwritable, hasKind, canSay, canWrite, FirstFails, partsSize, StuckPart, WritableRecord, StuckAt, Undivided, NoWay, in70, in72, pastRpp, CrowdedIn}
+use Rattle.written.specs.Sentences.{Every, Writable, Unwritable, canWrite, partsSize, StuckPart, WritableRecord, StuckAt, Undivided, NoWay, in70, in72, pastRpp, CrowdedIn}
 use Rattle.written.proofs.SpeltLaws.{isSaid, said-is, plain-set}
 use Rattle.written.proofs.ReadyLaws.{speaks, said-all, all-said}
-
--- ---- the first byte that fails
-module _ (ok : ℕ → Bool) where
-  fails-here : (x : ℕ) (d : List ℕ) → ok x ≡ false → FirstFails ok (x ∷ d) 0
-  fails-here x d e = record { within = omega arith; fails = e; before = refl }
-
-  fails-on : (x : ℕ) (d : List ℕ) (k : ℕ) → ok x ≡ true → FirstFails ok d k → FirstFails ok (x ∷ d) (suc k)
-  fails-on x d k e f = record { within = let h = f .within in omega arith; fails = f .fails; before = both e (f .before) }
-
-  fails-tail : (x : ℕ) (d : List ℕ) (k : ℕ) → FirstFails ok (x ∷ d) (suc k) → FirstFails ok d k
-  fails-tail x d k f = record { within = let h = f .within in omega arith; fails = f .fails; before = right (ok x) _ (f .before) }
-
-stuck-same : (j k : ℕ) → stuck j ≡ stuck k → j ≡ k
-stuck-same j k e = cc
-
-at-same : (j k : ℕ) → at j ≡ at k → j ≡ k
-at-same j k e = cc
-
-nowhere-at : (k : ℕ) → nowhere ≡ at k → ⊥
-nowhere-at k e = let z : _≡_ {A = ℕ} 0 1 = cc in omega arith
-
--- without the sign, and copied
-plain-stuck : (d : List ℕ) (k : ℕ) → plainly d ≡ stuck k → FirstFails xset d k
-unfolding plainly
-plain-stuck [] k e = absurd (not-said k [] (sym e))
-plain-stuck (x ∷ xs) k e = go x (xset x) (plainly xs) refl e (λ j f. plain-stuck xs j f)
-  where
-    go : (y : ℕ) (q : Bool) (a : Answer) → xset y ≡ q → after (pick q y 0) a ≡ stuck k → ((j : ℕ) → a ≡ stuck j → FirstFails xset xs j) → FirstFails xset (y ∷ xs) k
-    go y false a q e ih = subst (FirstFails xset (y ∷ xs)) (stuck-same 0 k e) (fails-here xset y xs q)
-    go zero true a q e ih = absurd (no-xset-zero 0 q refl)
-    go (suc y) true (said t) q e ih = absurd (not-said k (suc y ∷ t) (sym e))
-    go (suc y) true (stuck j) q e ih = subst (FirstFails xset (suc y ∷ xs)) (stuck-same (suc j) k e) (fails-on xset (suc y) xs j q (ih j refl))
-
-stuck-plain : (d : List ℕ) (k : ℕ) → FirstFails xset d k → plainly d ≡ stuck k
-unfolding plainly
-stuck-plain [] k f = absurd (omega (arith, f .within))
-stuck-plain (x ∷ xs) zero f = ap (λ (q : Bool). after (pick q x 0) (plainly xs)) (f .fails)
-stuck-plain (x ∷ xs) (suc k) f = go x (left (xset x) _ (f .before)) (stuck-plain xs k (fails-tail xset x xs k f))
-  where
-    go : (y : ℕ) → xset y ≡ true → plainly xs ≡ stuck k → after (pick (xset y) y 0) (plainly xs) ≡ stuck (suc k)
-    go zero q e = absurd (no-xset-zero 0 q refl)
-    go (suc y) q e = rw (q, e)
-
--- with the sign
-no-kind : (q : Kind) (p : Spot) → hasKind q ≡ false → spotAfter q p ≡ at 0
-no-kind unwritable p e = refl
-no-kind russian p e = absurd (true≢false e)
-no-kind latin p e = absurd (true≢false e)
-no-kind common p e = absurd (true≢false e)
-
-some-kind : (q : Kind) (p : Spot) → hasKind q ≡ true → spotAfter q p ≡ behind p
-some-kind unwritable p e = absurd (false≢true e)
-some-kind russian p e = refl
-some-kind latin p e = refl
-some-kind common p e = refl
-
-spot-by : (x k : ℕ) (xs : List ℕ) (b : Bool) (p : Spot) → hasKind (kind x) ≡ b → spotAfter (kind x) p ≡ at k → ((j : ℕ) → p ≡ at j → FirstFails (canSay true) xs j)
-    → FirstFails (canSay true) (x ∷ xs) k
-spot-by x k xs false p h e ih = subst (FirstFails (canSay true) (x ∷ xs)) (at-same 0 k (sym (no-kind (kind x) p h) ∙ e)) (fails-here (canSay true) x xs h)
-spot-by x k xs true nowhere h e ih = absurd (nowhere-at k (sym (some-kind (kind x) nowhere h) ∙ e))
-spot-by x k xs true (at j) h e ih =
-    subst (FirstFails (canSay true) (x ∷ xs)) (at-same (suc j) k (sym (some-kind (kind x) (at j) h) ∙ e)) (fails-on (canSay true) x xs j h (ih j refl))
-
-bad-fails : (d : List ℕ) (k : ℕ) → bad d ≡ at k → FirstFails (canSay true) d k
-unfolding bad
-bad-fails [] k e = absurd (nowhere-at k e)
-bad-fails (x ∷ xs) k e = spot-by x k xs (hasKind (kind x)) (bad xs) refl e (λ j f. bad-fails xs j f)
-
-fails-bad : (d : List ℕ) (k : ℕ) → FirstFails (canSay true) d k → bad d ≡ at k
-unfolding bad
-fails-bad [] k f = absurd (omega (arith, f .within))
-fails-bad (x ∷ xs) zero f = no-kind (kind x) (bad xs) (f .fails)
-fails-bad (x ∷ xs) (suc k) f =
-    some-kind (kind x) (bad xs) (left (hasKind (kind x)) _ (f .before)) ∙ ap behind (fails-bad xs k (fails-tail (canSay true) x xs k f))
-
-writes-stuck : (d : List ℕ) (k : ℕ) → writes d ≡ stuck k → bad d ≡ at k
-unfolding writes
-writes-stuck d k e = go (bad d) e
-  where
-    go : (p : Spot) → orStuck p (best false d) ≡ stuck k → p ≡ at k
-    go nowhere e = absurd (not-said k (best false d) (sym e))
-    go (at j) e = ap at (stuck-same j k e)
-
-stuck-writes : (d : List ℕ) (k : ℕ) → bad d ≡ at k → writes d ≡ stuck k
-unfolding writes
-stuck-writes d k e = ap (λ (p : Spot). orStuck p (best false d)) e
-
-text-stuck : (s : Bool) (d : List ℕ) (k : ℕ) → writing s d ≡ stuck k → FirstFails (canSay s) d k
-text-stuck true d k e = bad-fails d k (writes-stuck d k e)
-text-stuck false d k e = plain-stuck d k e
-
-stuck-text : (s : Bool) (d : List ℕ) (k : ℕ) → FirstFails (canSay s) d k → writing s d ≡ stuck k
-stuck-text true d k f = stuck-writes d k (fails-bad d k f)
-stuck-text false d k f = stuck-plain d k f
 
 -- ---- a part
 module _ (s : Bool) where
   -- it stops at the first byte that can't be written
-  part-stuck : (x : Part) (k : ℕ) → saidPart s x ≡ stuck k → FirstFails (canWrite s x) (lineOf x) k
-  part-stuck (copy p) k e = plain-stuck p k e
-  part-stuck (name p) k e = text-stuck s p k e
-  part-stuck (taxName p) k e = text-stuck s p k e
-
-  stuck-part : (x : Part) (k : ℕ) → FirstFails (canWrite s x) (lineOf x) k → saidPart s x ≡ stuck k
-  stuck-part (copy p) k f = stuck-plain p k f
-  stuck-part (name p) k f = stuck-text s p k f
-  stuck-part (taxName p) k f = stuck-text s p k f
+  part-stuck : (x : Part) (k : ℕ) → (saidPart s x ≡ stuck k) ↔ FirstFails (canWrite s x) (lineOf x) k
+  part-stuck (copy p) k = unwritable-at false p k
+  part-stuck (name p) k = unwritable-at s p k
+  part-stuck (taxName p) k = unwritable-at s p k
 
   -- and then no text is written for it, else some is
   not-inside : (p : List ℕ) (k : ℕ) (b : Bool) → all xset p ≡ b → plainly p ≡ stuck k → all xset p ≡ false
@@ -179,7 +81,7 @@ module _ (s : Bool) where
   part-broken o x xs n p (stuck k) q e ih =
       let f : n ≡ 15 = cc in
       let g : p ≡ o + k = cc in
-      (f, record { before = []; this = x; behind = xs; list = refl; fine = tt; bad = stuck-unwritable x k q; at = k; first = part-stuck x k q; place = omega arith })
+      (f, record { before = []; this = x; behind = xs; list = refl; fine = tt; bad = stuck-unwritable x k q; at = k; first = part-stuck x k .0 q; place = omega arith })
   part-broken o x xs n p (said t) q e ih =
       let h : (n ≡ 15) × StuckPart s (o + length (lineOf x) + 1) xs p = ih e in
       let w : StuckPart s (o + length (lineOf x) + 1) xs p = h .1 in
@@ -215,7 +117,7 @@ module _ (s : Bool) where
 
   stuck-broken : (o : ℕ) (xs : List Part) (p : ℕ) → StuckPart s o xs p → unsaid s o xs ≡ Broken 15 p
   stuck-broken o xs p w =
-      ap (unsaid s o) (w .list) ∙ hits o (w .before) (w .this) (w .behind) (w .at) (every-speaks (w .before) (w .fine)) (stuck-part (w .this) (w .at) (w .first))
+      ap (unsaid s o) (w .list) ∙ hits o (w .before) (w .this) (w .behind) (w .at) (every-speaks (w .before) (w .fine)) (part-stuck (w .this) (w .at) .1 (w .first))
       ∙ ap (Broken 15) (sym (w .place))
 
   -- ---- records one behind another

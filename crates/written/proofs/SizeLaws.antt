@@ -15,6 +15,7 @@ use Rattle.base.specs.Calls.{Answer, said, stuck, textOf}
 use Rattle.base.specs.declared.Verdict.{Verdict}
 use Rattle.base.specs.declared.Verdict.the-variants.{Broken}
 use Rattle.base.specs.declared.Outcome.the-variants.{Done, Refused}
+use Rattle.base.proofs.RuleLaws.{same-broken}
 use Rattle.base.proofs.CallLaws.{refused, is-long, within-limit}
 use Rattle.alphabets.specs.Best.{writing}
 use Rattle.alphabets.proofs.Outcomes.{twice-at-most}
@@ -185,30 +186,31 @@ own-most : {n : ℕ} → Own n → n ≤ 19
 own-most (inl e) = omega arith
 own-most (inr h) = omega (arith, h .1)
 
-reason-small : {s out : List ℕ} {p n : ℕ} → length s ≤ limit → Reason s out p n → (n ≤ 19) × (p ≤ 3000007)
-reason-small {s} h (why.over a z) = (omega arith, omega arith)
-reason-small {s} h (why.against b) = (omega arith, omega (arith, bad-within b, records-within s))
-reason-small {s} h (why.typeless a z) = (omega arith, omega arith)
-reason-small {s} h (why.unsaid w) = (omega arith, omega (arith, stuck-within w, records-within s))
-reason-small {s} h (why.crowded a z) = (omega arith, omega arith)
-reason-small {s} h (why.short a z) = (omega arith, omega (arith, message-small s h))
-reason-small {s} h (why.own q w f z) = (own-most w, omega arith)
+-- no place is over the limit but 17's, the length of the message
+module _ (most : ℕ) (l : limit ≤ most) where
+  pub reason-within : {s out : List ℕ} {n p : ℕ} → length s ≤ limit → (n ≡ 17 → length (messageFor s) ≤ most) → Reason s out p n → (n ≤ 19) × (p ≤ most)
+  reason-within {s} h k (why.over a z) = (omega arith, omega arith)
+  reason-within {s} h k (why.against b) = (omega arith, omega (arith, bad-within b, records-within s))
+  reason-within {s} h k (why.typeless a z) = (omega arith, omega arith)
+  reason-within {s} h k (why.unsaid w) = (omega arith, omega (arith, stuck-within w, records-within s))
+  reason-within {s} h k (why.crowded a z) = (omega arith, omega arith)
+  reason-within {s} h k (why.short a z) = (omega arith, omega (arith, k refl))
+  reason-within {s} h k (why.own q w f z) = (own-most w, omega arith)
+
+  pub long-within : {n p : ℕ} → Broken 1 limit ≡ Broken n p → (n ≤ 19) × (p ≤ most)
+  long-within e = let w = same-broken e in (omega (arith, w .0), omega (arith, w .1))
 
 module _ (s out after : List ℕ) where
-  long-small : (n p : ℕ) → limit < length s → first (writeRules s out) ≡ Broken n p → (n ≤ 19) × (p ≤ 3000007)
-  long-small n p h e =
-      let f : Broken 1 limit ≡ Broken n p = sym (ap (λ (v : Verdict). then v (first (tail (writeRules s out)))) (is-long limit s h)) ∙ e in
-      let a : 1 ≡ n = cc in
-      let b : limit ≡ p = cc in
-      (omega arith, omega arith)
+  over-limit : limit < length s → first (writeRules s out) ≡ Broken 1 limit
+  over-limit h = ap (λ (v : Verdict). then v (first (tail (writeRules s out)))) (is-long limit s h)
 
   pub refused-small : (n p : ℕ) → MessageTo s out (Refused n p) after → (n ≤ 19) × (p ≤ 3000007)
   unfolding MessageTo
   refused-small n p g = go (decLt limit (length s))
     where
       go : Dec (limit < length s) → (n ≤ 19) × (p ≤ 3000007)
-      go (yes h) = long-small n p h (refused (writeRules s out) (messageFor s) out n p after g .0)
-      go (no h) = reason-small (omega arith) (refused-why s out (Refused n p) after g n p refl .0)
+      go (yes h) = long-within 3000007 (omega arith) (sym (over-limit h) ∙ refused (writeRules s out) (messageFor s) out n p after g .0)
+      go (no h) = reason-within 3000007 (omega arith) (omega arith) (λ z. message-small s (omega arith)) (refused-why s out (Refused n p) after g n p refl .0)
 
   -- and so is the number of bytes written
   pub written-small : (n : ℕ) → MessageTo s out (Done n) after → n ≤ 3000007

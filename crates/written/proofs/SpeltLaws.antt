@@ -2,7 +2,7 @@
 -- unless the desk text begins as one (T3, T9, T10, N14b, N14c). Assumes nothing.
 use Prim.Native.Nat.{ℕ, zero, suc}
 use mathlib.Core.Path.{_≡_, refl, sym, ap, ap₂, _∙_}
-use mathlib.Core.Bool.{Bool, true, false, not, _&&_, _||_, true≢false, false≢true}
+use mathlib.Core.Bool.{Bool, true, false, not, _&&_, _||_, and-false, true≢false, false≢true}
 use mathlib.Core.List.{List, [], _∷_}
 use native.Mathlib.Omega.{arith}
 use lib.Dec.{eqb}
@@ -173,15 +173,11 @@ spelt-open d t e = go (eqb (byte d 0) 47) (eqb (byte d 0) 58) (eqb (byte d 0) 45
     shut : (q : Bool) → begins 39 t ≡ false → (begins 39 t && q) ≡ false
     shut q h = ap (λ (b : Bool). b && q) h
 
-    none : (q : Bool) → (q && false) ≡ false
-    none true = refl
-    none false = refl
-
     go : (a b c : Bool) → (a ≡ true → begins 39 t ≡ false) → (b ≡ true → begins 39 t ≡ false) → (c ≡ true → begins 39 t ≡ false) → (begins 39 t && (a || (b || (c || false)))) ≡ false
     go true b c f g h = shut true (f refl)
     go false true c f g h = shut true (g refl)
     go false false true f g h = shut true (h refl)
-    go false false false f g h = none (begins 39 t)
+    go false false false f g h = and-false (begins 39 t)
 
 -- ---- a text that is written as a tax line begins with Cyrillic INN and a digit
 digit-sign : (x : ℕ) → digit x ≡ true → sign false x ≡ x

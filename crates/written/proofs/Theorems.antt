@@ -17,7 +17,7 @@ use Rattle.base.specs.declared.Verdict.{Verdict}
 use Rattle.base.specs.declared.Verdict.the-variants.{Fine, Broken}
 use Rattle.base.specs.declared.Outcome.{Outcome}
 use Rattle.base.specs.declared.Outcome.the-variants.{Done, Refused}
-use Rattle.base.proofs.RuleLaws.{fine-broken, then-fine, Clean, first-clean, FirstOf, broken-first}
+use Rattle.base.proofs.RuleLaws.{fine-broken, same-broken, then-fine, Clean, first-clean, FirstOf, broken-first}
 use Rattle.base.proofs.CallLaws.{gives-one, accepted, refused, not-long, is-short, not-short, enough}
 use Rattle.fields.specs.Field.{fields}
 use Rattle.fields.specs.Frame.{limit}
@@ -42,9 +42,6 @@ unfolding MessageTo
 message-one s out g h = gives-one g h
 
 -- ---- rules in order
-same-broken : {m n p q : ℕ} → Broken m p ≡ Broken n q → (m ≡ n) × (p ≡ q)
-same-broken e = (cc, cc)
-
 passed : (us vs : List Verdict) → Clean us → first (us ++ vs) ≡ first vs
 passed [] vs c = refl
 passed (u ∷ us) vs c = ap (λ (v : Verdict). then v (first (us ++ vs))) (c .0) ∙ passed us vs (c .1)

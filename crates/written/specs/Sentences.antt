@@ -5,12 +5,12 @@ use mathlib.Core.Path.{_≡_}
 use mathlib.Core.Logic.{_⊎_}
 use mathlib.Core.Bool.{Bool, true, false}
 use mathlib.Core.List.{List, [], _∷_, _++_, tail}
-use lib.ListN.{length, take}
+use lib.ListN.{length}
 use Rattle.base.specs.Choice.{all}
-use Rattle.base.specs.Bytes.{byte, empty, xset}
+use Rattle.base.specs.Bytes.{empty, xset}
 use Rattle.base.specs.Calls.{said}
 use Rattle.base.specs.declared.Verdict.the-variants.{Broken}
-use Rattle.alphabets.specs.Grid.{Kind, unwritable, russian, latin, common, kind}
+use Rattle.alphabets.specs.Sentences.{canSay, FirstFails}
 use Rattle.alphabets.specs.Bank.{reading}
 use Rattle.alphabets.specs.Best.{writing}
 use Rattle.fields.specs.Field.{Field, field}
@@ -89,27 +89,10 @@ Unwritable s (copy p) = all xset p ≡ false
 Unwritable s (name p) = (b : List ℕ) → reading s b ≡ said p → ⊥
 Unwritable s (taxName p) = (b : List ℕ) → reading s b ≡ said p → ⊥
 
--- a byte that can be written in a text: with the sign one of the 34, a Latin letter or a shared mark, else one of the x set
-abbrev pub hasKind : Kind → Bool
-hasKind unwritable = false
-hasKind russian = true
-hasKind latin = true
-hasKind common = true
-
-abbrev pub canSay : Bool → ℕ → Bool
-canSay true x = hasKind (kind x)
-canSay false x = xset x
-
 abbrev pub canWrite : Bool → Part → ℕ → Bool
 canWrite s (copy p) x = xset x
 canWrite s (name p) x = canSay s x
 canWrite s (taxName p) x = canSay s x
-
--- k is the first byte that fails a test
-pub record FirstFails (ok : ℕ → Bool) (d : List ℕ) (k : ℕ) : Type 0 where
-  pub within : k < length d
-  pub fails : ok (byte d k) ≡ false
-  pub before : all ok (take k d) ≡ true
 
 -- how many bytes parts take, with the tab or LF behind each
 abbrev pub partsSize : List Part → ℕ
