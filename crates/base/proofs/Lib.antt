@@ -7,3 +7,4 @@ pub mod CallLaws
 pub mod ByteLaws
 pub mod MarkLaws
 pub mod BitLaws
+pub mod SaysLaws

@@ -4,4 +4,5 @@ pub mod Rules
 pub mod Calls
 pub mod Bits
 pub mod Quoted
+pub mod Says
 pub mod Examples

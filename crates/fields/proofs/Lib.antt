@@ -8,3 +8,4 @@ pub mod WrittenLaws
 pub mod ScanLaws
 pub mod PackLaws
 pub mod Examples
+pub mod ContentLaws

@@ -5,3 +5,4 @@ pub mod Shapes
 pub mod Sentences
 pub mod ByLines
 pub mod Cases
+pub mod Lines

@@ -1,4 +1,6 @@
 // The frame of a message, and the front of its lines.
+pub mod lines;
+
 ghost use mathlib.Core.Path.{_≡_};
 ghost use Prim.Native.Nat.{_-_, _≤_, _<_};
 ghost use mathlib.Core.List.{[], _∷_};

@@ -15,9 +15,8 @@ use Rattle.types.specs.Sign.{signOf}
 use Rattle.types.specs.Walk.{walked}
 use Rattle.frame.specs.declared.Frame.{Frame}
 use Rattle.frame.specs.Frame.{frameRules, refusal, bare, frameBy, frameOf}
-use Rattle.forms.specs.FieldRules.{firstWrong}
-use Rattle.forms.specs.Contents.{rightField, rule8}
-use Rattle.forms.proofs.ContentLaws.{firstOf, sign-first}
+use Rattle.contents.specs.Rule8.{firstWrong, rightField, rule8}
+use Rattle.contents.proofs.RuleLaws.{firstOf, sign-first}
 use Rattle.values.specs.Judged.{rule9, rule10, rule11, rule12, rule13}
 use Rattle.roles.specs.Rule14.{unheard, spoken, rule14}
 use Rattle.judge.specs.declared.facts.Facts.{Facts}

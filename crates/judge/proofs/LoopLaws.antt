@@ -15,13 +15,8 @@ use Rattle.fields.specs.Field.{Field, field, fields, linesOf}
 use Rattle.fields.specs.Places.{sizeOf, startOf, nextOf}
 use Rattle.fields.specs.Shapes.{unpack}
 use Rattle.fields.specs.ByLines.{joined}
-use Rattle.machine.specs.Lines.{linesIn}
-use Rattle.machine.specs.Machine.{right}
-use Rattle.forms.specs.Formats.{formats}
-use Rattle.forms.specs.States.{rows}
-use Rattle.forms.specs.FieldRules.{firstWrong}
-use Rattle.forms.specs.Contents.{stateOf, rightField, rightContent}
-use Rattle.forms.proofs.ContentLaws.{content-right}
+use Rattle.contents.specs.Rule8.{firstWrong, rightField, rightContent}
+use Rattle.contents.proofs.RuleLaws.{content-right}
 use Rattle.roles.specs.declared.Spot.{Spot}
 use Rattle.roles.specs.declared.Spot.the-variants.{Nowhere, At}
 use Rattle.roles.specs.Rule14.{breaks, unheard, spoken}
@@ -46,12 +41,8 @@ module _ {m spots : List ℕ} {k : ℕ} {p : Part} (h : Here m spots k p) where
     abbrev wrong8 : ℕ → List Field → Verdict
     wrong8 o fs = firstWrong 8 (rightField kind sign) startOf o fs
 
-    pub right-is : {f r : List ℕ} {b : Bool} → f ≡ formats → r ≡ rows → b ≡ right f r (stateOf kind sign (unpack (p .tag))) (linesIn content) → b ≡ rightField kind sign (fieldOf h)
-    unfolding rightContent
-    right-is x y e =
-        e ∙ ap₂ (λ (u v : List ℕ). right u v (stateOf kind sign (unpack (p .tag))) (linesIn content)) x y
-        ∙ ap₂ (λ (t c : List ℕ). right formats rows (stateOf kind sign t) (linesIn c)) (h .tag-is) (h .content-is)
-        ∙ content-right kind sign (h .tag) (h .line) (h .more) (h .no-cr)
+    pub right-is : {b : Bool} → b ≡ rightContent kind sign (unpack (p .tag)) content → b ≡ rightField kind sign (fieldOf h)
+    right-is e = e ∙ ap₂ (λ (t c : List ℕ). rightContent kind sign t c) (h .tag-is) (h .content-is) ∙ content-right kind sign (h .tag) (h .line) (h .more) (h .no-cr)
 
     pub wrong-here : {b : Bool} → b ≡ rightField kind sign (fieldOf h) → b ≡ false → Broken 8 (p .start) ≡ wrong8 (byte spots k) (drop k (fields m))
     unfolding firstWrong

@@ -19,7 +19,7 @@ use Rattle.fields.specs.ByLines.{startAt, tagAt}
 use Rattle.fields.proofs.TagLaws.{shape-of, tag-long}
 use Rattle.fields.proofs.PackLaws.{unpack-pack}
 use Rattle.fields.proofs.PlaceLaws.{Standing, start-at, tag-at, field-bytes, next-standing, content-bytes, content-part, fields-stand}
-use Rattle.forms.proofs.ContentLaws.{firstOf}
+use Rattle.contents.proofs.RuleLaws.{firstOf}
 use Rattle.frame.proofs.CallLaws.{Found, taken}
 use Rattle.listing.proofs.SpotLaws.{spot-at}
 use Rattle.judge.specs.declared.parts.Part.{Part}

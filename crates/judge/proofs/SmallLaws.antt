@@ -20,8 +20,7 @@ use Rattle.types.proofs.WalkLaws.{after}
 use Rattle.frame.specs.Frame.{refusal}
 use Rattle.frame.proofs.CallLaws.{Taken, taken}
 use Rattle.frame.proofs.SmallLaws.{Small, refusal-small}
-use Rattle.forms.specs.FieldRules.{firstWrong}
-use Rattle.forms.specs.Contents.{rightField, rule8}
+use Rattle.contents.specs.Rule8.{firstWrong, rightField, rule8}
 use Rattle.values.specs.Values.{Kind, Value, kindOf, placeOf, valuesIn}
 use Rattle.values.specs.Judged.{firstBad, rule9, rule10, rule11, rule12, rule13}
 use Rattle.values.proofs.JudgedLaws.{Ordered, none, next}

@@ -15,8 +15,8 @@ use Rattle.types.specs.Sign.{signOf}
 use Rattle.frame.specs.declared.Frame.{Frame}
 use Rattle.frame.specs.Frame.{refusal, frameBy}
 use Rattle.frame.proofs.CallLaws.{Found}
-use Rattle.forms.specs.Contents.{rightField, rule8}
-use Rattle.forms.proofs.ContentLaws.{rule8-fine}
+use Rattle.contents.specs.Rule8.{rightField, rule8}
+use Rattle.contents.proofs.RuleLaws.{rule8-fine}
 use Rattle.values.specs.Values.{valuesIn}
 use Rattle.values.specs.Judged.{firstBad, noDay, rule9}
 use Rattle.judge.specs.Message.{contentRules, messageRules, verdictOf, judgedOf}

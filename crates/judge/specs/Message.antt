@@ -6,7 +6,7 @@ use Rattle.base.specs.declared.Verdict.{Verdict}
 use Rattle.fields.specs.Field.{Field, fields}
 use Rattle.frame.specs.declared.Frame.{Frame}
 use Rattle.frame.specs.Frame.{frameRules, frameBy}
-use Rattle.forms.specs.Contents.{rule8}
+use Rattle.contents.specs.Rule8.{rule8}
 use Rattle.values.specs.Judged.{rule9, rule10, rule11, rule12, rule13}
 use Rattle.roles.specs.Rule14.{rule14}
 

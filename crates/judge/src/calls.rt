@@ -7,15 +7,13 @@ ghost use Rattle.types.specs.Walk.{walked};
 ghost use Rattle.types.specs.Sign.{signOf};
 ghost use Rattle.judge.specs.Parts.{Settled};
 ghost use Rattle.judge.specs.Message.{innerRules, contentRules, judgedOf};
-use super::contents::contents_rule;
 use super::facts::facts_of;
 use super::facts::values_rule;
+use super::right::contents_rule;
 use super::sign::is_signed;
 use super::speeches::speeches_rule;
 use alphabets::pieces::back_table;
 use base::Verdict;
-use forms::format_table;
-use forms::row_table;
 use frame::Frame;
 use frame::SPOTS;
 use frame::calls::frame;
@@ -43,9 +41,7 @@ fn content_verdict(kind: u32, m: &[u8], spots: &[u32; SPOTS], n: usize) -> Verdi
     ensures { λ r. ⌜ r ≡ first (contentRules kind (now (m .entry))) ⌝ }
 {
     let sign = is_signed(m);
-    let f = format_table();
-    let r = row_table();
-    let v = contents_rule(kind, sign, &f, &r, m, spots, n);
+    let v = contents_rule(kind, sign, m, spots, n);
     if let Verdict::Broken { number, place } = v {
         return Verdict::Broken { number, place };
     }

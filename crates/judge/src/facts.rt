@@ -11,15 +11,20 @@ use super::parts::field_at;
 use super::taxes::tax_rule;
 use base::Verdict;
 use frame::SPOTS;
+use types::tags::TAG_26T;
+use types::tags::TAG_32A;
+use types::tags::TAG_52A;
+use types::tags::TAG_56A;
+use types::tags::TAG_56D;
+use types::tags::TAG_57A;
+use types::tags::TAG_57D;
+use types::tags::TAG_72;
+use types::tags::TAG_77B;
 use values::faults::currency_fault;
 use values::faults::day_fault;
 use values::faults::is_56;
 use values::faults::is_57;
 use values::faults::party_fault;
-
-const TAG_26T: u32 = 3290708;
-
-const TAG_77B: u32 = 3618626;
 
 // Places of a date that is no day, a currency that is not the rouble, a 56, a party line whose parts differ, a 26T and a 77B; and whether
 // there is a 57.
@@ -89,15 +94,15 @@ fn is_idle(tag: u32) -> bool
     ensures { λ r. ⌜ (r ≡ true → Idle (unpack tag)) ⌝ }
 {
     match tag {
-        3290708 => false,
-        3355201 => false,
-        3486273 => false,
-        3487297 => false,
-        3487300 => false,
-        3487553 => false,
-        3487556 => false,
-        3617280 => false,
-        3618626 => false,
+        TAG_26T => false,
+        TAG_32A => false,
+        TAG_52A => false,
+        TAG_56A => false,
+        TAG_56D => false,
+        TAG_57A => false,
+        TAG_57D => false,
+        TAG_72 => false,
+        TAG_77B => false,
         _ => true,
     }
 }

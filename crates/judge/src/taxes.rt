@@ -11,11 +11,9 @@ ghost use Rattle.judge.specs.Facts.{toldAs, taxTag, taxed, bothTaxed, ta
 use super::parts::field_at;
 use base::Verdict;
 use frame::SPOTS;
+use types::tags::TAG_50K;
+use types::tags::TAG_59;
 use values::parts::has_kpp;
-
-const TAG_50K: u32 = 3485771;
-
-const TAG_59: u32 = 3488000;
 
 fn told(number: u32, place: usize) -> Verdict
     ensures { λ r. ⌜ r ≡ toldAs number place ⌝ }

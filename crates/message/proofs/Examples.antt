@@ -22,19 +22,17 @@ use Rattle.types.specs.Sign.{signOf}
 use Rattle.listing.specs.declared.Span.{Span}
 use Rattle.listing.specs.Lists.{partAt}
 use Rattle.judge.specs.Message.{verdictOf}
-use Rattle.formats.specs.Format.{sign, member, run, counted, apart, notPlus, wayFirst, purpose, meets, fits}
-use Rattle.machine.specs.Machine.{cell, isAs, holds, tookOf, right, lives, behind, widest}
-use Rattle.forms.specs.Formats.{formats}
-use Rattle.forms.specs.States.{rows}
-use Rattle.forms.specs.FieldRules.{firstWrong}
-use Rattle.forms.specs.Contents.{starts103, starts202, stateOf, rightField, rule8, rightContent}
+use Rattle.contents.specs.Words.{capitalOrDigit}
+use Rattle.contents.specs.Tests as tests
+use Rattle.contents.specs.Rule8.{firstWrong, rightField, rule8, rightContent}
 use Rattle.values.specs.Number.{onward}
 use Rattle.values.specs.Day.{leap, daysIn, isDay, yearOf, realDay, dated}
 use Rattle.values.specs.Money.{kopecks}
 use Rattle.values.specs.Values.{behindDigits, payment, pointIn, datesBehind, rpp, bothParts, parties, taxPlace, isTax, withKpp, taxes, valuesOf}
 use Rattle.values.specs.Judged.{firstBad, rule9, rule10, rule11, rule12, rule13}
 use Rattle.values.specs.Answers.{dayAt, dateOf, kopecksOf, kppOf, faultOf}
-use Rattle.roles.specs.Role.{shape103, shape202, shapeOf, cast}
+use Rattle.contents.specs.Tags.{tags103, tags202, heldBy}
+use Rattle.roles.specs.Role.{shapeOf, cast}
 use Rattle.roles.specs.Speech.{named, told, speech, names, details, noted, speeches}
 use Rattle.roles.specs.Speech as roles-speech
 use Rattle.roles.specs.Sentences.{Heard}
@@ -132,11 +130,11 @@ before-14 kind m =
     frameRules kind m ++ rule8 kind m ∷ rule9 (fields m) ∷ rule10 (fields m) ∷ rule11 (fields m) ∷ rule12 (fields m) ∷ rule13 (fields m) ∷ []
 
 signed-easy : first (before-14 202 (bytes signed202)) ≡ Fine
-unfolding rule18 form103 form202 forms placesOf long rule1 framed body same rule2 scan xset isIn digit capital letter marks shared rule3 cut tagged lineBad badLine rule4 upto past grouped fields find wrong walk walked signOf sign member run counted apart notPlus wayFirst purpose meets fits cell isAs holds tookOf right lives behind widest formats rows firstWrong starts103 starts202 stateOf rightField rule8 rightContent onward leap daysIn isDay yearOf realDay dated behindDigits payment pointIn datesBehind rpp bothParts parties taxPlace isTax withKpp taxes valuesOf firstBad rule9 rule10 rule11 rule12 rule13
+unfolding rule18 form103 form202 forms placesOf long rule1 framed body same rule2 scan xset isIn digit capital letter marks shared rule3 cut tagged lineBad badLine rule4 upto past grouped fields find wrong walk walked signOf firstWrong rightField rule8 rightContent onward leap daysIn isDay yearOf realDay dated behindDigits payment pointIn datesBehind rpp bothParts parties taxPlace isTax withKpp taxes valuesOf firstBad rule9 rule10 rule11 rule12 rule13 capitalOrDigit tests.lead tests.ends tests.pair tests.isReference tests.isPurpose tests.isPayment tests.isOwnAccount tests.isPartyByBik tests.isParty tests.isBic tests.isAccount tests.isTax tests.looksTax tests.isRpp tests.details tests.right tags103 tags202 heldBy
 signed-easy = refl
 
 signed-texts : spoken 202 5 (fields (bytes signed202)) ≡ speech named 120 (bytes "'OOO' SBERBANK") ∷ speech told 185 (bytes "PEREVOD SREDSTVPO DOGOVORU 'A'") ∷ []
-unfolding spoken speeches names details noted roles-speech.behind shapeOf shape103 shape202 cast isTax same digit body cut upto past grouped fields isIn
+unfolding spoken speeches names details noted roles-speech.behind shapeOf heldBy tags103 tags202 cast isTax same digit body cut upto past grouped fields isIn
 signed-texts = refl
 
 name-heard : breaks named (bytes "'OOO' SBERBANK") ≡ false
@@ -159,11 +157,11 @@ signed-fine =
 
 -- ---- the example of the rules, as a 103 and as a 202
 sample-verdicts : (verdictOf 103 (bytes sample) ≡ Fine) × (verdictOf 202 (bytes sample) ≡ Broken 5 15)
-unfolding verdictOf rule18 form103 form202 forms placesOf long rule1 framed body same rule2 scan xset isIn digit capital letter marks shared rule3 cut tagged lineBad badLine rule4 upto past grouped fields find wrong walk walked signOf sign member run counted apart notPlus wayFirst purpose meets fits cell isAs holds tookOf right lives behind widest formats rows firstWrong starts103 starts202 stateOf rightField rule8 rightContent onward leap daysIn isDay yearOf realDay dated behindDigits payment pointIn datesBehind rpp bothParts parties taxPlace isTax withKpp taxes valuesOf firstBad rule9 rule10 rule11 rule12 rule13 spoken speeches names details noted roles-speech.behind shapeOf shape103 shape202 cast hidden isInn taxLike breaks unheard rule14 grid alphabets-grid.sign reads
+unfolding verdictOf rule18 form103 form202 forms placesOf long rule1 framed body same rule2 scan xset isIn digit capital letter marks shared rule3 cut tagged lineBad badLine rule4 upto past grouped fields find wrong walk walked signOf firstWrong rightField rule8 rightContent onward leap daysIn isDay yearOf realDay dated behindDigits payment pointIn datesBehind rpp bothParts parties taxPlace isTax withKpp taxes valuesOf firstBad rule9 rule10 rule11 rule12 rule13 spoken speeches names details noted roles-speech.behind shapeOf heldBy tags103 tags202 cast hidden isInn taxLike breaks unheard rule14 grid alphabets-grid.sign reads capitalOrDigit tests.lead tests.ends tests.pair tests.isReference tests.isPurpose tests.isPayment tests.isOwnAccount tests.isPartyByBik tests.isParty tests.isBic tests.isAccount tests.isTax tests.looksTax tests.isRpp tests.details tests.right
 sample-verdicts = (refl, refl)
 
 computed : AllComputed cases
-unfolding cases verdictOf rule18 form103 form202 forms placesOf long rule1 framed body same rule2 scan xset isIn digit capital letter marks shared rule3 cut tagged lineBad badLine rule4 upto past grouped fields find wrong walk walked signOf sign member run counted apart notPlus wayFirst purpose meets fits cell isAs holds tookOf right lives behind widest formats rows firstWrong starts103 starts202 stateOf rightField rule8 rightContent onward leap daysIn isDay yearOf realDay dated behindDigits payment pointIn datesBehind rpp bothParts parties taxPlace isTax withKpp taxes valuesOf firstBad rule9 rule10 rule11 rule12 rule13 spoken speeches names details noted roles-speech.behind shapeOf shape103 shape202 cast hidden isInn taxLike breaks unheard rule14 grid alphabets-grid.sign reads message listed word partAt short dateOf dayAt kopecksOf kopecks kppOf faultOf
+unfolding cases verdictOf rule18 form103 form202 forms placesOf long rule1 framed body same rule2 scan xset isIn digit capital letter marks shared rule3 cut tagged lineBad badLine rule4 upto past grouped fields find wrong walk walked signOf firstWrong rightField rule8 rightContent onward leap daysIn isDay yearOf realDay dated behindDigits payment pointIn datesBehind rpp bothParts parties taxPlace isTax withKpp taxes valuesOf firstBad rule9 rule10 rule11 rule12 rule13 spoken speeches names details noted roles-speech.behind shapeOf heldBy tags103 tags202 cast hidden isInn taxLike breaks unheard rule14 grid alphabets-grid.sign reads message listed word partAt short dateOf dayAt kopecksOf kopecks kppOf faultOf capitalOrDigit tests.lead tests.ends tests.pair tests.isReference tests.isPurpose tests.isPayment tests.isOwnAccount tests.isPartyByBik tests.isParty tests.isBic tests.isAccount tests.isTax tests.looksTax tests.isRpp tests.details tests.right
 computed =
     (sample-verdicts .0, refl, refl, refl, refl, refl, refl, refl) also (signed-fine, refl, refl, refl, refl, refl, refl, refl) also (refl, refl, refl, refl, refl, refl, refl, refl)
     also refl also refl also refl also refl also refl also refl also refl also refl also refl also (sample-verdicts .0, refl) also sample-verdicts .1

@@ -1,13 +1,13 @@
 -- The 32A of an accepted message: it is there, its amount is whole, and its date is a day of the calendar (K3, Camount, Cdate). Assumes nothing.
-use Prim.Native.Nat.{ℕ, zero, suc, _+_, _-_, _≤_, _<_}
+use Prim.Native.Nat.{ℕ, zero, suc, _+_, _≤_, _<_}
 use mathlib.Core.Path.{_≡_, refl, sym, ap, ap₂, _∙_, subst}
 use mathlib.Core.Bool.{Bool, true, false, _||_, false≢true}
 use mathlib.Core.List.{List, [], _∷_}
 use native.Mathlib.Omega.{arith}
 use native.Mathlib.Decide.{decLt}
-use lib.Dec.{eqb, leb}
-use lib.ListN.{length, drop, length-drop}
-use borrow.Author.Tests.{eq-eqb, eqb-true, eqb-false, leb-true, le-leb}
+use lib.Dec.{eqb}
+use lib.ListN.{length, drop, length-append}
+use borrow.Author.Tests.{eqb-true, eqb-false, le-leb}
 use Rattle.base.specs.Choice.{pick, all}
 use Rattle.base.specs.Bytes.{same, empty}
 use Rattle.base.specs.Quoted.{bytes}
@@ -26,13 +26,13 @@ use Rattle.types.specs.Sign.{signOf}
 use Rattle.types.proofs.TableLaws.{no-form}
 use Rattle.types.proofs.WalkLaws.{placeAt, Seated, Accepted, seated, walked-accepted}
 use Rattle.types.proofs.WordLaws.{Present}
-use Rattle.formats.specs.Format.{member, run, counted, fits, formatAt}
-use Rattle.machine.specs.Machine.{cell, nextAt, isAs, holds, tookOf, tookFrom, took, rowsOf}
-use Rattle.machine.specs.Machine as machine
-use Rattle.forms.specs.Formats.{formats}
-use Rattle.forms.specs.States.{rows, at32A, done}
-use Rattle.forms.specs.Contents.{starts103, starts202, stateIn, stateOf, rightField}
-use Rattle.forms.proofs.StartLaws.{state-103, state-202}
+use Rattle.contents.specs.declared.Content.{Content}
+use Rattle.contents.specs.declared.Content.the-variants as holds
+use Rattle.contents.specs.Fields.{IsPayment, One, Right}
+use Rattle.contents.specs.Tags.{tags103, tags202, heldIn, heldBy}
+use Rattle.contents.specs.Rule8.{rightField}
+use Rattle.contents.proofs.RuleLaws.{field-says}
+use Rattle.contents.proofs.TagLaws.{held-103, held-202}
 use Rattle.values.specs.Values.{valuesOf, valuesIn, part}
 use Rattle.values.specs.Judged.{firstBad, noDay}
 use Rattle.values.specs.Answers.{dayAt, dateOf, kopecksOf, faultOf, answered}
@@ -70,65 +70,6 @@ must-present ps next (f ∷ fs) i a l h o =
     go s (no b) (yes c) r = further (r (omega arith))
     go s (no b) (no c) r = let z : q ≡ i = omega arith in record { number = 0; within = omega arith; place = z }
 
--- ---- a run of a class is no longer than the text
-run-short : (c n : ℕ) (s : List ℕ) → run c n s ≤ length s
-unfolding run
-run-short c zero s = omega arith
-run-short c (suc n) [] = omega arith
-run-short c (suc n) (b ∷ s) = go (member c b) (run-short c n s)
-  where
-    go : (q : Bool) → run c n s ≤ length s → pick q (suc (run c n s)) zero ≤ suc (length s)
-    go true h = omega arith
-    go false h = omega arith
-
--- ---- what 8 says of 32A: one line of 9 to 24 bytes
-nine-bytes : (l : List ℕ) → fits (formatAt formats 40) l ≡ true → 9 ≤ length l
-unfolding formats fits counted
-nine-bytes l e =
-    let a = leb-true 6 (run 132 6 l) (left (leb 6 (run 132 6 l)) _ e) in
-    let f = right (leb 6 (run 132 6 l)) _ e in
-    let b = leb-true 3 (run 133 3 (drop (run 132 6 l) l)) (left (leb 3 (run 133 3 (drop (run 132 6 l) l))) _ f) in
-    let c = run-short 132 6 l in
-    let d = run-short 133 3 (drop (run 132 6 l) l) in
-    let n = length-drop (run 132 6 l) l in
-    omega arith
-
--- a line that a state takes at whose row any line may begin: it is no wider than the row says, and has its format
-module _ (f m : List ℕ) (q : ℕ) (l : List ℕ) (n : ℕ) (z : rowsOf m - q ≡ suc n) (c : cell m q 0 ≡ 0) where
-  took-zero : holds f m q l ≡ false → took f m q l ≡ 0
-  unfolding tookOf isAs
-  took-zero h =
-      ap (pick (empty l) 0) (ap (λ (k : ℕ). tookOf f m k q l) z ∙ rw (h, eq-eqb (cell m q 0) 0 c)) ∙ go (empty l)
-    where
-      go : (b : Bool) → _≡_ {A = ℕ} (pick b 0 0) 0
-      go true = refl
-      go false = refl
-
-  row-holds : (ls : List (List ℕ)) → machine.right f m q (l ∷ ls) ≡ true → holds f m q l ≡ true
-  unfolding machine.right
-  row-holds ls r = go (holds f m q l) refl
-    where
-      go : (b : Bool) → holds f m q l ≡ b → b ≡ true
-      go true e = refl
-      go false e = absurd (false≢true (sym (ap (λ (w : ℕ). pick (eqb w 0) false (machine.right f m (nextAt m w) ls)) (took-zero e)) ∙ r))
-
-  -- and it takes that row
-  took-row : (ls : List (List ℕ)) → machine.right f m q (l ∷ ls) ≡ true → machine.right f m (nextAt m q) ls ≡ true
-  unfolding machine.right tookOf
-  took-row ls r =
-      go (empty l) refl r
-    where
-      is : tookFrom f m q l ≡ q
-      is = ap (λ (k : ℕ). tookOf f m k q l) z ∙ rw (row-holds ls r)
-
-      by : (b : Bool) → pick b false (machine.right f m (nextAt m q) ls) ≡ true → machine.right f m (nextAt m q) ls ≡ true
-      by true h = absurd (false≢true h)
-      by false h = h
-
-      go : (b : Bool) → empty l ≡ b → pick (eqb (pick b 0 (tookFrom f m q l)) 0) false (machine.right f m (nextAt m (pick b 0 (tookFrom f m q l))) ls) ≡ true → machine.right f m (nextAt m q) ls ≡ true
-      go true e h = absurd (false≢true h)
-      go false e h = by (eqb q 0) (ap (λ (w : ℕ). pick (eqb w 0) false (machine.right f m (nextAt m w) ls)) (sym is) ∙ h)
-
 -- ---- 32A: one line of 9 to 24 bytes
 pub record PaidLine (ls : List (List ℕ)) : Type 0 where
   pub line : List ℕ
@@ -136,17 +77,13 @@ pub record PaidLine (ls : List (List ℕ)) : Type 0 where
   pub long : 9 ≤ length line
   pub short : length line ≤ 24
 
-paid-line : (ls : List (List ℕ)) → machine.right formats rows at32A ls ≡ true → PaidLine ls
-unfolding rows cell machine.right holds isAs
-paid-line [] e = absurd (false≢true e)
-paid-line (l ∷ []) e =
-    let h = row-holds formats rows 6 l 52 refl refl [] e in
-    record { line = l; is = refl; long = nine-bytes l (right (leb (length l) 24) _ h); short = leb-true (length l) 24 (left (leb (length l) 24) _ h) }
-paid-line (l ∷ k ∷ ks) e = absurd (go k (took-row formats rows 6 l 52 refl refl (k ∷ ks) e))
-  where
-    go : (k : List ℕ) → machine.right formats rows done (k ∷ ks) ≡ true → ⊥
-    go [] h = false≢true h
-    go (x ∷ k) h = let w = leb-true (length (x ∷ k)) 0 (left (leb (length (x ∷ k)) 0) _ (row-holds formats rows 1 (x ∷ k) 57 refl refl ks h)) in omega arith
+paid-line : (ls : List (List ℕ)) → One IsPayment ls → PaidLine ls
+paid-line [] p = absurd p
+paid-line (l ∷ []) (date, currency, whole, decimals, p) =
+    let e = simp length-append at (ap length (p .line)) in
+    let a = simp length-append at (p .amount) in
+    record { line = l; is = refl; long = omega (arith, p .day .size, p .money .size); short = omega (arith, p .day .size, p .money .size) }
+paid-line (l ∷ k ∷ ks) p = absurd p
 
 -- ---- the field of a place: its content is right, and no date of it is wrong
 record Shown (m : List ℕ) (ps : List Place) (q o : ℕ) (fs : List Field) (kind : ℕ) (sign : Bool) : Type 0 where
@@ -243,7 +180,7 @@ not-nothing : (s t : ℕ) → Part s t ≡ Nothing → ⊥
 not-nothing s t e = let z : _≡_ {A = ℕ} 0 1 = cc in omega arith
 
 module _ (kind : ℕ) (m : List ℕ) (e : verdictOf kind m ≡ Fine) (q : ℕ) (s : Sits (placesOf kind) q) (z : q ≡ find (placesOf kind) (bytes "32A"))
-    (st : (sign : Bool) → stateOf kind sign (bytes "32A") ≡ at32A) where
+    (st : heldBy kind (bytes "32A") ≡ holds.Payment) where
   is-there : partAt (placesOf kind) q 5 (fields m) ≡ Nothing → ⊥
   is-there n =
       let t = taken kind m (frame-clean kind m e) in
@@ -259,10 +196,10 @@ module _ (kind : ℕ) (m : List ℕ) (e : verdictOf kind m ≡ Fine) (q : ℕ) (
   its-tag = same-is (the-field .tag) (bytes "32A") (s .alone (the-field .tag) (the-field .at-place))
 
   its-line : PaidLine (the-field .line ∷ the-field .more)
-  unfolding rightField
   its-line =
       let f = the-field in
-      paid-line (f .line ∷ f .more) (sym (ap (λ (k : ℕ). machine.right formats rows k (f .line ∷ f .more)) (ap (stateOf kind (signOf (fields m))) its-tag ∙ st (signOf (fields m)))) ∙ f .right-is)
+      paid-line (f .line ∷ f .more)
+      (subst (λ (c : Content). Right c (signOf (fields m)) (f .line ∷ f .more)) (ap (heldBy kind) its-tag ∙ st) (field-says kind (signOf (fields m)) (field (f .tag) (f .line ∷ f .more)) .0 (f .right-is)))
 
   its-content : paid kind m ≡ its-line .line
   unfolding paid contentOf spanOf
@@ -297,13 +234,13 @@ module _ (kind : ℕ) (m : List ℕ) (e : verdictOf kind m ≡ Fine) (q : ℕ) (
         calendar = day-iff (year (part 0 6 c)) (month (part 0 6 c)) (day (part 0 6 c)) .0 (sym (day-within c 0 w) ∙ its-day);
       }
 
-state-is : (sign : Bool) → stateIn (starts103 sign) (bytes "32A") ≡ at32A
-unfolding starts103 same
-state-is sign = refl
+paid-held-103 : heldIn tags103 (bytes "32A") ≡ holds.Payment
+unfolding tags103 same
+paid-held-103 = refl
 
-state-is-202 : (sign : Bool) → stateIn (starts202 sign) (bytes "32A") ≡ at32A
-unfolding starts202 same
-state-is-202 sign = refl
+paid-held-202 : heldIn tags202 (bytes "32A") ≡ holds.Payment
+unfolding tags202 same
+paid-held-202 = refl
 
 pub paid-whole : (kind : ℕ) (m : List ℕ) → verdictOf kind m ≡ Fine → PaidIn kind m
 unfolding rule18
@@ -312,9 +249,9 @@ paid-whole kind m e = go (eqb kind 103) (eqb kind 202) refl refl
     go : (a b : Bool) → eqb kind 103 ≡ a → eqb kind 202 ≡ b → PaidIn kind m
     go true b x y =
         let k = eqb-true kind 103 x in
-        paid-in kind m e 3 (subst (λ (n : ℕ). Sits (placesOf n) 3) (sym k) sits-103) (paid-103 ∙ ap (λ (n : ℕ). find (placesOf n) (bytes "32A")) (sym k)) (λ sign. state-103 kind sign (bytes "32A") k ∙ state-is sign)
+        paid-in kind m e 3 (subst (λ (n : ℕ). Sits (placesOf n) 3) (sym k) sits-103) (paid-103 ∙ ap (λ (n : ℕ). find (placesOf n) (bytes "32A")) (sym k)) (held-103 kind (bytes "32A") k ∙ paid-held-103)
     go false true x y =
         let k = eqb-true kind 202 y in
-        paid-in kind m e 2 (subst (λ (n : ℕ). Sits (placesOf n) 2) (sym k) sits-202) (paid-202 ∙ ap (λ (n : ℕ). find (placesOf n) (bytes "32A")) (sym k)) (λ sign. state-202 kind sign (bytes "32A") k ∙ state-is-202 sign)
+        paid-in kind m e 2 (subst (λ (n : ℕ). Sits (placesOf n) 2) (sym k) sits-202) (paid-202 ∙ ap (λ (n : ℕ). find (placesOf n) (bytes "32A")) (sym k)) (held-202 kind (bytes "32A") k ∙ paid-held-202)
     go false false x y =
         absurd (fine-broken 18 0 (sym (message-accepts kind m .0 e .0) ∙ ap (λ (ps : List Place). pick (empty ps) (Broken 18 0) Fine) (no-form kind (eqb-false kind 103 x) (eqb-false kind 202 y))))

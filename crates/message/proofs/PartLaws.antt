@@ -21,8 +21,8 @@ use Rattle.types.specs.Walk.{find}
 use Rattle.types.specs.Sign.{signOf}
 use Rattle.types.proofs.TableLaws.{no-form}
 use Rattle.frame.proofs.CallLaws.{taken}
-use Rattle.forms.specs.Contents.{rightField}
-use Rattle.forms.proofs.ContentLaws.{right-nonempty}
+use Rattle.contents.specs.Rule8.{rightField}
+use Rattle.contents.proofs.SizeLaws.{right-nonempty}
 use Rattle.listing.specs.declared.Span.{Span}
 use Rattle.listing.specs.declared.Span.the-variants.{Part, Nothing}
 use Rattle.listing.specs.Lists.{partAt}

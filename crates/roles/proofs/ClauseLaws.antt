@@ -8,55 +8,12 @@ use lib.Dec.{eqb}
 use lib.ListN.{length}
 use borrow.Author.Tests.{ne-eqb}
 use Rattle.base.specs.Choice.{pick}
-use Rattle.base.specs.Bytes.{byte, isIn, begins, same}
-use Rattle.base.specs.Quoted.{bytes}
-use Rattle.fields.specs.Shapes.{unpack}
-use Rattle.fields.proofs.PackLaws.{same-unpack}
+use Rattle.base.specs.Bytes.{byte, isIn, begins}
 use Rattle.alphabets.specs.Pieces.{pieceIn, signsFrom}
 use Rattle.values.specs.Values.{numbered, isTax}
-use Rattle.roles.specs.Role.{shape103, shape202}
 use Rattle.roles.specs.Speech.{named, taxPlaced}
 use Rattle.roles.specs.Rule14.{hidden, isInn, taxLike}
 use Rattle.roles.specs.Found.{muteIn, breaksIn}
-use Rattle.roles.specs.declared.Shape.{Shape}
-use Rattle.roles.specs.declared.Shape.the-variants.{Plain, Payer, Payee, Agent, Details, Note103, Note202}
-
--- ---- tags as numbers
-tag-is : (tag n : ℕ) (t : List ℕ) → unpack n ≡ t → eqb tag n ≡ same (unpack tag) t
-tag-is tag n t e = sym (same-unpack tag n) ∙ ap (same (unpack tag)) e
-
-pick-same : {A : Type 0} {q r : Bool} {b c : A} (a : A) → q ≡ r → b ≡ c → pick q a b ≡ pick r a c
-pick-same {q = q} {c = c} a e f = ap (pick q a) f ∙ ap (λ (u : Bool). pick u a c) e
-
-abbrev pub by103 : ℕ → Shape
-by103 tag =
-    pick (eqb tag 3485771) Payer
-    (pick (eqb tag 3488000) Payee
-    (pick (eqb tag 3487300) Agent
-    (pick (eqb tag 3487556) Agent
-    (pick (eqb tag 3616768) Details
-    (pick (eqb tag 3617280) Note103 Plain)))))
-
-abbrev pub by202 : ℕ → Shape
-by202 tag = pick (eqb tag 3487812) Payee (pick (eqb tag 3487300) Agent (pick (eqb tag 3487556) Agent (pick (eqb tag 3617280) Note202 Plain)))
-
-pub shape-103 : (tag : ℕ) → by103 tag ≡ shape103 (unpack tag)
-unfolding shape103
-shape-103 tag =
-    pick-same Payer (tag-is tag 3485771 (bytes "50K") refl)
-    (pick-same Payee (tag-is tag 3488000 (bytes "59") refl)
-    (pick-same Agent (tag-is tag 3487300 (bytes "56D") refl)
-    (pick-same Agent (tag-is tag 3487556 (bytes "57D") refl)
-    (pick-same Details (tag-is tag 3616768 (bytes "70") refl)
-    (pick-same Note103 (tag-is tag 3617280 (bytes "72") refl) refl)))))
-
-pub shape-202 : (tag : ℕ) → by202 tag ≡ shape202 (unpack tag)
-unfolding shape202
-shape-202 tag =
-    pick-same Payee (tag-is tag 3487812 (bytes "58D") refl)
-    (pick-same Agent (tag-is tag 3487300 (bytes "56D") refl)
-    (pick-same Agent (tag-is tag 3487556 (bytes "57D") refl)
-    (pick-same Note202 (tag-is tag 3617280 (bytes "72") refl) refl)))
 
 -- ---- the clauses one after another
 pub named-is : (t b : List ℕ) → pick (muteIn (pieceIn t false b)) true (pick (begins 39 b) (isIn (byte (signsFrom t 4 false b 0) 0) (47 ∷ 58 ∷ 45 ∷ [])) false) ≡ breaksIn t named b
@@ -96,9 +53,3 @@ starts-some x (y ∷ l) h = refl
 pub in-last : (x : ℕ) → (x ≡ 47 → ⊥) → (x ≡ 58 → ⊥) → eqb x 45 ≡ isIn x (47 ∷ 58 ∷ 45 ∷ [])
 unfolding isIn
 in-last x a b = sym (ap₂ (λ (p q : Bool). p || (q || (eqb x 45 || false))) (ne-eqb x 47 a) (ne-eqb x 58 b) ∙ or-false (eqb x 45))
-
-pub to-103 : {r : Shape} (tag : ℕ) → r ≡ by103 tag → r ≡ shape103 (unpack tag)
-to-103 tag e = e ∙ shape-103 tag
-
-pub to-202 : {r : Shape} (tag : ℕ) → r ≡ by202 tag → r ≡ shape202 (unpack tag)
-to-202 tag e = e ∙ shape-202 tag

@@ -19,7 +19,7 @@ use Rattle.alphabets.proofs.PieceLaws.{reads-partly, piece-codes, signs-said}
 use Rattle.fields.specs.Field.{Field, field}
 use Rattle.fields.specs.Places.{sizeOf, startOf, nextOf}
 use Rattle.fields.specs.ByLines.{joined}
-use Rattle.machine.proofs.LineLaws.{lines-joined}
+use Rattle.fields.proofs.ContentLaws.{lines-joined}
 use Rattle.values.proofs.ValueLaws.{joined-length}
 use Rattle.values.specs.Values.{numbered, isTax, isRpp}
 use Rattle.roles.specs.Role.{Part, copy, name, taxName, lineOf, shapeOf, cast}

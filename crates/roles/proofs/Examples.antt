@@ -4,13 +4,14 @@ use Rattle.base.specs.Bytes.{isIn, digit, capital, letter, marks, shared, xset,
 use Rattle.alphabets.specs.Grid.{grid, sign}
 use Rattle.alphabets.specs.Bank.{reads}
 use Rattle.values.specs.Values.{isTax}
-use Rattle.roles.specs.Role.{shape103, shape202, shapeOf, cast}
+use Rattle.contents.specs.Tags.{tags103, tags202, heldBy}
+use Rattle.roles.specs.Role.{shapeOf, cast}
 use Rattle.roles.specs.Speech.{names, behind, details, noted, speeches}
 use Rattle.types.specs.Sign.{signOf}
 use Rattle.roles.specs.Rule14.{hidden, isInn, taxLike, breaks, unheard, spoken, rule14}
 use Rattle.roles.specs.Cases.{cases, AllHold}
 
 pub worked : AllHold cases
-unfolding cases isIn digit capital letter marks shared xset same grid sign reads shape103 shape202 shapeOf isTax cast names behind details noted speeches hidden isInn taxLike breaks unheard spoken signOf rule14
+unfolding cases isIn digit capital letter marks shared xset same grid sign reads tags103 tags202 shapeOf heldBy isTax cast names behind details noted speeches hidden isInn taxLike breaks unheard spoken signOf rule14
 worked =
     (refl, (refl, (refl, (refl, (refl, (refl, (refl, (refl, (refl, (refl, (refl, (refl, (refl, (refl, (refl, (refl, (refl, (refl, (refl, (refl, (refl, (refl, (refl, (refl, (refl, (refl, (refl, (refl, (refl, (refl, (refl, (refl, (refl, (refl, (refl, (refl, (refl, (refl, (refl, (refl, (refl, (refl, (refl, (refl, (refl, (refl, (refl, (refl, (refl, (refl, (refl, (refl, (refl, (refl, (refl, (refl, (refl, (refl, (refl, tt)))))))))))))))))))))))))))))))))))))))))))))))))))))))))))

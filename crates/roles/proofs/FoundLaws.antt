@@ -15,7 +15,7 @@ use Rattle.alphabets.specs.Pieces.{pieceIn, pieceOn, pieceAfter}
 use Rattle.alphabets.specs.declared.pieces.Piece.{Piece}
 use Rattle.alphabets.specs.declared.pieces.Piece.the-variants.{Read, Stops}
 use Rattle.alphabets.proofs.PieceLaws.{piece-append}
-use Rattle.machine.specs.Lines.{split, linesIn}
+use Rattle.fields.specs.Lines.{split, linesIn}
 use Rattle.values.specs.Values.{isTax, isRpp}
 use Rattle.roles.specs.Role.{copy, name, taxName, shapeOf, taxed, cast}
 use Rattle.roles.specs.Speech.{named, taxPlaced, names, behind, toldAt, details, noted, speeches}

@@ -10,9 +10,9 @@ use lib.Seq.{drop-drop, length-take-le, take-nil}
 use borrow.Author.Tests.{lt-ltb, le-ltb}
 use Rattle.base.specs.Bytes.{upTo}
 use Rattle.base.specs.Choice.{pick}
-use Rattle.machine.specs.Lines.{split, linesIn}
+use Rattle.fields.specs.Lines.{split, linesIn}
 use Rattle.base.proofs.MarkLaws.{up-within, up-end}
-use Rattle.machine.proofs.LineLaws.{lines-last, lines-more}
+use Rattle.fields.proofs.ContentLaws.{lines-last, lines-more}
 use Rattle.roles.specs.Found.{linesPast}
 
 -- ---- the lines behind the one that ends at e

@@ -11,7 +11,7 @@ use Rattle.base.specs.declared.Verdict.the-variants.{Fine, Broken}
 use Rattle.alphabets.specs.Pieces.{pieceIn, signsFrom}
 use Rattle.alphabets.specs.declared.pieces.Piece.{Piece}
 use Rattle.alphabets.specs.declared.pieces.Piece.the-variants.{Read, Stops}
-use Rattle.machine.specs.Lines.{linesIn}
+use Rattle.fields.specs.Lines.{linesIn}
 use Rattle.values.specs.Values.{isTax}
 use Rattle.roles.specs.Role.{Part, name, shapeOf, taxed}
 use Rattle.roles.specs.Speech.{Manner, named, taxPlaced, Speech, speech, behind, speeches}

@@ -2,33 +2,38 @@
 -- S6, S7). Assumes nothing.
 use Prim.Native.Nat.{ℕ}
 use mathlib.Core.List.{List, [], _∷_, map}
-use lib.Dec.{eqb}
 use Rattle.base.specs.Choice.{pick}
-use Rattle.base.specs.Bytes.{begins, same}
-use Rattle.base.specs.Quoted.{bytes}
+use Rattle.base.specs.Bytes.{begins}
+use Rattle.contents.specs.declared.Content.{Content}
+use Rattle.contents.specs.declared.Content.the-variants as holds
+use Rattle.contents.specs.Tags.{heldBy}
 use Rattle.values.specs.Values.{isTax}
 use Rattle.roles.specs.declared.Shape.{Shape}
 use Rattle.roles.specs.declared.Shape.the-variants.{Plain, Payer, Payee, Agent, Details, Note103, Note202}
 
--- ---- what a tag's lines are, by the type
-unfoldable pub shape103 : List ℕ → Shape
-shape103 t =
-    pick (same t (bytes "50K")) Payer
-    (pick (same t (bytes "59")) Payee
-    (pick (same t (bytes "56D")) Agent
-    (pick (same t (bytes "57D")) Agent
-    (pick (same t (bytes "70")) Details
-    (pick (same t (bytes "72")) Note103 Plain)))))
-
-unfoldable pub shape202 : List ℕ → Shape
-shape202 t =
-    pick (same t (bytes "58D")) Payee
-    (pick (same t (bytes "56D")) Agent
-    (pick (same t (bytes "57D")) Agent
-    (pick (same t (bytes "72")) Note202 Plain)))
+-- ---- what a field's lines are, by what it holds
+abbrev pub shapeFor : Content → Shape
+shapeFor holds.Unknown = Plain
+shapeFor holds.Reference = Plain
+shapeFor holds.Related = Plain
+shapeFor holds.Operation = Plain
+shapeFor holds.Purpose = Plain
+shapeFor holds.Payment = Plain
+shapeFor holds.Payer = Payer
+shapeFor holds.BankByBic = Plain
+shapeFor holds.BankByName = Agent
+shapeFor holds.OwnAccount = Plain
+shapeFor holds.AccountAndBic = Plain
+shapeFor holds.BeneficiaryBank = Payee
+shapeFor holds.Beneficiary = Payee
+shapeFor holds.Details = Details
+shapeFor holds.Charges = Plain
+shapeFor holds.Document = Note103
+shapeFor holds.DocumentAndDetails = Note202
+shapeFor holds.Regulatory = Plain
 
 unfoldable pub shapeOf : ℕ → List ℕ → Shape
-shapeOf kind t = pick (eqb kind 103) (shape103 t) (pick (eqb kind 202) (shape202 t) Plain)
+shapeOf kind t = shapeFor (heldBy kind t)
 
 -- ---- the lines cast
 -- a line that is copied, a name, a name in the tax place

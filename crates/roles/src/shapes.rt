@@ -1,59 +1,38 @@
 // What the lines of a field are, by the type and the packed tag.
 ghost use mathlib.Core.Path.{_≡_};
 ghost use Rattle.fields.specs.Shapes.{unpack};
-ghost use Rattle.roles.specs.Role.{shape103, shape202, shapeOf};
+ghost use Rattle.roles.specs.Role.{shapeFor, shapeOf};
 use super::Shape;
+use contents::Content;
+use contents::tags::held_by;
 
-fn shape_103(tag: u32) -> Shape
-    ensures { λ r. ⌜ r ≡ shape103 (unpack tag) ⌝ }
+fn shape_for(content: Content) -> Shape
+    ensures { λ r. ⌜ r ≡ shapeFor content ⌝ }
 {
-    if tag == 3485771 {
-        return Shape::Payer;
+    match content {
+        Content::Unknown => Shape::Plain,
+        Content::Reference => Shape::Plain,
+        Content::Related => Shape::Plain,
+        Content::Operation => Shape::Plain,
+        Content::Purpose => Shape::Plain,
+        Content::Payment => Shape::Plain,
+        Content::Payer => Shape::Payer,
+        Content::BankByBic => Shape::Plain,
+        Content::BankByName => Shape::Agent,
+        Content::OwnAccount => Shape::Plain,
+        Content::AccountAndBic => Shape::Plain,
+        Content::BeneficiaryBank => Shape::Payee,
+        Content::Beneficiary => Shape::Payee,
+        Content::Details => Shape::Details,
+        Content::Charges => Shape::Plain,
+        Content::Document => Shape::Note103,
+        Content::DocumentAndDetails => Shape::Note202,
+        Content::Regulatory => Shape::Plain,
     }
-    if tag == 3488000 {
-        return Shape::Payee;
-    }
-    if tag == 3487300 {
-        return Shape::Agent;
-    }
-    if tag == 3487556 {
-        return Shape::Agent;
-    }
-    if tag == 3616768 {
-        return Shape::Details;
-    }
-    if tag == 3617280 {
-        return Shape::Note103;
-    }
-    Shape::Plain
-}
-
-fn shape_202(tag: u32) -> Shape
-    ensures { λ r. ⌜ r ≡ shape202 (unpack tag) ⌝ }
-{
-    if tag == 3487812 {
-        return Shape::Payee;
-    }
-    if tag == 3487300 {
-        return Shape::Agent;
-    }
-    if tag == 3487556 {
-        return Shape::Agent;
-    }
-    if tag == 3617280 {
-        return Shape::Note202;
-    }
-    Shape::Plain
 }
 
 pub fn shape_of(kind: u32, tag: u32) -> Shape
     ensures { λ r. ⌜ r ≡ shapeOf kind (unpack tag) ⌝ }
 {
-    if kind == 103 {
-        return shape_103(tag);
-    }
-    if kind == 202 {
-        return shape_202(tag);
-    }
-    Shape::Plain
+    shape_for(held_by(kind, tag))
 }

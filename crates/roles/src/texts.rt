@@ -7,7 +7,7 @@ ghost use lib.Dec.{eqb};
 ghost use Rattle.base.specs.Choice.{pick};
 ghost use Rattle.fields.specs.Shapes.{unpack};
 ghost use Rattle.alphabets.specs.Pieces.{pieceIn};
-ghost use Rattle.machine.specs.Lines.{linesIn};
+ghost use Rattle.fields.specs.Lines.{linesIn};
 ghost use Rattle.roles.specs.declared.Shape.the-variants.{Payer, Payee, Agent, Note202};
 ghost use Rattle.roles.specs.Speech.{names, details, speeches};
 ghost use Rattle.roles.specs.Found.{linesPast, castFrom, toldText, muteIn, found, brokenIn};
@@ -19,7 +19,7 @@ use super::shapes::shape_of;
 use alphabets::pieces::Piece;
 use alphabets::pieces::read_piece;
 use base::marks::mark_at;
-use machine::lines::next_line;
+use fields::lines::next_line;
 use values::parts::is_rpp;
 
 // The lines behind the one that ends at end are names, the first in the tax place or not.

@@ -21,7 +21,7 @@ use Rattle.types.specs.Walk.{rule18}
 use Rattle.frame.specs.declared.Frame.{Frame}
 use Rattle.frame.specs.Frame.{frameBy}
 use Rattle.frame.proofs.CallLaws.{taken}
-use Rattle.forms.proofs.ContentLaws.{firstOf}
+use Rattle.contents.proofs.RuleLaws.{firstOf}
 use Rattle.judge.specs.Message.{messageRules, verdictOf, judgedOf}
 use Rattle.judge.proofs.CallLaws.{sign-is}
 use Rattle.judge.proofs.PartLaws.{settled}

@@ -12,7 +12,7 @@ use Rattle.base.proofs.Room.{puts-on, puts-by}
 use Rattle.base.specs.Choice.{pick}
 use Rattle.base.specs.Bytes.{upTo}
 use Rattle.base.specs.Calls.{placed, Puts}
-use Rattle.machine.specs.Lines.{linesIn}
+use Rattle.fields.specs.Lines.{linesIn}
 use Rattle.values.specs.Values.{isRpp}
 use Rattle.roles.specs.Speech.{codeSize}
 use Rattle.roles.specs.Found.{linesPast}

@@ -26,8 +26,8 @@ use Rattle.fields.proofs.PackLaws.{packed-tag, unpack-pack}
 use Rattle.fields.proofs.PlaceLaws.{field-bytes, laid-joined}
 use Rattle.types.specs.Walk.{rule18}
 use Rattle.types.proofs.TableLaws.{rule18-iff}
-use Rattle.machine.specs.Lines.{linesIn}
-use Rattle.machine.proofs.LineLaws.{lines-joined}
+use Rattle.fields.specs.Lines.{linesIn}
+use Rattle.fields.proofs.ContentLaws.{lines-joined}
 use Rattle.values.proofs.ValueLaws.{joined-length}
 use Rattle.roles.specs.Role.{shapeOf}
 use Rattle.roles.specs.declared.Shape as roles

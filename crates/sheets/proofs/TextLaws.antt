@@ -14,7 +14,7 @@ use Rattle.alphabets.specs.Parts.{spoken, unlessStops, pieceText}
 use Rattle.alphabets.specs.declared.pieces.Piece.{Piece}
 use Rattle.alphabets.specs.declared.pieces.Piece.the-variants.{Read, Stops}
 use Rattle.alphabets.proofs.SpokenLaws.{counted, text-stops}
-use Rattle.machine.specs.Lines.{linesIn}
+use Rattle.fields.specs.Lines.{linesIn}
 use Rattle.base.proofs.MarkLaws.{up-rest}
 use Rattle.base.proofs.Room.{puts-put, puts-on, puts-by, Leads, leads-on, leads-last}
 use Rattle.roles.specs.Parts.{named, nextRole}

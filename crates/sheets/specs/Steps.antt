@@ -16,7 +16,7 @@ use Rattle.alphabets.specs.declared.pieces.Piece.the-variants.{Read, Stops}
 use Rattle.fields.specs.Field.{Field, field, fields}
 use Rattle.fields.specs.Frame.{limit}
 use Rattle.fields.specs.Shapes.{unpack, packed}
-use Rattle.machine.specs.Lines.{linesIn}
+use Rattle.fields.specs.Lines.{linesIn}
 use Rattle.values.specs.Values.{isRpp}
 use Rattle.roles.specs.Role.{shapeOf}
 use Rattle.roles.specs.Parts.{named, nextRole}

@@ -11,7 +11,7 @@ ghost use Rattle.judge.specs.Parts.{Settled};
 ghost use Rattle.records.specs.Record.{line};
 ghost use Rattle.sheets.specs.Gather.{typeRecord, sheetOf};
 ghost use Rattle.sheets.specs.Steps.{tagEnd, fieldIn, Part, recordLine, sheetBy, Sound};
-use super::contents::put_content;
+use super::parts::put_content;
 use alphabets::pieces::back_table;
 use base::bytes::put;
 use fields::line_tag;

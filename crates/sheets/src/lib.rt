@@ -1,5 +1,5 @@
 // A message read into its sheet.
 mod built;
 pub mod calls;
-mod contents;
+mod parts;
 mod texts;

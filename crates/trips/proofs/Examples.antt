@@ -22,17 +22,15 @@ use Rattle.types.specs.Form.{form103, form202, forms, placesOf}
 use Rattle.types.specs.Walk.{find, wrong, walk, rule18, walked}
 use Rattle.types.specs.Sign.{signOf}
 use Rattle.judge.specs.Message.{messageRules, verdictOf}
-use Rattle.formats.specs.Format.{sign, member, run, counted, apart, notPlus, wayFirst, purpose, meets, fits}
-use Rattle.machine.specs.Machine.{cell, isAs, holds, tookOf, right, lives, behind, widest}
-use Rattle.forms.specs.Formats.{formats}
-use Rattle.forms.specs.States.{rows}
-use Rattle.forms.specs.FieldRules.{firstWrong}
-use Rattle.forms.specs.Contents.{starts103, starts202, stateOf, rightField, rule8}
+use Rattle.contents.specs.Words.{capitalOrDigit}
+use Rattle.contents.specs.Tests as tests
+use Rattle.contents.specs.Rule8.{firstWrong, rightField, rule8}
 use Rattle.values.specs.Number.{onward}
 use Rattle.values.specs.Day.{leap, daysIn, isDay, yearOf, realDay, dated}
 use Rattle.values.specs.Values.{behindDigits, payment, pointIn, datesBehind, rpp, bothParts, parties, taxPlace, isTax, withKpp, taxes, valuesOf}
 use Rattle.values.specs.Judged.{firstBad, rule9, rule10, rule11, rule12, rule13}
-use Rattle.roles.specs.Role.{shape103, shape202, shapeOf, cast}
+use Rattle.contents.specs.Tags.{tags103, tags202, heldBy}
+use Rattle.roles.specs.Role.{shapeOf, cast}
 use Rattle.roles.specs.Speech.{Manner, speech, named, taxPlaced, told, names, details, noted, speeches}
 use Rattle.roles.specs.Speech as speeches-of
 use Rattle.roles.specs.Sentences.{Heard}
@@ -106,16 +104,16 @@ there-and-back kind m s n e h (r, t, w) v =
 
 -- ---- the trips with short texts
 all-fine : (verdictOf 103 (bytes sample) ≡ Fine) × (verdictOf 202 (bytes plain202) ≡ Fine) × (verdictOf 103 (bytes otherwise103) ≡ Fine) × (verdictOf 103 (bytes best103) ≡ Fine)
-unfolding verdictOf rule18 form103 form202 forms placesOf long rule1 framed body same rule2 scan xset isIn digit capital letter marks shared rule3 cut tagged lineBad badLine rule4 upto past grouped fields find wrong walk walked signOf sign member run counted apart notPlus wayFirst purpose meets fits cell isAs holds tookOf right lives behind widest formats rows firstWrong starts103 starts202 stateOf rightField rule8 onward leap daysIn isDay yearOf realDay dated behindDigits payment pointIn datesBehind rpp bothParts parties taxPlace isTax withKpp taxes valuesOf firstBad rule9 rule10 rule11 rule12 rule13 spoken speeches names details noted speeches-of.behind shapeOf shape103 shape202 cast hidden isInn taxLike breaks unheard rule14 grid signs.sign reads
+unfolding verdictOf rule18 form103 form202 forms placesOf long rule1 framed body same rule2 scan xset isIn digit capital letter marks shared rule3 cut tagged lineBad badLine rule4 upto past grouped fields find wrong walk walked signOf firstWrong rightField rule8 onward leap daysIn isDay yearOf realDay dated behindDigits payment pointIn datesBehind rpp bothParts parties taxPlace isTax withKpp taxes valuesOf firstBad rule9 rule10 rule11 rule12 rule13 spoken speeches names details noted speeches-of.behind shapeOf heldBy tags103 tags202 cast hidden isInn taxLike breaks unheard rule14 grid signs.sign reads capitalOrDigit tests.lead tests.ends tests.pair tests.isReference tests.isPurpose tests.isPayment tests.isOwnAccount tests.isPartyByBik tests.isParty tests.isBic tests.isAccount tests.isTax tests.looksTax tests.isRpp tests.details tests.right
 all-fine = (refl, refl, refl, refl)
 
 all-read : (sheetOf 103 (bytes sample) ≡ desk sheet103) × (sheetOf 202 (bytes plain202) ≡ desk plainSheet) × (sheetOf 103 (bytes otherwise103) ≡ desk otherwiseSheet)
-unfolding sheetOf recordsOf gather contentParts body cut upto past grouped fields signOf shapeOf shape103 shape202 cast isTax same isIn digit speeches-of.behind plainly xset reads signs.sign grid marks capital letter shared
+unfolding sheetOf recordsOf gather contentParts body cut upto past grouped fields signOf shapeOf heldBy tags103 tags202 cast isTax same isIn digit speeches-of.behind plainly xset reads signs.sign grid marks capital letter shared
 all-read = (refl, refl, refl)
 
 all-written : Written 103 (desk sheet103) (bytes sample) × Written 202 (desk plainSheet) (bytes plain202) × Written 202 (desk signedSheet) (bytes signed202)
     × Written 103 (desk otherwiseSheet) (bytes best103)
-unfolding same shape103 shapeOf cast grid marks isIn digit capital letter shared long form103 form202 forms placesOf rule18 shaped signOf isTax isInn xset plainly kind latinNext best bad writes pieces recordOf records rest begun digits general untaxed sound badFrom judge sheetSign sheetType rule19 opens last broken breaking.breaks sizeFor unsaid rule15 crowded rule16 shape202 linesFor contentLines spread fieldsOf messageFor message
+unfolding same tags103 shapeOf heldBy cast grid marks isIn digit capital letter shared long form103 form202 forms placesOf rule18 shaped signOf isTax isInn xset plainly kind latinNext best bad writes pieces recordOf records rest begun digits general untaxed sound badFrom judge sheetSign sheetType rule19 opens last broken breaking.breaks sizeFor unsaid rule15 crowded rule16 tags202 linesFor contentLines spread fieldsOf messageFor message
 all-written = ((refl, refl, refl), (refl, refl, refl), (refl, refl, refl), (refl, refl, refl))
 
 short-by-one : short (desk sheet103) (replicate 166 0) ≡ Broken 17 167
@@ -129,11 +127,11 @@ unfolding best bad latinNext kind grid marks isIn digit capital letter shared
 signed-reads = (reads-best false (desk "СБЕРБАНК OOO") refl, reads-best false (desk "ПЕРЕВОД СРЕДСТВ ПО ДОГОВОРУ A") refl)
 
 signed-easy : Easy 202 (bytes signed202)
-unfolding rule18 form103 form202 forms placesOf long rule1 framed body same rule2 scan xset isIn digit capital letter marks shared rule3 cut tagged lineBad badLine rule4 upto past grouped fields find wrong walk walked signOf sign member run counted apart notPlus wayFirst purpose meets fits cell isAs holds tookOf right lives behind widest formats rows firstWrong starts103 starts202 stateOf rightField rule8 onward leap daysIn isDay yearOf realDay dated behindDigits payment pointIn datesBehind rpp bothParts parties taxPlace isTax withKpp taxes valuesOf firstBad rule9 rule10 rule11 rule12 rule13
+unfolding rule18 form103 form202 forms placesOf long rule1 framed body same rule2 scan xset isIn digit capital letter marks shared rule3 cut tagged lineBad badLine rule4 upto past grouped fields find wrong walk walked signOf firstWrong rightField rule8 onward leap daysIn isDay yearOf realDay dated behindDigits payment pointIn datesBehind rpp bothParts parties taxPlace isTax withKpp taxes valuesOf firstBad rule9 rule10 rule11 rule12 rule13 capitalOrDigit tests.lead tests.ends tests.pair tests.isReference tests.isPurpose tests.isPayment tests.isOwnAccount tests.isPartyByBik tests.isParty tests.isBic tests.isAccount tests.isTax tests.looksTax tests.isRpp tests.details tests.right tags103 tags202 heldBy
 signed-easy = (refl, refl, refl, refl, refl, refl, refl, refl, refl, refl, refl, refl)
 
 signed-texts : spoken 202 5 (fields (bytes signed202)) ≡ speech named 120 (bytes "SBERBANK 'OOO'") ∷ speech told 185 (bytes "PEREVOD SREDSTV PO DOGOVORU 'A'") ∷ []
-unfolding spoken speeches names details noted speeches-of.behind shapeOf shape103 shape202 cast isTax same digit body cut upto past grouped fields isIn
+unfolding spoken speeches names details noted speeches-of.behind shapeOf heldBy tags103 tags202 cast isTax same digit body cut upto past grouped fields isIn
 signed-texts = refl
 
 signed-14 : rule14 202 (fields (bytes signed202)) ≡ Fine
@@ -151,7 +149,7 @@ signed-with a b =
     ∷ field (bytes "72") (bytes "7.240301.5.ELEK.240301" ∷ bytes "10100" ∷ textOf b ∷ []) ∷ [])
 
 signed-sheet : sheetOf 202 (bytes signed202) ≡ desk signedSheet
-unfolding sheetOf recordsOf gather contentParts body cut upto past grouped fields signOf shapeOf shape103 shape202 cast isTax same isIn digit speeches-of.behind
+unfolding sheetOf recordsOf gather contentParts body cut upto past grouped fields signOf shapeOf heldBy tags103 tags202 cast isTax same isIn digit speeches-of.behind
 signed-sheet = ap₂ signed-with (signed-reads .0) (signed-reads .1)
 
 signed-fine : verdictOf 202 (bytes signed202) ≡ Fine
@@ -197,7 +195,7 @@ idle-fields = refl
 
 idle-texts : spoken 103 5 (fore ++ field (bytes "70") (dashed ∷ bytes "''--" ∷ []) ∷ aft)
     ≡ speech taxPlaced 61 (bytes "'NORD'") ∷ speech taxPlaced 126 (bytes "OOO PoTR") ∷ speech told 151 (replicate 23 45 ++ bytes "''--") ∷ []
-unfolding spoken speeches names details speeches-of.behind shapeOf shape103 cast isTax same digit
+unfolding spoken speeches names details speeches-of.behind shapeOf heldBy tags103 cast isTax same digit
 idle-texts = refl
 
 names-heard : (breaks taxPlaced (bytes "'NORD'") ≡ false) × (breaks taxPlaced (bytes "OOO PoTR") ≡ false)
@@ -210,7 +208,7 @@ idle-14 =
     (λ e. subst Heard (sym (ap (spoken 103 5) idle-fields ∙ idle-texts)) (names-heard .0, (names-heard .1, (heard-by told _ _ idle-reads refl, tt))))
 
 idle-easy : Easy 103 (bytes idle)
-unfolding rule18 form103 form202 forms placesOf long rule1 framed body same rule2 scan xset isIn digit capital letter marks shared rule3 cut tagged lineBad badLine rule4 upto past grouped fields find wrong walk walked signOf sign member run counted apart notPlus wayFirst purpose meets fits cell isAs holds tookOf right lives behind widest formats rows firstWrong starts103 starts202 stateOf rightField rule8 onward leap daysIn isDay yearOf realDay dated behindDigits payment pointIn datesBehind rpp bothParts parties taxPlace isTax withKpp taxes valuesOf firstBad rule9 rule10 rule11 rule12 rule13
+unfolding rule18 form103 form202 forms placesOf long rule1 framed body same rule2 scan xset isIn digit capital letter marks shared rule3 cut tagged lineBad badLine rule4 upto past grouped fields find wrong walk walked signOf firstWrong rightField rule8 onward leap daysIn isDay yearOf realDay dated behindDigits payment pointIn datesBehind rpp bothParts parties taxPlace isTax withKpp taxes valuesOf firstBad rule9 rule10 rule11 rule12 rule13 capitalOrDigit tests.lead tests.ends tests.pair tests.isReference tests.isPurpose tests.isPayment tests.isOwnAccount tests.isPartyByBik tests.isParty tests.isBic tests.isAccount tests.isTax tests.looksTax tests.isRpp tests.details tests.right tags103 tags202 heldBy
 idle-easy = (refl, refl, refl, refl, refl, refl, refl, refl, refl, refl, refl, refl)
 
 idle-fine : verdictOf 103 (bytes idle) ≡ Fine
@@ -238,7 +236,7 @@ sheet-of kind m fs s rs e h r =
     ∙ ap (λ (x : List Record). sheet (typeRecord kind ∷ x)) r
 
 is-details : shapeOf 103 (bytes "70") ≡ Details
-unfolding shapeOf shape103 same
+unfolding shapeOf heldBy tags103 same
 is-details = refl
 
 is-text : drop 11 dashed ++ speeches-of.behind 0 (bytes "''--" ∷ []) ≡ replicate 23 45 ++ bytes "''--"
@@ -262,7 +260,7 @@ idle-sheet =
     (gather-around 103 true fore (field (bytes "70") (dashed ∷ bytes "''--" ∷ [])) aft _ idle-record)
 
 idle-crowded : first (sheetRules (sheet (typeRecord 103 ∷ its-records))) ≡ Broken 16 0
-unfolding contentParts gather same shape103 shapeOf cast reads signs.sign grid marks isIn digit capital letter shared long form103 form202 forms placesOf rule18 shaped signOf isTax isInn xset plainly kind latinNext best bad writes pieces recordOf records rest begun digits general untaxed sound badFrom judge sheetSign sheetType rule19 opens last broken breaking.breaks sizeFor unsaid rule15 crowded rule16
+unfolding contentParts gather same tags103 shapeOf heldBy cast reads signs.sign grid marks isIn digit capital letter shared long form103 form202 forms placesOf rule18 shaped signOf isTax isInn xset plainly kind latinNext best bad writes pieces recordOf records rest begun digits general untaxed sound badFrom judge sheetSign sheetType rule19 opens last broken breaking.breaks sizeFor unsaid rule15 crowded rule16
 idle-crowded = refl
 
 pub stopped : AllHold stops

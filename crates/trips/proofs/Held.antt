@@ -11,7 +11,7 @@ use Rattle.base.specs.Calls.{said, textOf}
 use Rattle.alphabets.specs.Bank.{reading}
 use Rattle.fields.specs.Field.{Field, field, lined, laid}
 use Rattle.fields.specs.Shapes.{shaped}
-use Rattle.forms.specs.Contents.{rightField}
+use Rattle.contents.specs.Rule8.{rightField}
 use Rattle.values.specs.Values.{isTax}
 use Rattle.roles.specs.Role.{shapeOf, Part, copy, name, taxName}
 use Rattle.roles.specs.Speech.{speeches}

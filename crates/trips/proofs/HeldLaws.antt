@@ -15,8 +15,8 @@ use Rattle.fields.specs.Places.{startOf, nextOf}
 use Rattle.fields.specs.Shapes.{shaped, goesOn, proper}
 use Rattle.fields.proofs.FieldLaws.{fields-proper, fields-in}
 use Rattle.types.specs.Sign.{signOf}
-use Rattle.forms.specs.Contents.{rightField}
-use Rattle.forms.proofs.ContentLaws.{rule8-fine}
+use Rattle.contents.specs.Rule8.{rightField}
+use Rattle.contents.proofs.RuleLaws.{rule8-fine}
 use Rattle.roles.specs.Role.{shapeOf}
 use Rattle.roles.specs.Speech.{Speech, speech, speeches}
 use Rattle.roles.specs.Rule14.{texts, spoken}

@@ -1,96 +1,29 @@
--- The first lines that 9 and 12 look into, by their formats: an RPP line, and a party line. What such a line says is said by any content that
--- begins with it (Cparty, Crpp, C72, N8). Assumes nothing.
-use Prim.Native.Nat.{ℕ, zero, suc, _+_, _-_, _*_, _≤_, _<_}
-use mathlib.Core.Path.{_≡_, refl, sym, ap, ap₂, _∙_, subst}
-use mathlib.Core.Bool.{Bool, true, false, not, _&&_, and-false, false≢true, true≢false}
+-- The first lines that 9 and 12 look into: an RPP line, and a party line. What such a line says is said by any content that begins with it
+-- (Cparty, Crpp, C72, N8). Assumes nothing.
+use Prim.Native.Nat.{ℕ, suc, _+_, _≤_, _<_}
+use mathlib.Core.Path.{_≡_, refl, sym, ap, ap₂, _∙_}
+use mathlib.Core.Bool.{Bool, true, false, not, _&&_, and-false}
 use mathlib.Core.List.{List, [], _∷_, _++_, map, append-assoc, append-nil}
 use mathlib.Core.Logic.{_⊎_, inl, inr}
 use native.Mathlib.Omega.{arith}
 use native.Mathlib.Decide.{decLe}
 use lib.Dec.{eqb, leb}
-use lib.ListN.{length, take, drop, length-append, length-take, length-drop, List·getD-append, List·getD-eq-default, take-append-drop}
+use lib.ListN.{length, take, drop, length-append, length-drop, List·getD-append, List·getD-eq-default}
 use lib.Seq.{take-append-le, drop-append-le, drop-append-add, drop-at, getD-append-add}
-use borrow.Author.Tests.{leb-true, le-leb, lt-leb, ne-eqb}
-use Rattle.base.specs.Choice.{pick, all}
-use Rattle.base.specs.Bytes.{byte, begins, empty, other, without}
+use borrow.Author.Tests.{le-leb, lt-leb, ne-eqb}
+use Rattle.base.specs.Choice.{pick}
+use Rattle.base.specs.Bytes.{byte, digit, other, without}
 use Rattle.base.specs.Quoted.{bytes}
-use Rattle.base.proofs.Bools.{left, right, both, all-imp}
+use Rattle.base.proofs.Bools.{left, all-imp}
 use Rattle.base.proofs.ByteLaws.{digit-range}
 use Rattle.fields.specs.ByLines.{joined}
 use Rattle.fields.proofs.TagLaws.{upto-at}
-use Rattle.formats.specs.Words.{each}
-use Rattle.formats.specs.Format.{member, run, counted, meets, fits}
-use Rattle.forms.specs.Formats.{formats, partyBik, partyAccount, rppLine}
-use Rattle.forms.specs.States.{rows, agentD, rpp103, at72, at72Signed}
-use Rattle.machine.specs.Machine.{cell, isAs, holds, rowsOf, tookOf, tookFrom, right as goesRight}
-use Rattle.trips.proofs.StepLaws.{headed}
+use Rattle.contents.specs.Words.{Digits, Perhaps, join, behind}
+use Rattle.contents.specs.Lines.{opening, closing}
+use Rattle.contents.specs.Fields.{IsParty, IsRpp, One, BankByName, RppAndDetails}
+use Rattle.contents.proofs.Laws.{behind-some}
+use Rattle.contents.proofs.LineTests.{way-size}
 use Rattle.values.specs.Values.{Kind, date, party, at, kindOf, stands, starts, part, pointIn, dateAt, datesBehind, rpp, bothParts, parties}
-
--- ---- what a format's words take of a text
-record Ran (c a n : ℕ) (f s : List ℕ) : Type 0 where
-  front : List ℕ
-  rest : List ℕ
-  is : s ≡ front ++ rest
-  on : fits f rest ≡ true
-  members : all (member c) front ≡ true
-  least : a ≤ length front
-  most : length front ≤ n
-  size : length s ≡ length front + length rest
-
-run-members : (c n : ℕ) (s : List ℕ) → all (member c) (take (run c n s) s) ≡ true
-unfolding run
-run-members c zero s = refl
-run-members c (suc n) [] = refl
-run-members c (suc n) (x ∷ s) = go (member c x) refl (run-members c n s)
-  where
-    go : (b : Bool) → member c x ≡ b → all (member c) (take (run c n s) s) ≡ true → all (member c) (take (pick b (suc (run c n s)) zero) (x ∷ s)) ≡ true
-    go true e h = both e h
-    go false e h = refl
-
-run-within : (c n : ℕ) (s : List ℕ) → (run c n s ≤ n) × (run c n s ≤ length s)
-unfolding run
-run-within c zero s = (omega arith, omega arith)
-run-within c (suc n) [] = (omega arith, omega arith)
-run-within c (suc n) (x ∷ s) = go (member c x) (run-within c n s)
-  where
-    go : (b : Bool) → (run c n s ≤ n) × (run c n s ≤ length s) → (pick b (suc (run c n s)) zero ≤ suc n) × (pick b (suc (run c n s)) zero ≤ suc (length s))
-    go true h = let u = h .0 in let v = h .1 in (omega arith, omega arith)
-    go false h = (omega arith, omega arith)
-
-run-first : (c a n : ℕ) (f s : List ℕ) → (leb a (run c n s) && fits f (drop (run c n s) s)) ≡ true → Ran c a n f s
-run-first c a n f s e =
-    let u = run-within c n s .0 in
-    let v = run-within c n s .1 in
-    let w = leb-true a (run c n s) (left (leb a (run c n s)) _ e) in
-    let z = length-take (run c n s) s in
-    let y = length-drop (run c n s) s in
-    record {
-      front = take (run c n s) s;
-      rest = drop (run c n s) s;
-      is = sym (take-append-drop (run c n s) s);
-      on = right (leb a (run c n s)) _ e;
-      members = run-members c n s;
-      least = omega arith;
-      most = omega arith;
-      size = omega arith;
-    }
-
-digits-first : (a n : ℕ) (f s : List ℕ) → fits (132 ∷ a ∷ n ∷ f) s ≡ true → Ran 132 a n f s
-unfolding fits counted
-digits-first a n f s e = run-first 132 a n f s e
-
-capitals-first : (a n : ℕ) (f s : List ℕ) → fits (133 ∷ a ∷ n ∷ f) s ≡ true → Ran 133 a n f s
-unfolding fits counted
-capitals-first a n f s e = run-first 133 a n f s e
-
-such-first : (k : ℕ) (f s : List ℕ) → fits (131 ∷ k ∷ 0 ∷ f) s ≡ true → fits f s ≡ true
-unfolding fits
-such-first k f s e = right (meets k s) (fits f s) e
-
-perhaps-first : (f s : List ℕ) → fits (130 ∷ 0 ∷ 0 ∷ f) s ≡ true → (s ≡ []) ⊎ (fits f s ≡ true)
-unfolding fits
-perhaps-first f [] e = inl refl
-perhaps-first f (x ∷ s) e = inr e
 
 -- ---- an RPP line
 pub record Rpp (l : List ℕ) : Type 0 where
@@ -100,35 +33,27 @@ pub record Rpp (l : List ℕ) : Type 0 where
   pub pointless : without 46 number ≡ true
   pub long : (length more ≡ 13) ⊎ (20 ≤ length more)
 
-no-point : (x : ℕ) → member 132 x ≡ true → other 46 x ≡ true
-unfolding member
+no-point : (x : ℕ) → digit x ≡ true → other 46 x ≡ true
 no-point x e = let r = digit-range x e .0 in ap not (ne-eqb x 46 (λ q. omega arith))
 
-pub rpp-line : (l : List ℕ) → fits rppLine l ≡ true → Rpp l
-rpp-line l e =
-    let a = headed (bytes "/RPP/") (drop 15 rppLine) l refl e in
-    let b = digits-first 1 3 (drop 18 rppLine) (a .rest) (a .fit) in
-    let c = headed (bytes ".") (drop 21 rppLine) (b .rest) refl (b .on) in
-    let d = digits-first 6 6 (drop 24 rppLine) (c .rest) (c .fit) in
-    let g = headed (bytes ".") (drop 27 rppLine) (d .rest) refl (d .on) in
-    let h = digits-first 1 1 (drop 30 rppLine) (g .rest) (g .fit) in
-    let i = headed (bytes ".") (drop 33 rppLine) (h .rest) refl (h .on) in
-    let j = capitals-first 4 4 (drop 39 rppLine) (i .rest) (such-first 3 (drop 36 rppLine) (i .rest) (i .fit)) in
-    let n : length (c .rest) ≡ 13 + length (j .rest) = omega arith in
-    record {
-      number = b .front;
-      more = c .rest;
-      is = a .is ∙ ap (λ (x : List ℕ). bytes "/RPP/" ++ x) (b .is ∙ ap (λ (x : List ℕ). b .front ++ x) (c .is));
-      pointless = all-imp (member 132) (other 46) no-point (b .front) (b .members);
-      long = go (j .rest) (c .rest) n (perhaps-first (drop 42 rppLine) (j .rest) (j .on));
-    }
+pub rpp-line : (l : List ℕ) → IsRpp l → Rpp l
+rpp-line l (number, day, turn, way, value, t) = record {
+  number = number;
+  more = rest;
+  is = t .line;
+  pointless = all-imp digit (other 46) no-point number (t .serial .each);
+  long = go (t .due);
+}
   where
-    go : (r s : List ℕ) → length s ≡ 13 + length r → (r ≡ []) ⊎ (fits (drop 42 rppLine) r ≡ true) → (length s ≡ 13) ⊎ (20 ≤ length s)
-    go r s n (inl z) = let y = ap length z in inl (omega arith)
-    go r s n (inr e) =
-        let a = headed (bytes ".") (drop 45 rppLine) r refl e in
-        let b = digits-first 6 6 (drop 48 rppLine) (a .rest) (a .fit) in
-        inr (omega arith)
+    rest : List ℕ
+    rest = join (day ∷ bytes "." ∷ turn ∷ bytes "." ∷ way ∷ behind "." value ∷ [])
+
+    size : length rest ≡ 13 + length (behind "." value)
+    size = simp length-append (omega (arith, t .day .size, t .order .size, way-size way (t .kind)))
+
+    go : Perhaps (Digits 6) value → (length rest ≡ 13) ⊎ (20 ≤ length rest)
+    go (inl e) = inl (omega (arith, size, ap (λ (v : List ℕ). length (behind "." v)) e))
+    go (inr d) = inr (omega (arith, size, d .size, ap length (behind-some "." value (omega (arith, d .size)))))
 
 -- ---- a party line, as far as 12 looks
 pub data Party (l : List ℕ) : Type 0 where
@@ -136,34 +61,21 @@ pub data Party (l : List ℕ) : Type 0 where
   bik : length l ≡ 13 → Party l
   account : 2 ≤ length l → eqb (byte l 1) 47 ≡ false → Party l
 
-pub party-bik : (f l : List ℕ) → fits (partyBik ++ f) l ≡ true → Party l
-party-bik f l e =
-    let a = headed (bytes "//RU04") (drop 18 partyBik ++ f) l refl e in
-    let b = digits-first 7 7 (drop 21 partyBik ++ f) (a .rest) (a .fit) in
-    let n : length l ≡ 13 + length (b .rest) = omega arith in
-    go (b .rest) n (perhaps-first (drop 24 partyBik ++ f) (b .rest) (b .on))
-  where
-    go : (r : List ℕ) → length l ≡ 13 + length r → (r ≡ []) ⊎ (fits (drop 24 partyBik ++ f) r ≡ true) → Party l
-    go r n (inl z) = let y = ap length z in bik (omega arith)
-    go r n (inr e) =
-        let a = headed (bytes ".") (drop 27 partyBik ++ f) r refl e in
-        let b = digits-first 20 20 (drop 30 partyBik ++ f) (a .rest) (a .fit) in
-        whole (omega arith)
+no-slash : (d : List ℕ) → Digits 20 d → eqb (byte d 0) 47 ≡ false
+no-slash [] j = absurd (omega (arith, j .size))
+no-slash (x ∷ d) j = let r = digit-range x (left (digit x) _ (j .each)) .0 in ne-eqb x 47 (λ q. omega arith)
 
-no-slash : (x : ℕ) → member 132 x ≡ true → eqb x 47 ≡ false
-unfolding member
-no-slash x e = let r = digit-range x e .0 in ne-eqb x 47 (λ q. omega arith)
-
-pub party-account : (f l : List ℕ) → fits (partyAccount ++ f) l ≡ true → Party l
-party-account f l e =
-    let a = headed (bytes "/") (drop 3 partyAccount ++ f) l refl e in
-    let b = digits-first 20 20 (drop 6 partyAccount ++ f) (a .rest) (a .fit) in
-    let n : 2 ≤ length l = omega arith in
-    account n (go l (b .front) (b .rest) (a .is ∙ ap (λ (x : List ℕ). 47 ∷ x) (b .is)) (b .members) (b .least))
+pub party-line : (l : List ℕ) → IsParty l → Party l
+party-line l (inl (code, number, t)) = go (t .number)
   where
-    go : (l d r : List ℕ) → l ≡ 47 ∷ (d ++ r) → all (member 132) d ≡ true → 20 ≤ length d → eqb (byte l 1) 47 ≡ false
-    go l [] r i m h = absurd (omega arith)
-    go l (x ∷ d) r i m h = ap (λ (k : List ℕ). eqb (byte k 1) 47) i ∙ no-slash x (left (member 132 x) _ m)
+    size : length l ≡ 13 + length (behind "." number)
+    size = ap length (t .line) ∙ simp length-append (omega (arith, t .code .size))
+
+    go : Perhaps (Digits 20) number → Party l
+    go (inl e) = bik (omega (arith, size, ap (λ (v : List ℕ). length (behind "." v)) e))
+    go (inr d) = whole (omega (arith, size, d .size, ap length (behind-some "." number (omega (arith, d .size)))))
+party-line l (inr (number, t)) =
+    account (omega (arith, ap length (t .line), t .number .size)) (ap (λ (k : List ℕ). eqb (byte k 1) 47) (t .line) ∙ no-slash number (t .number))
 
 -- ---- contents that begin with a line
 abbrev after : List (List ℕ) → List ℕ
@@ -329,64 +241,21 @@ party-same l ks ls w = by ks ∙ sym (by ls)
     by : (ls : List (List ℕ)) → map kindOf (parties (joined (l ∷ ls))) ≡ map kindOf (parties l)
     by ls = ap (λ (c : List ℕ). map kindOf (parties c)) (first-of l ls) ∙ party-first l (after ls) (after-point ls) w
 
--- ---- the first line of a content that is right: it has the format of one of its state's rows
-module _ (l : List ℕ) (P : Type 0) where
-  -- each of n rows from q on gives P, up to the first behind which no line goes on
-  abbrev EachRow : ℕ → ℕ → Type 0
-  EachRow zero q = Unit {0}
-  EachRow (suc n) q = (isAs formats (cell rows q 1) l ≡ true → P) × pick (eqb (cell rows q 0) 0) (Unit {0}) (EachRow n (suc q))
+-- ---- the first line of a content that is right
+pub agent-party : (l : List ℕ) (ls : List (List ℕ)) → BankByName (l ∷ ls) → Party l
+agent-party l ls r = party-line l (r .0)
 
-  goes-on : (g : ℕ) → isAs formats g l ≡ false → eqb g 0 ≡ false
-  unfolding isAs
-  goes-on g e = go (eqb g 0) e
-    where
-      go : (b : Bool) → pick b true (fits (drop (3 * g) formats) l) ≡ false → b ≡ false
-      go true e = absurd (true≢false e)
-      go false e = refl
+pub note103-rpp : (l : List ℕ) (ls : List (List ℕ)) → One IsRpp (l ∷ ls) → Rpp l
+note103-rpp l [] r = rpp-line l r
+note103-rpp l (k ∷ ls) r = absurd r
 
-  some-row : (n q : ℕ) → eqb (tookOf formats rows n q l) 0 ≡ false → EachRow n q → P
-  unfolding tookOf holds
-  some-row zero q e h = absurd (true≢false e)
-  some-row (suc n) q e h = go (holds formats rows q l) (isAs formats (cell rows q 0) l) refl refl e (some-row n (suc q))
-    where
-      go : (a b : Bool) → holds formats rows q l ≡ a → isAs formats (cell rows q 0) l ≡ b → eqb (pick a q (pick b 0 (tookOf formats rows n (suc q) l))) 0 ≡ false
-          → (eqb (tookOf formats rows n (suc q) l) 0 ≡ false → EachRow n (suc q) → P) → P
-      go true b i j e r = h .0 (right (leb (length l) (cell rows q 2)) _ i)
-      go false true i j e r = absurd (true≢false e)
-      go false false i j e r = r e (subst (λ (z : Bool). pick z (Unit {0}) (EachRow n (suc q))) (goes-on (cell rows q 0) j) (h .1))
-
-  took-some : (q : ℕ) (ls : List (List ℕ)) → goesRight formats rows q (l ∷ ls) ≡ true → eqb (tookFrom formats rows q l) 0 ≡ false
-  unfolding goesRight
-  took-some q ls e = go (empty l) (tookFrom formats rows q l) e
-    where
-      go : (b : Bool) (k : ℕ) → pick (eqb (pick b 0 k) 0) false (goesRight formats rows (cell rows (pick b 0 k) 4) ls) ≡ true → eqb k 0 ≡ false
-      go true k e = absurd (false≢true e)
-      go false k e = by (eqb k 0) e
-        where
-          by : (z : Bool) → pick z false (goesRight formats rows (cell rows k 4) ls) ≡ true → z ≡ false
-          by true e = absurd (false≢true e)
-          by false e = refl
-
-  first-row : (q : ℕ) (ls : List (List ℕ)) → goesRight formats rows q (l ∷ ls) ≡ true → EachRow (rowsOf rows - q) q → P
-  first-row q ls e h = some-row (rowsOf rows - q) q (took-some q ls e) h
-
-pub agent-party : (l : List ℕ) (ls : List (List ℕ)) → goesRight formats rows agentD (l ∷ ls) ≡ true → Party l
-unfolding rows cell isAs formats
-agent-party l ls e = first-row l (Party l) agentD ls e (party-bik _ l, (party-account _ l, tt))
-
--- ---- 72: an RPP line, or details behind /NZP/
+-- 72: an RPP line, or details behind /NZP/
 pub data Note (l : List ℕ) : Type 0 where
   withRpp : Rpp l → Note l
   nzp : (r : List ℕ) → l ≡ 47 ∷ 78 ∷ r → Note l
 
-nzp-line : (f l : List ℕ) → fits (each (bytes "/N") ++ f) l ≡ true → Note l
-nzp-line f l e = let a = headed (bytes "/N") f l refl e in nzp (a .rest) (a .is)
-
-pub note103-rpp : (l : List ℕ) (ls : List (List ℕ)) → goesRight formats rows rpp103 (l ∷ ls) ≡ true → Rpp l
-unfolding rows cell isAs formats
-note103-rpp l ls e = first-row l (Rpp l) rpp103 ls e (rpp-line l, tt)
-
-pub note202-first : (s : Bool) (l : List ℕ) (ls : List (List ℕ)) → goesRight formats rows (pick s at72Signed at72) (l ∷ ls) ≡ true → Note l
-unfolding rows cell isAs formats
-note202-first true l ls e = first-row l (Note l) at72Signed ls e (λ h. withRpp (rpp-line l h), (nzp-line _ l, (nzp-line _ l, tt)))
-note202-first false l ls e = first-row l (Note l) at72 ls e (λ h. withRpp (rpp-line l h), (nzp-line _ l, (nzp-line _ l, tt)))
+pub note202-first : (s : Bool) (l : List ℕ) (ls : List (List ℕ)) → RppAndDetails s (l ∷ ls) → Note l
+note202-first s l ls (inl (code, t, ts, d)) =
+    let e = d .lines in
+    nzp (join (bytes "ZP/" ∷ opening s ∷ code ∷ closing s ∷ t ∷ [])) cc
+note202-first s l ls (inr r) = withRpp (rpp-line l (r .0))

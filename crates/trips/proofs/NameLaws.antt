@@ -16,7 +16,7 @@ use Rattle.alphabets.proofs.Theorems.{plain-iff, no-shorter}
 use Rattle.fields.specs.Field.{field, lined, laid}
 use Rattle.fields.specs.Shapes.{goesOn}
 use Rattle.types.specs.Sign.{firstLine}
-use Rattle.forms.proofs.ContentLaws.{right-nonempty}
+use Rattle.contents.proofs.SizeLaws.{right-nonempty}
 use Rattle.values.specs.Values.{starts, isTax}
 use Rattle.roles.specs.Role.{shapeOf, Part, copy, name, taxName, lineOf, taxed, cast}
 use Rattle.roles.specs.Speech.{names, speeches}

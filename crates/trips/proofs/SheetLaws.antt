@@ -29,7 +29,8 @@ use Rattle.fields.proofs.FieldLaws.{fields-shaped, message-fields}
 use Rattle.types.specs.Walk.{rule18}
 use Rattle.types.specs.Sign.{firstLine, signOf}
 use Rattle.types.proofs.TableLaws.{rule18-iff}
-use Rattle.roles.specs.Role.{shapeOf, shape103, shape202, copy, cast}
+use Rattle.contents.specs.Tags.{tags103, tags202, heldBy}
+use Rattle.roles.specs.Role.{shapeOf, copy, cast}
 use Rattle.roles.specs.declared.Shape.{Shape}
 use Rattle.roles.specs.declared.Shape.the-variants.{Plain, Details}
 use Rattle.judge.specs.Message.{messageRules, verdictOf}
@@ -72,7 +73,7 @@ record Typed (kind : ℕ) : Type 0 where
   says : (s : Bool) → speaking kind s (typeRecord kind) ≡ true
 
 is-typed : (kind : ℕ) → Known kind → Typed kind
-unfolding same digits digit shapeOf shape103 shape202 cast plainly xset letter capital shared
+unfolding same digits digit shapeOf heldBy tags103 tags202 cast plainly xset letter capital shared
 is-typed kind (inl e) = subst Typed (sym e) (record { names = refl; worth = refl; textual = refl; says = λ s. refl })
 is-typed kind (inr e) = subst Typed (sym e) (record { names = refl; worth = refl; textual = refl; says = λ s. refl })
 

@@ -18,11 +18,12 @@ use Rattle.alphabets.specs.Bank.{plainly, reading}
 use Rattle.alphabets.specs.Best.{writing}
 use Rattle.alphabets.proofs.Theorems.{plain-only, no-shorter}
 use Rattle.fields.specs.Field.{field, lined, laid}
-use Rattle.machine.specs.Machine.{right as goesRight}
-use Rattle.forms.specs.Formats.{formats}
-use Rattle.forms.specs.States.{rows}
-use Rattle.forms.specs.Contents.{rightField}
-use Rattle.roles.specs.Role.{shapeOf, cast}
+use Rattle.contents.specs.declared.Content.{Content}
+use Rattle.contents.specs.declared.Content.the-variants as holds
+use Rattle.contents.specs.Fields.{Right}
+use Rattle.contents.specs.Tags.{heldBy}
+use Rattle.contents.proofs.RuleLaws.{field-says}
+use Rattle.roles.specs.Role.{shapeFor, shapeOf, cast}
 use Rattle.roles.specs.Speech as speech
 use Rattle.roles.specs.Speech.{codeSize, speeches}
 use Rattle.roles.specs.Rule14.{breaks}
@@ -46,8 +47,7 @@ use Rattle.written.proofs.ReadyLaws.{speaks}
 use Rattle.written.proofs.CastLaws.{behind-code, code-size, unmarked}
 use Rattle.sheets.specs.Gather.{codeDigits, toldParts, noteParts, contentParts}
 use Rattle.trips.proofs.Held.{Held, Noted, Sheeted}
-use Rattle.trips.proofs.TakenLaws.{Told, told-lines, rpp-alone, Note, with-rpp, without, note-lines}
-use Rattle.trips.proofs.LinesLaws.{Began, details, note103, note202, began}
+use Rattle.trips.proofs.DetailLaws.{Told, told-lines, rpp-alone, Note, with-rpp, without, note-lines}
 use Rattle.trips.proofs.SaidLaws.{Says, says-plain, says-signed, says-written, plain-said, says-short, set-text, says-text, digits-set}
 
 -- ---- details: code and text over their lines
@@ -280,12 +280,12 @@ module _ (kind : ℕ) (s : Bool) (t : List ℕ) (ls : List (List ℕ)) (h : Held
       by [] z i x k w y = absurd (true≢false z)
       by (c ∷ r) {ks} z i x k w y = noted-by e (c ∷ r) ks w y i x k
 
-  -- by the state where its tag starts
-  begun-sheeted : {sh : Shape} {q : ℕ} → shapeOf kind t ≡ sh → Noted sh → Began s sh q → goesRight formats rows q ls ≡ true → Sheeted kind s t ls
-  begun-sheeted e n details r = sheeted-70 e (told-lines In70 s ls r (h .fair .on))
-  begun-sheeted e n note103 r = let w = rpp-alone ls r in sheeted-103 e (w .0) (w .1) (w .2)
-  begun-sheeted e n note202 r = sheeted-202 e (note-lines s ls r (h .fair .on))
+  -- by what the field holds
+  held-sheeted : (c : Content) → shapeOf kind t ≡ shapeFor c → Noted (shapeFor c) → Right c s ls → Sheeted kind s t ls
+  held-sheeted holds.Details e n r = sheeted-70 e (told-lines In70 s ls r (h .fair .on))
+  held-sheeted holds.Document e n r = let w = rpp-alone ls r in sheeted-103 e (w .0) (w .1) (w .2)
+  held-sheeted holds.DocumentAndDetails e n r = sheeted-202 e (note-lines s ls r (h .fair .on))
 
 pub sheeted-noted : (kind : ℕ) (s : Bool) (t : List ℕ) (ls : List (List ℕ)) → Noted (shapeOf kind t) → Held kind s t ls → Sheeted kind s t ls
-unfolding rightField
-sheeted-noted kind s t ls n h = begun-sheeted kind s t ls h refl n (began s kind t) (h .right)
+unfolding shapeOf
+sheeted-noted kind s t ls n h = held-sheeted kind s t ls h (heldBy kind t) refl n (field-says kind s (field t ls) .0 (h .right))

@@ -21,15 +21,15 @@ use Rattle.fields.specs.Places.{startOf, nextOf}
 use Rattle.fields.specs.ByLines.{joined}
 use Rattle.fields.proofs.LineLaws.{set-no-cr}
 use Rattle.types.specs.Sign.{firstLine}
-use Rattle.forms.specs.Formats.{formats}
-use Rattle.forms.specs.States.{rows, agentD, rpp103, at72, at72Signed}
-use Rattle.forms.specs.Contents.{starts103, starts202, stateOf, rightField}
-use Rattle.machine.specs.Machine.{right as goesRight}
+use Rattle.contents.specs.declared.Content.{Content}
+use Rattle.contents.specs.declared.Content.the-variants as holds
+use Rattle.contents.specs.Fields.{IsRpp, One, BankByName, RppAndDetails, Right}
+use Rattle.contents.specs.Tags.{Tag, tag as tagged, tags103, tags202, heldIn, tagsOf, heldBy}
+use Rattle.contents.proofs.RuleLaws.{field-says}
 use Rattle.values.specs.Values.{Kind, tag, tax, Value, at, placeOf, kindOf, moved, lineAt, taxPlace, isTax, rpp, parties, taxes, valuesOf, valuesIn}
 use Rattle.values.specs.Judged.{firstBad, has, noDay, foreign, apart, kppIn, is26T, is56, is57, is77B, without57, taxWhole, taxBroken, rule9, rule10, rule11, rule12, rule13}
 use Rattle.values.proofs.LineLaws.{tax-first, tax-second}
-use Rattle.values.proofs.ValueLaws.{picked}
-use Rattle.roles.specs.Role.{shape103, shape202, shapeOf, copy, name, taxName, taxed, cast}
+use Rattle.roles.specs.Role.{shapeFor, shapeOf, copy, name, taxName, taxed, cast}
 use Rattle.roles.specs.Speech.{codeSize}
 use Rattle.roles.specs.declared.Shape.{Shape}
 use Rattle.roles.specs.declared.Shape.the-variants.{Plain, Payer, Payee, Agent, Details, Note103, Note202}
@@ -50,35 +50,50 @@ pub data Seen (kind : ℕ) (t : List ℕ) : Shape → Type 0 where
   as-plain : Seen kind t Plain
   as-payer : t ≡ bytes "50K" → Seen kind t Payer
   as-payee : (t ≡ bytes "59") ⊎ (t ≡ bytes "58D") → Seen kind t Payee
-  as-agent : (kind ≡ 103) ⊎ (kind ≡ 202) → (t ≡ bytes "56D") ⊎ (t ≡ bytes "57D") → Seen kind t Agent
+  as-agent : heldBy kind t ≡ holds.BankByName → (t ≡ bytes "56D") ⊎ (t ≡ bytes "57D") → Seen kind t Agent
   as-details : kind ≡ 103 → t ≡ bytes "70" → Seen kind t Details
-  as-note103 : kind ≡ 103 → t ≡ bytes "72" → Seen kind t Note103
-  as-note202 : kind ≡ 202 → t ≡ bytes "72" → Seen kind t Note202
+  as-note103 : heldBy kind t ≡ holds.Document → t ≡ bytes "72" → Seen kind t Note103
+  as-note202 : heldBy kind t ≡ holds.DocumentAndDetails → t ≡ bytes "72" → Seen kind t Note202
+
+infixr 4 _also_
+abbrev _also_ : {A B : Type 0} → A → B → A × B
+a also b = (a, b)
 
 module _ (kind : ℕ) (t : List ℕ) where
-  seen-103 : kind ≡ 103 → Seen kind t (shape103 t)
-  unfolding shape103
-  seen-103 k =
-      picked (Seen kind t) (same t (bytes "50K")) (λ e. as-payer (same-is t (bytes "50K") e)) (λ a.
-      picked (Seen kind t) (same t (bytes "59")) (λ e. as-payee (inl (same-is t (bytes "59") e))) (λ b.
-      picked (Seen kind t) (same t (bytes "56D")) (λ e. as-agent (inl k) (inl (same-is t (bytes "56D") e))) (λ c.
-      picked (Seen kind t) (same t (bytes "57D")) (λ e. as-agent (inl k) (inr (same-is t (bytes "57D") e))) (λ d.
-      picked (Seen kind t) (same t (bytes "70")) (λ e. as-details k (same-is t (bytes "70") e)) (λ f.
-      picked (Seen kind t) (same t (bytes "72")) (λ e. as-note103 k (same-is t (bytes "72") e)) (λ g. as-plain))))))
+  abbrev AllSeen : List Tag → Type 0
+  AllSeen [] = Unit {0}
+  AllSeen (tagged u c ∷ ts) = (heldBy kind t ≡ c → t ≡ bytes u → Seen kind t (shapeFor c)) × AllSeen ts
 
-  seen-202 : kind ≡ 202 → Seen kind t (shape202 t)
-  unfolding shape202
-  seen-202 k =
-      picked (Seen kind t) (same t (bytes "58D")) (λ e. as-payee (inr (same-is t (bytes "58D") e))) (λ a.
-      picked (Seen kind t) (same t (bytes "56D")) (λ e. as-agent (inr k) (inl (same-is t (bytes "56D") e))) (λ b.
-      picked (Seen kind t) (same t (bytes "57D")) (λ e. as-agent (inr k) (inr (same-is t (bytes "57D") e))) (λ c.
-      picked (Seen kind t) (same t (bytes "72")) (λ e. as-note202 k (same-is t (bytes "72") e)) (λ d. as-plain))))
+  seen-103 : kind ≡ 103 → AllSeen tags103
+  unfolding tags103
+  seen-103 k =
+      (λ e i. as-plain) also (λ e i. as-plain) also (λ e i. as-plain) also (λ e i. as-plain) also (λ e i. as-payer i) also (λ e i. as-plain) also (λ e i. as-plain) also (λ e i. as-plain)
+      also (λ e i. as-agent e (inl i)) also (λ e i. as-plain) also (λ e i. as-agent e (inr i)) also (λ e i. as-payee (inl i)) also (λ e i. as-details k i) also (λ e i. as-plain)
+      also (λ e i. as-note103 e i) also (λ e i. as-plain) also tt
+
+  seen-202 : AllSeen tags202
+  unfolding tags202
+  seen-202 =
+      (λ e i. as-plain) also (λ e i. as-plain) also (λ e i. as-plain) also (λ e i. as-plain) also (λ e i. as-plain) also (λ e i. as-plain) also (λ e i. as-agent e (inl i)) also (λ e i. as-plain)
+      also (λ e i. as-agent e (inr i)) also (λ e i. as-plain) also (λ e i. as-payee (inr i)) also (λ e i. as-note202 e i) also tt
+
+  seen-in : (ts : List Tag) → AllSeen ts → heldBy kind t ≡ heldIn ts t → Seen kind t (shapeFor (heldIn ts t))
+  seen-in [] h e = as-plain
+  seen-in (tagged u c ∷ ts) h e = go (same t (bytes u)) refl e (seen-in ts (h .1))
+    where
+      go : (b : Bool) → same t (bytes u) ≡ b → heldBy kind t ≡ pick b c (heldIn ts t) → (heldBy kind t ≡ heldIn ts t → Seen kind t (shapeFor (heldIn ts t)))
+          → Seen kind t (shapeFor (pick b c (heldIn ts t)))
+      go true q e r = h .0 e (same-is t (bytes u) q)
+      go false q e r = r e
 
   pub seen : Seen kind t (shapeOf kind t)
-  unfolding shapeOf
-  seen =
-      picked (Seen kind t) (eqb kind 103) (λ e. seen-103 (eqb-true kind 103 e)) (λ a.
-      picked (Seen kind t) (eqb kind 202) (λ e. seen-202 (eqb-true kind 202 e)) (λ b. as-plain))
+  unfolding shapeOf heldBy
+  seen = seen-in (tagsOf kind) (go (eqb kind 103) (eqb kind 202) refl) refl
+    where
+      go : (a b : Bool) → eqb kind 103 ≡ a → AllSeen (pick a tags103 (pick b tags202 []))
+      go true b e = seen-103 (eqb-true kind 103 e)
+      go false true e = seen-202
+      go false false e = tt
 
 -- ---- no CR in the lines
 no-cr : (ls : List (List ℕ)) → Fair ls → all (without 13) ls ≡ true
@@ -200,26 +215,13 @@ unfolding same
 no-payer (inl e) = ap (λ (u : List ℕ). same u (bytes "50K")) e
 no-payer (inr e) = ap (λ (u : List ℕ). same u (bytes "50K")) e
 
--- ---- the state that the lines of 56D, 57D and 72 start in
-module _ (s : Bool) where
-  tag-states : (stateOf 103 s (bytes "56D") ≡ agentD) × (stateOf 103 s (bytes "57D") ≡ agentD) × (stateOf 202 s (bytes "56D") ≡ agentD) × (stateOf 202 s (bytes "57D") ≡ agentD)
-      × (stateOf 103 s (bytes "72") ≡ rpp103) × (stateOf 202 s (bytes "72") ≡ pick s at72Signed at72)
-  unfolding stateOf starts103 starts202 same
-  tag-states = (refl, refl, refl, refl, refl, refl)
-
-  agent-state : {kind : ℕ} {t : List ℕ} → (kind ≡ 103) ⊎ (kind ≡ 202) → (t ≡ bytes "56D") ⊎ (t ≡ bytes "57D") → stateOf kind s t ≡ agentD
-  agent-state (inl k) (inl e) = ap₂ (λ (n : ℕ) (u : List ℕ). stateOf n s u) k e ∙ tag-states .0
-  agent-state (inl k) (inr e) = ap₂ (λ (n : ℕ) (u : List ℕ). stateOf n s u) k e ∙ tag-states .1
-  agent-state (inr k) (inl e) = ap₂ (λ (n : ℕ) (u : List ℕ). stateOf n s u) k e ∙ tag-states .2
-  agent-state (inr k) (inr e) = ap₂ (λ (n : ℕ) (u : List ℕ). stateOf n s u) k e ∙ tag-states .3
-
 -- ---- lines that keep their first
 copied : (s : Bool) (ls : List (List ℕ)) → map (lineAgain s) (cast Plain ls) ≡ ls
 unfolding cast
 copied s [] = refl
 copied s (l ∷ ls) = ap (λ (k : List (List ℕ)). l ∷ k) (copied s ls)
 
-agent-again : (s : Bool) (ls : List (List ℕ)) → goesRight formats rows agentD ls ≡ true → map kindOf (parties (joined (map (lineAgain s) (cast Agent ls)))) ≡ map kindOf (parties (joined ls))
+agent-again : (s : Bool) (ls : List (List ℕ)) → BankByName ls → map kindOf (parties (joined (map (lineAgain s) (cast Agent ls)))) ≡ map kindOf (parties (joined ls))
 unfolding cast
 agent-again s [] e = refl
 agent-again s (l ∷ ls) e = party-same l (map (lineAgain s) (map name ls)) ls (agent-party l ls e)
@@ -227,7 +229,7 @@ agent-again s (l ∷ ls) e = party-same l (map (lineAgain s) (map name ls)) ls (
 rpp-kept : (l : List ℕ) → Rpp l → rppLine (drop 5 l) ≡ l
 rpp-kept l w = ap (λ (k : List ℕ). rppLine (drop 5 k)) (w .is) ∙ sym (w .is)
 
-note103-again : (ls : List (List ℕ)) → goesRight formats rows rpp103 ls ≡ true → map kindOf (rpp (joined (map rppLine (map (drop 5) ls)))) ≡ map kindOf (rpp (joined ls))
+note103-again : (ls : List (List ℕ)) → One IsRpp ls → map kindOf (rpp (joined (map rppLine (map (drop 5) ls)))) ≡ map kindOf (rpp (joined ls))
 note103-again [] e = refl
 note103-again (l ∷ ls) e =
     let w : Rpp l = note103-rpp l ls e in
@@ -257,7 +259,7 @@ alone-nzp s r ls u =
 abbrev NoteAgain : Bool → List (List ℕ) → List ℕ → Type 0
 NoteAgain s ls l = crowded s Note202 (noteParts s (l ∷ ls)) ≡ false → map kindOf (rpp (joined (noteLines s (noteParts s (l ∷ ls))))) ≡ map kindOf (rpp (joined (l ∷ ls)))
 
-note202-again : (s : Bool) (ls : List (List ℕ)) → goesRight formats rows (pick s at72Signed at72) ls ≡ true → crowded s Note202 (noteParts s ls) ≡ false
+note202-again : (s : Bool) (ls : List (List ℕ)) → RppAndDetails s ls → crowded s Note202 (noteParts s ls) ≡ false
     → map kindOf (rpp (joined (noteLines s (noteParts s ls)))) ≡ map kindOf (rpp (joined ls))
 note202-again s [] e u = refl
 note202-again s (l ∷ ls) e u = go (note202-first s l ls e) u
@@ -273,9 +275,8 @@ abbrev pub linesAgain : ℕ → Bool → List ℕ → List (List ℕ) → List (
 linesAgain kind s t ls = contentLines s (shapeOf kind t) (contentParts s (shapeOf kind t) ls)
 
 module _ (kind : ℕ) (s : Bool) (t : List ℕ) (ls : List (List ℕ)) (h : Held kind s t ls) (w : Ready s (shapeOf kind t) (contentParts s (shapeOf kind t) ls)) where
-  right-from : {q : ℕ} → stateOf kind s t ≡ q → goesRight formats rows q ls ≡ true
-  unfolding rightField
-  right-from e = ap (λ (q : ℕ). goesRight formats rows q ls) (sym e) ∙ h .right
+  right-as : {c : Content} → heldBy kind t ≡ c → Right c s ls
+  right-as e = subst (λ (c : Content). Right c s ls) e (field-says kind s (field t ls) .0 (h .right))
 
   module _ (sh : Shape) (e : shapeOf kind t ≡ sh) (v : LineByLine sh) where
     by-line : linesAgain kind s t ls ≡ map (lineAgain s) (cast sh ls)
@@ -301,11 +302,11 @@ module _ (kind : ℕ) (s : Bool) (t : List ℕ) (ls : List (List ℕ)) (h : Held
       same-by t rpp (joined (linesAgain kind s t ls)) (joined ls) (λ c. ap (λ (u : List ℕ). valuesOf u c) i ∙ tag-values c .5)
       (ap (λ (x : Shape). map kindOf (rpp (joined (contentLines s x (contentParts s x ls))))) e ∙ g)
 
-  note103-values : goesRight formats rows rpp103 ls ≡ true → map kindOf (rpp (joined (contentLines s Note103 (contentParts s Note103 ls)))) ≡ map kindOf (rpp (joined ls))
+  note103-values : One IsRpp ls → map kindOf (rpp (joined (contentLines s Note103 (contentParts s Note103 ls)))) ≡ map kindOf (rpp (joined ls))
   unfolding contentLines contentParts
   note103-values r = note103-again ls r
 
-  note202-values : goesRight formats rows (pick s at72Signed at72) ls ≡ true → crowded s Note202 (contentParts s Note202 ls) ≡ false
+  note202-values : RppAndDetails s ls → crowded s Note202 (contentParts s Note202 ls) ≡ false
       → map kindOf (rpp (joined (contentLines s Note202 (contentParts s Note202 ls)))) ≡ map kindOf (rpp (joined ls))
   unfolding contentLines contentParts
   note202-values r u = note202-again s ls r u
@@ -319,16 +320,13 @@ module _ (kind : ℕ) (s : Bool) (t : List ℕ) (ls : List (List ℕ)) (h : Held
           taxes-again Payer e payer true (ap (λ (u : List ℕ). same u (bytes "50K")) i ∙ same-refl (bytes "50K"))
           (λ c. subst (λ (u : List ℕ). valuesOf u c ≡ taxes u c) (sym i) (tag-values c .0)) (payer-again s t ls)
       go Payee e (as-payee i) = taxes-again Payee e payee false (no-payer i) (by-payee i) (payee-again s t ls)
-      go Agent e (as-agent k i) =
+      go Agent e (as-agent c i) =
           same-by t parties (joined (linesAgain kind s t ls)) (joined ls) (by-agent i)
-          (ap (λ (x : List (List ℕ)). map kindOf (parties (joined x))) (by-line Agent e agent) ∙ agent-again s ls (right-from (agent-state s k i)))
+          (ap (λ (x : List (List ℕ)). map kindOf (parties (joined x))) (by-line Agent e agent) ∙ agent-again s ls (right-as c))
       go Details e (as-details k i) =
           same-by t (λ c. []) (joined (linesAgain kind s t ls)) (joined ls) (λ c. ap (λ (u : List ℕ). valuesOf u c) i ∙ tag-values c .6) refl
-      go Note103 e (as-note103 k i) =
-          note-values Note103 e i (note103-values (right-from (ap₂ (λ (n : ℕ) (u : List ℕ). stateOf n s u) k i ∙ tag-states s .4)))
-      go Note202 e (as-note202 k i) =
-          note-values Note202 e i
-          (note202-values (right-from (ap₂ (λ (n : ℕ) (u : List ℕ). stateOf n s u) k i ∙ tag-states s .5)) (subst (λ (x : Shape). crowded s x (contentParts s x ls) ≡ false) e (w .fits)))
+      go Note103 e (as-note103 c i) = note-values Note103 e i (note103-values (right-as c))
+      go Note202 e (as-note202 c i) = note-values Note202 e i (note202-values (right-as c) (subst (λ (x : Shape). crowded s x (contentParts s x ls) ≡ false) e (w .fits)))
 
 -- ---- over fields
 abbrev pub ReadyField : ℕ → Bool → Field → Type 0

@@ -21,8 +21,8 @@ use Rattle.types.specs.Form.{Place, placesOf}
 use Rattle.types.specs.Sign.{signOf}
 use Rattle.types.specs.Walk.{skips, find, wrong, walk, walked}
 use Rattle.frame.proofs.CallLaws.{taken}
-use Rattle.forms.specs.Contents.{rightField, rule8}
-use Rattle.forms.proofs.ContentLaws.{rule8-fine}
+use Rattle.contents.specs.Rule8.{rightField, rule8}
+use Rattle.contents.proofs.RuleLaws.{rule8-fine}
 use Rattle.values.specs.Values.{kindOf, valuesIn}
 use Rattle.roles.specs.Role.{shapeOf}
 use Rattle.roles.specs.Rule14.{rule14}
@@ -39,7 +39,8 @@ use Rattle.sheets.specs.Gather.{contentParts, recordFor, gather}
 use Rattle.trips.specs.Again.{fieldAgain}
 use Rattle.trips.proofs.Held.{HeldField}
 use Rattle.trips.proofs.HeldLaws.{all-held}
-use Rattle.trips.proofs.RightLaws.{right-again, right-short}
+use Rattle.trips.proofs.RightLaws.{right-again}
+use Rattle.trips.proofs.ShortLaws.{right-short}
 use Rattle.trips.proofs.ValueLaws.{ReadyField, kinds-again, rule9-again, rule10-again, rule11-again, rule12-again, rule13-again}
 
 -- ---- 5 to 7: the walk sees tags alone

@@ -10,21 +10,13 @@ use super::days::is_day;
 use super::parts::has_three;
 use super::parts::is_apart;
 use super::parts::rpp_fault;
-
-// Tags as numbers.
-const TAG_32A: u32 = 3355201;
-
-const TAG_72: u32 = 3617280;
-
-const TAG_52A: u32 = 3486273;
-
-const TAG_56A: u32 = 3487297;
-
-const TAG_56D: u32 = 3487300;
-
-const TAG_57A: u32 = 3487553;
-
-const TAG_57D: u32 = 3487556;
+use types::tags::TAG_32A;
+use types::tags::TAG_52A;
+use types::tags::TAG_56A;
+use types::tags::TAG_56D;
+use types::tags::TAG_57A;
+use types::tags::TAG_57D;
+use types::tags::TAG_72;
 
 // 9 in 32A.
 fn paid_fault(content: &[u8]) -> usize

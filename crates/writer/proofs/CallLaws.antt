@@ -5,7 +5,7 @@ use mathlib.Core.Bool.{Bool, true, false}
 use mathlib.Core.List.{List, [], _∷_, tail}
 use native.Mathlib.Omega.{arith}
 use native.Mathlib.Nat.{zero-add}
-use lib.Dec.{ltb}
+use lib.Dec.{eqb, ltb}
 use lib.ListN.{length, take, drop}
 use Rattle.base.specs.Choice.{pick}
 use Rattle.base.specs.Bytes.{same, upTo}
@@ -21,7 +21,8 @@ use Rattle.base.proofs.CallLaws.{is-long, not-long, gives-refused, gives-on}
 use Rattle.fields.specs.Field.{field, opening, message}
 use Rattle.fields.specs.Frame.{limit, rule1}
 use Rattle.types.specs.Walk.{rule18}
-use Rattle.roles.specs.Role.{Part, cast, shape103, shape202, shapeOf, lineOf}
+use Rattle.contents.specs.Tags.{tags103, tags202, heldIn, heldBy}
+use Rattle.roles.specs.Role.{Part, cast, shapeFor, shapeOf, lineOf}
 use Rattle.roles.specs.declared.Shape.{Shape}
 use Rattle.roles.specs.declared.Shape.the-variants.{Plain}
 use borrow.Author.Tests.{ltb-true, ltb-false}
@@ -91,8 +92,13 @@ rule15-number kind s o (field t ps ∷ rs) j p e =
 
 -- ---- the first record can be written
 plain-mt : (kind : ℕ) → shapeOf kind (bytes "MT") ≡ Plain
-unfolding shapeOf shape103 shape202 same
-plain-mt kind = simp pick-same
+unfolding shapeOf heldBy tags103 tags202 same
+plain-mt kind = go (eqb kind 103) (eqb kind 202)
+  where
+    go : (a b : Bool) → shapeFor (heldIn (pick a tags103 (pick b tags202 [])) (bytes "MT")) ≡ Plain
+    go true b = refl
+    go false true = refl
+    go false false = refl
 
 first-fine : (kind : ℕ) (s : Bool) (r : Record) → typed r ≡ true → recordStops kind s r ≡ Fine
 unfolding unsaid cast

@@ -4,6 +4,7 @@ use Prim.Native.Nat.{ℕ}
 use mathlib.Core.Path.{_≡_, refl, sym, ap, _∙_}
 use mathlib.Core.Bool.{Bool, true, false}
 use mathlib.Core.List.{List, [], _∷_, map, tail}
+use lib.Dec.{eqb}
 use Rattle.base.specs.Choice.{pick, all}
 use Rattle.base.specs.Bytes.{begins, same, isIn, digit, capital, letter, marks, shared, xset}
 use Rattle.base.specs.Quoted.{bytes}
@@ -18,7 +19,8 @@ use Rattle.fields.proofs.FieldLaws.{fields-message}
 use Rattle.fields.proofs.WrittenLaws.{rule2-message, rule3-message, rule4-message, proper-lineable}
 use Rattle.fields.proofs.TagLaws.{Shape as TagShape, plain, lettered, shape-of}
 use Rattle.types.specs.Sign.{firstLine, signOf}
-use Rattle.roles.specs.Role.{shapeOf, shape103, shape202, copy, cast}
+use Rattle.contents.specs.Tags.{tags103, tags202, heldIn, heldBy}
+use Rattle.roles.specs.Role.{shapeFor, shapeOf, copy, cast}
 use Rattle.roles.specs.declared.Shape.{Shape}
 use Rattle.roles.specs.declared.Shape.the-variants.{Plain}
 use Rattle.records.specs.Record.{Record, records}
@@ -89,8 +91,13 @@ module _ (kind : ℕ) (s : Bool) where
   plain-lines ps = copied ps
 
   pub shape-20 : shapeOf kind (bytes "20") ≡ Plain
-  unfolding shapeOf shape103 shape202 same
-  shape-20 = simp pick-same
+  unfolding shapeOf heldBy tags103 tags202 same
+  shape-20 = go (eqb kind 103) (eqb kind 202)
+    where
+      go : (a b : Bool) → shapeFor (heldIn (pick a tags103 (pick b tags202 [])) (bytes "20")) ≡ Plain
+      go true b = refl
+      go false true = refl
+      go false false = refl
 
   lines-20 : (t : List ℕ) (ps : List (List ℕ)) → same t (bytes "20") ≡ true → contentLines s (shapeOf kind t) ps ≡ ps
   lines-20 t ps e = ap (λ (u : List ℕ). contentLines s (shapeOf kind u) ps) (same-is t (bytes "20") e) ∙ ap (λ (sh : Shape). contentLines s sh ps) shape-20 ∙ plain-lines ps

@@ -21,8 +21,8 @@ use Rattle.types.specs.Form.{Place, placesOf}
 use Rattle.types.specs.Sign.{signOf}
 use Rattle.types.specs.Walk.{walked}
 use Rattle.types.proofs.WalkLaws.{Judged, unknown, notLater, skipping, right, Refused, atField, atEnd, walked-refused}
-use Rattle.forms.specs.Contents.{rightField, rule8}
-use Rattle.forms.proofs.FieldRules.{own-number}
+use Rattle.contents.specs.Rule8.{rightField, rule8}
+use Rattle.contents.proofs.RuleLaws.{own-number}
 use Rattle.values.proofs.RuleLaws.{broken9, broken10, broken11, broken12, broken13}
 use Rattle.roles.specs.Rule14.{rule14}
 use Rattle.judge.specs.Message.{messageRules, verdictOf}

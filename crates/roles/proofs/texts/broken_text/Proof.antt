@@ -2,7 +2,7 @@
 use mathlib.Core.Path.{_∙_, sym}
 use Rattle.fields.specs.Shapes.{unpack}
 use Rattle.roles.specs.declared.Shape.the-variants.{Plain, Payer, Payee, Agent, Details, Note103, Note202}
-use Rattle.machine.specs.Lines.{linesIn}
+use Rattle.fields.specs.Lines.{linesIn}
 use Rattle.roles.proofs.FoundLaws.{by-shape, plain-none, note103-none, details-whole}
 use borrow.Author.Needs.{needs}
 use Rattle.roles.proofs.texts.broken_text.Statement.{statement}

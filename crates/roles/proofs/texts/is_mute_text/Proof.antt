@@ -6,7 +6,7 @@ use native.Mathlib.Omega.{arith}
 use borrow.Author.Needs.{needs}
 use lib.ListN.{length, drop}
 use Rattle.alphabets.specs.Pieces.{pieceIn}
-use Rattle.machine.specs.Lines.{linesIn}
+use Rattle.fields.specs.Lines.{linesIn}
 use Rattle.base.proofs.MarkLaws.{up-rest}
 use Rattle.roles.specs.Found.{toldText, muteIn, muteAfter}
 use Rattle.roles.proofs.FoundLaws.{mute-start, mute-past, mute-stops, mute-last, mute-on}

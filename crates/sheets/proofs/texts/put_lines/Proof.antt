@@ -2,7 +2,7 @@
 use Rattle.sheets.proofs.TextLaws.{this-within, line-less, part-needs, part-last, part-next, lines-last, lines-on}
 use Rattle.base.proofs.Room.{Leads}
 use Rattle.sheets.specs.Steps.{partsBy}
-use Rattle.machine.specs.Lines.{linesIn}
+use Rattle.fields.specs.Lines.{linesIn}
 use Rattle.records.specs.Record.{tabbed}
 use lib.ListN.{length, drop}
 use native.Mathlib.Omega.{arith}

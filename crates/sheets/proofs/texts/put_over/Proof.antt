@@ -2,7 +2,7 @@
 use Rattle.sheets.proofs.TextLaws.{this-within, line-less, part-needs, part-next, piece-last, over-last, over-on}
 use Rattle.base.proofs.Room.{Leads}
 use Rattle.sheets.specs.Steps.{cutBy, overBy}
-use Rattle.machine.specs.Lines.{linesIn}
+use Rattle.fields.specs.Lines.{linesIn}
 use lib.ListN.{length, drop}
 use native.Mathlib.Omega.{arith}
 use mathlib.Core.Bool.{false}

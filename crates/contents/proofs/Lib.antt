@@ -1,0 +1,17 @@
+pub mod Laws
+pub mod TaxLaws
+pub mod LineLaws
+pub mod PaidLaws
+pub mod RppLaws
+pub mod FieldLaws
+pub mod VoLaws
+pub mod BankLaws
+pub mod ShortLaws
+pub mod RightLaws
+pub mod TagLaws
+pub mod CutLaws
+pub mod LineTests
+pub mod FieldTests
+pub mod RuleLaws
+pub mod SizeLaws
+pub mod Examples

@@ -1,0 +1,203 @@
+-- What the readers of lines answer, held against the grammar. Assumes nothing.
+use Rattle.base.specs.Says.{Not, _or_}
+use Prim.Native.Nat.{ℕ, _+_, _≤_, _<_}
+use mathlib.Core.Path.{_≡_}
+use mathlib.Core.Bool.{Bool, true, false}
+use mathlib.Core.List.{List, [], _∷_, _++_}
+use lib.ListN.{length, take, drop}
+use Rattle.base.specs.Choice.{all}
+use Rattle.base.specs.Bytes.{byte, digit}
+use Rattle.base.specs.Quoted.{bytes}
+use Rattle.contents.specs.Words.{Text, Line, Digits, Size, join, BeginsWith}
+use Rattle.contents.specs.Lines.{Reference, PartyByBik, PartyByAccount, TaxLine, Payment, RppLine, Way, opening, closing}
+use Rattle.contents.specs.Fields.{Is, IsPurpose, IsPayment, IsOwnAccount, IsRpp, In72, RppAndDetails, IsParty, IsBic, BankByBic, BankByName, One, IsAccount, LooksTax, Then, Any, Names, Beside, Customer, Payer}
+use Rattle.contents.specs.declared.whole.Held.{Held}
+use Rattle.contents.specs.declared.whole.Held.the-variants as held
+use Rattle.contents.specs.declared.lines.Tax.{Tax}
+use Rattle.contents.specs.declared.lines.Tax.the-variants as tax
+use Rattle.contents.specs.declared.lines.Party.{Party}
+use Rattle.contents.specs.declared.lines.Party.the-variants as party
+use Rattle.contents.specs.declared.whole.Bank.{Bank}
+use Rattle.contents.specs.declared.whole.Bank.the-variants as bank
+use Rattle.contents.specs.declared.lines.Paid.{Paid}
+use Rattle.contents.specs.declared.lines.Paid.the-variants as paid
+use Rattle.contents.specs.declared.Content.{Content}
+use Rattle.contents.specs.declared.Content.the-variants as holds
+use Rattle.contents.specs.declared.whole.Note.{Note}
+use Rattle.contents.specs.declared.whole.Note.the-variants as note
+use Rattle.contents.specs.declared.lines.Rpp.{Rpp}
+use Rattle.contents.specs.declared.lines.Rpp.the-variants as rpp
+
+-- n bytes of the text from i on
+abbrev pub cut : ℕ → ℕ → Text → Text
+cut i n s = take n (drop i s)
+
+-- r bytes from i on are digits, and no more than n are asked for: the next is none, or r is n, or the text ends
+pub record Leads (i n : ℕ) (s : Text) (r : ℕ) : Type 0 where
+  pub within : i + r ≤ length s
+  pub most : r ≤ n
+  pub each : all digit (cut i r s) ≡ true
+  pub stop : r < n → i + r < length s → digit (byte s (i + r)) ≡ false
+
+-- ---- the size of an INN, by the size of its line; 0 for none
+abbrev pub InnSize : Bool → ℕ → Type 0
+InnSize true n = (n ≡ 10) or (n ≡ 12)
+InnSize false n = n ≡ 10
+
+pub record InnBy (twelve : Bool) (size r : ℕ) : Type 0 where
+  pub found : Not (r ≡ 0) → InnSize twelve r × ((size ≡ r + 3) or (size ≡ r + 16))
+  pub only : (n : ℕ) → InnSize twelve n → ((size ≡ n + 3) or (size ≡ n + 16)) → r ≡ n
+
+-- ---- what stands behind the number of an RPP line
+pub record RppBody (i : ℕ) (l : Line) : Type 0 where
+  pub point : byte l i ≡ 46
+  pub day : Digits 6 (cut (1 + i) 6 l)
+  pub point2 : byte l (7 + i) ≡ 46
+  pub order : Digits 1 (cut (8 + i) 1 l)
+  pub point3 : byte l (9 + i) ≡ 46
+  pub kind : Way (cut (10 + i) 4 l)
+
+-- ---- lines with their parts
+abbrev pub TaxSaid : Bool → Line → Tax → Type 0
+TaxSaid twelve l tax.Wrong = (inn kpp : Text) → Not (TaxLine twelve inn kpp l)
+TaxSaid twelve l (tax.Is inn kpp) = TaxLine twelve (cut 3 inn l) (cut (4 + (inn + 3)) kpp l) l
+
+abbrev pub PartySaid : Line → Party → Type 0
+PartySaid l party.Wrong = Not (IsParty l)
+PartySaid l party.Account = PartyByAccount (cut 1 20 l) l
+PartySaid l (party.Bik n) = PartyByBik (cut 4 9 l) (cut 14 n l) l
+
+abbrev pub PaidSaid : Line → Paid → Type 0
+PaidSaid l paid.Wrong = (date currency whole decimals : Text) → Not (Payment date currency whole decimals l)
+PaidSaid l (paid.Is whole decimals) = Payment (cut 0 6 l) (cut 6 3 l) (cut 9 whole l) (cut (1 + (whole + 9)) decimals l) l
+
+abbrev pub RppSaid : Line → Rpp → Type 0
+RppSaid l rpp.Wrong = (number date turn way value : Text) → Not (RppLine number date turn way value l)
+RppSaid l (rpp.Is n value) = RppLine (cut 5 n l) (cut (1 + (n + 5)) 6 l) (cut (8 + (n + 5)) 1 l) (cut (10 + (n + 5)) 4 l) (cut (15 + (n + 5)) value l) l
+
+-- ---- fields with the parts of their tax line; at: where the first of the lines begins
+abbrev pub TaxWith : Bool → ℕ → ℕ → Line → Type 0
+TaxWith twelve inn kpp l = TaxLine twelve (cut 3 inn l) (cut (4 + (inn + 3)) kpp l) l
+
+abbrev pub BesideSaid : Bool → ℕ → List Line → Held → Type 0
+BesideSaid twelve at ls held.Wrong = Not (Beside twelve ls)
+BesideSaid twelve at ls held.Plain = Not (Then LooksTax Any ls) × Names 4 ls
+BesideSaid twelve at ls (held.Taxed p inn kpp) = (p ≡ at) × Then (TaxWith twelve inn kpp) (Names 3) ls
+
+abbrev pub Behind : Bool → List Line → Held → Type 0
+Behind twelve [] r = ⊥
+Behind twelve (l ∷ ls) r = IsAccount l × BesideSaid twelve (length l + 2) ls r
+
+abbrev pub CustomerSaid : Bool → List Line → Held → Type 0
+CustomerSaid twelve ls held.Wrong = Not (Customer twelve ls)
+CustomerSaid twelve ls held.Plain = Behind twelve ls held.Plain
+CustomerSaid twelve ls (held.Taxed p inn kpp) = Behind twelve ls (held.Taxed p inn kpp)
+
+abbrev pub Bare : List Line → Held → Type 0
+Bare ls r = Not (Then (BeginsWith "/") Any ls) × BesideSaid true 0 ls r
+
+abbrev pub PayerSaid : List Line → Held → Type 0
+PayerSaid ls held.Wrong = Not (Payer ls)
+PayerSaid ls held.Plain = Behind true ls held.Plain or Bare ls held.Plain
+PayerSaid ls (held.Taxed p inn kpp) = Behind true ls (held.Taxed p inn kpp) or Bare ls (held.Taxed p inn kpp)
+
+-- ---- a line that begins with the VO code
+pub record VoFirst (sign : Bool) (l : Line) : Type 0 where
+  pub code : Text
+  pub text : Text
+  pub digits : Digits 5 code
+  pub line : l ≡ join (opening sign ∷ code ∷ closing sign ∷ text ∷ [])
+
+-- ---- banks
+abbrev pub noParty : Party → Bool
+noParty party.Wrong = true
+noParty party.Account = false
+noParty (party.Bik n) = false
+
+abbrev pub IsA : Party → Line → Type 0
+IsA party.Wrong l = ⊥
+IsA party.Account l = PartyByAccount (cut 1 20 l) l
+IsA (party.Bik n) l = PartyByBik (cut 4 9 l) (cut 14 n l) l
+
+abbrev pub BicSaid : List Line → Bank → Type 0
+BicSaid ls bank.Wrong = Not (BankByBic ls)
+BicSaid ls bank.Alone = One IsBic ls
+BicSaid ls (bank.Led p) = Then (IsA p) (One IsBic) ls
+
+abbrev pub NameSaid : List Line → Bank → Type 0
+NameSaid ls bank.Wrong = Not (BankByName ls)
+NameSaid ls bank.Alone = ⊥
+NameSaid ls (bank.Led p) = Then (IsA p) (Names 4) ls
+
+-- ---- // stands in a line
+pub record HasPair (l : Line) : Type 0 where
+  pub first : Text
+  pub rest : Text
+  pub line : l ≡ join (first ∷ bytes "//" ∷ rest ∷ [])
+
+-- ---- 72 in 202
+abbrev pub IsMarked : Line → Type 0
+IsMarked l = (s : Text) × (l ≡ bytes "//" ++ s) × Size 1 33 s
+
+pub record NzpFirst (sign : Bool) (l : Line) : Type 0 where
+  pub rest : Text
+  pub line : l ≡ bytes "/NZP/" ++ rest
+  pub code : VoFirst sign rest
+  pub room : length rest ≤ 30
+
+-- where the VO code ends
+abbrev pub textAt : Bool → ℕ
+textAt sign = length (closing sign) + (5 + length (opening sign))
+
+abbrev pub RppWith : ℕ → ℕ → Line → Type 0
+RppWith n value l = RppSaid l (rpp.Is n value)
+
+abbrev pub NoteSaid : Bool → List Line → Note → Type 0
+NoteSaid sign ls note.Wrong = Not (RppAndDetails sign ls)
+NoteSaid sign ls note.Plain = In72 sign 6 ls
+NoteSaid sign ls (note.Dated n value) = Then (RppWith n value) (In72 sign 5) ls
+
+-- ---- an answer that is not `Wrong`
+abbrev pub isHeld : Held → Bool
+isHeld held.Wrong = false
+isHeld held.Plain = true
+isHeld (held.Taxed p inn kpp) = true
+
+abbrev pub isBank : Bank → Bool
+isBank bank.Wrong = false
+isBank bank.Alone = true
+isBank (bank.Led p) = true
+
+abbrev pub isNote : Note → Bool
+isNote note.Wrong = false
+isNote note.Plain = true
+isNote (note.Dated n v) = true
+
+abbrev pub isPaid : Paid → Bool
+isPaid paid.Wrong = false
+isPaid (paid.Is n d) = true
+
+abbrev pub isRpp : Rpp → Bool
+isRpp rpp.Wrong = false
+isRpp (rpp.Is n v) = true
+
+-- ---- the contents of one line
+abbrev pub LineOf : Content → Line → Type 0
+LineOf holds.Unknown l = ⊥
+LineOf holds.Reference l = Reference l
+LineOf holds.Related l = Is "NONREF" l
+LineOf holds.Operation l = Is "CRED" l
+LineOf holds.Purpose l = IsPurpose l
+LineOf holds.Payment l = IsPayment l
+LineOf holds.Payer l = ⊥
+LineOf holds.BankByBic l = ⊥
+LineOf holds.BankByName l = ⊥
+LineOf holds.OwnAccount l = IsOwnAccount l
+LineOf holds.AccountAndBic l = ⊥
+LineOf holds.BeneficiaryBank l = ⊥
+LineOf holds.Beneficiary l = ⊥
+LineOf holds.Details l = ⊥
+LineOf holds.Charges l = Is "OUR" l
+LineOf holds.Document l = IsRpp l
+LineOf holds.DocumentAndDetails l = ⊥
+LineOf holds.Regulatory l = ⊥

@@ -1,0 +1,476 @@
+// The readers of whole fields: their lines, one after the other.
+ghost use mathlib.Core.Path.{_≡_};
+ghost use Prim.Native.Nat.{_+_, _≤_, _<_};
+ghost use mathlib.Core.List.{[], _∷_};
+ghost use lib.ListN.{length, drop};
+ghost use Rattle.fields.specs.Lines.{linesIn};
+ghost use Rattle.contents.specs.Fields.{One, IsBic, IsAccount, Then, Names, Several, In70, In72, Regulatory, Right};
+ghost use Rattle.base.specs.Says.{Says};
+ghost use Rattle.contents.specs.Answers.{VoFirst, BesideSaid, CustomerSaid, PayerSaid, noParty, BicSaid, NameSaid, IsMarked, NzpFirst, textAt, NoteSaid, isHeld, isBank, isNote, isPaid, isRpp, LineOf};
+use super::Content;
+use super::lines::Paid;
+use super::lines::Party;
+use super::lines::Rpp;
+use super::lines::Tax;
+use super::lines::is_account;
+use super::lines::is_bic;
+use super::lines::is_name;
+use super::lines::is_own_account;
+use super::lines::is_purpose;
+use super::lines::is_reference;
+use super::lines::looks_tax;
+use super::lines::party_line;
+use super::lines::payment;
+use super::lines::rpp_line;
+use super::lines::tax_line;
+use super::pieces::are_digits;
+use super::pieces::has_word;
+use super::pieces::is_just;
+use base::marks::mark_at;
+use fields::lines::next_line;
+
+// 50K, 59, 58D: wrong; right without a tax line; or right with one, where it begins, and the sizes of its INN and its KPP.
+pub enum Held {
+    Wrong,
+    Plain,
+    Taxed(usize, usize, usize),
+}
+
+// 52A, 56, 57: wrong; a BIC alone; or a party line first, as it was read.
+pub enum Bank {
+    Wrong,
+    Alone,
+    Led(Party),
+}
+
+// Whether the lines from there on are names, at least one and no more than that many.
+fn are_names(c: &[u8], from: usize, most: usize) -> bool
+    requires { ⌜ from ≤ length (now c) ⌝ }
+    ensures { λ r. ⌜ Says (Names most (linesIn (drop from (now (c .entry))))) r ⌝ }
+{
+    let mut at = from;
+    let mut left = most;
+    loop {
+        if left == 0 {
+            return false;
+        }
+        let e = mark_at(b'\r', c, at);
+        if !is_name(&c[at..e]) {
+            return false;
+        }
+        if c.len() <= e {
+            return true;
+        }
+        left -= 1;
+        at = next_line(e, c.len());
+    }
+}
+
+// Beside the account: perhaps a tax line, then names.
+fn beside(twelve: bool, c: &[u8], at: usize) -> Held
+    requires { ⌜ at ≤ length (now c) ⌝ }
+    ensures { λ r. ⌜ BesideSaid twelve at (linesIn (drop at (now (c .entry)))) r ⌝ }
+{
+    let e = mark_at(b'\r', c, at);
+    if !looks_tax(&c[at..e]) {
+        if are_names(c, at, 4) {
+            return Held::Plain;
+        }
+        return Held::Wrong;
+    }
+    let Tax::Is(inn, kpp) = tax_line(twelve, &c[at..e]) else {
+        return Held::Wrong;
+    };
+    if c.len() <= e {
+        return Held::Wrong;
+    }
+    if are_names(c, next_line(e, c.len()), 3) {
+        return Held::Taxed(at, inn, kpp);
+    }
+    Held::Wrong
+}
+
+// 59 and, with an INN of ten digits alone, 58D.
+pub fn customer(twelve: bool, c: &[u8]) -> Held
+    ensures { λ r. ⌜ CustomerSaid twelve (linesIn (now (c .entry))) r ⌝ }
+{
+    let e = mark_at(b'\r', c, 0);
+    if !is_account(&c[..e]) {
+        return Held::Wrong;
+    }
+    if c.len() <= e {
+        return Held::Wrong;
+    }
+    beside(twelve, c, next_line(e, c.len()))
+}
+
+// 50K.
+pub fn payer(c: &[u8]) -> Held
+    ensures { λ r. ⌜ PayerSaid (linesIn (now (c .entry))) r ⌝ }
+{
+    if c.len() == 0 {
+        return Held::Wrong;
+    }
+    if c[0] == b'/' {
+        return customer(true, c);
+    }
+    beside(true, c, 0)
+}
+
+// Whether a line begins with the VO code.
+fn is_vo(sign: bool, l: &[u8]) -> bool
+    ensures { λ r. ⌜ Says (VoFirst sign (now (l .entry))) r ⌝ }
+{
+    if sign {
+        if l.len() < 11 {
+            return false;
+        }
+        if !has_word(l, 0, b"'(VO") {
+            return false;
+        }
+        if !has_word(l, 9, b")'") {
+            return false;
+        }
+        return are_digits(l, 4, 5);
+    }
+    if l.len() < 9 {
+        return false;
+    }
+    if !has_word(l, 0, b"(VO") {
+        return false;
+    }
+    if !has_word(l, 8, b")") {
+        return false;
+    }
+    are_digits(l, 3, 5)
+}
+
+// 70.
+pub fn details(sign: bool, c: &[u8]) -> bool
+    ensures { λ r. ⌜ Says (In70 sign (linesIn (now (c .entry)))) r ⌝ }
+{
+    let e = mark_at(b'\r', c, 0);
+    if 35 < e {
+        return false;
+    }
+    if !is_vo(sign, &c[..e]) {
+        return false;
+    }
+    if e < c.len() {
+        return are_names(c, next_line(e, c.len()), 3);
+    }
+    if sign {
+        return 11 < e;
+    }
+    9 < e
+}
+
+fn is_no_party(p: Party) -> bool
+    ensures { λ r. ⌜ r ≡ noParty p ⌝ }
+{
+    match p {
+        Party::Wrong => true,
+        Party::Account => false,
+        Party::Bik(_) => false,
+    }
+}
+
+// Whether one line is left, and it is a BIC.
+fn is_last_bic(c: &[u8], at: usize) -> bool
+    requires { ⌜ at ≤ length (now c) ⌝ }
+    ensures { λ r. ⌜ Says (One IsBic (linesIn (drop at (now (c .entry))))) r ⌝ }
+{
+    let e = mark_at(b'\r', c, at);
+    if e < c.len() {
+        return false;
+    }
+    is_bic(&c[at..e])
+}
+
+// 52A, 56A, 57A.
+pub fn bank_by_bic(c: &[u8]) -> Bank
+    ensures { λ r. ⌜ BicSaid (linesIn (now (c .entry))) r ⌝ }
+{
+    let e = mark_at(b'\r', c, 0);
+    if c.len() <= e {
+        if is_bic(&c[..e]) {
+            return Bank::Alone;
+        }
+        return Bank::Wrong;
+    }
+    let p = party_line(&c[..e]);
+    if is_no_party(p) {
+        return Bank::Wrong;
+    }
+    if is_last_bic(c, next_line(e, c.len())) {
+        return Bank::Led(p);
+    }
+    Bank::Wrong
+}
+
+// 56D, 57D.
+pub fn bank_by_name(c: &[u8]) -> Bank
+    ensures { λ r. ⌜ NameSaid (linesIn (now (c .entry))) r ⌝ }
+{
+    let e = mark_at(b'\r', c, 0);
+    let p = party_line(&c[..e]);
+    if is_no_party(p) {
+        return Bank::Wrong;
+    }
+    if c.len() <= e {
+        return Bank::Wrong;
+    }
+    if are_names(c, next_line(e, c.len()), 4) {
+        return Bank::Led(p);
+    }
+    Bank::Wrong
+}
+
+// 58A.
+pub fn account_and_bic(c: &[u8]) -> bool
+    ensures { λ r. ⌜ Says (Then IsAccount (One IsBic) (linesIn (now (c .entry)))) r ⌝ }
+{
+    let e = mark_at(b'\r', c, 0);
+    if !is_account(&c[..e]) {
+        return false;
+    }
+    if c.len() <= e {
+        return false;
+    }
+    is_last_bic(c, next_line(e, c.len()))
+}
+
+// 77B.
+pub fn regulatory(c: &[u8]) -> bool
+    ensures { λ r. ⌜ Says (Regulatory (linesIn (now (c .entry)))) r ⌝ }
+{
+    if c.len() < 1 {
+        return false;
+    }
+    if c[0] != b'/' {
+        return false;
+    }
+    are_names(c, 0, 3)
+}
+
+// Whether a content is one line.
+pub fn is_one_line(c: &[u8]) -> bool
+    ensures { λ r. ⌜ Says (linesIn (now (c .entry)) ≡ now (c .entry) ∷ []) r ⌝ }
+{
+    c.len() <= mark_at(b'\r', c, 0)
+}
+
+fn is_marked(l: &[u8]) -> bool
+    ensures { λ r. ⌜ Says (IsMarked (now (l .entry))) r ⌝ }
+{
+    if l.len() < 3 {
+        return false;
+    }
+    if 35 < l.len() {
+        return false;
+    }
+    has_word(l, 0, b"//")
+}
+
+// Whether the lines from there on are later lines of 72's details, at least one and no more than that many.
+fn are_marked(c: &[u8], from: usize, most: usize) -> bool
+    requires { ⌜ from ≤ length (now c) ⌝ }
+    ensures { λ r. ⌜ Says (Several IsMarked most (linesIn (drop from (now (c .entry))))) r ⌝ }
+{
+    let mut at = from;
+    let mut left = most;
+    loop {
+        if left == 0 {
+            return false;
+        }
+        let e = mark_at(b'\r', c, at);
+        if !is_marked(&c[at..e]) {
+            return false;
+        }
+        if c.len() <= e {
+            return true;
+        }
+        left -= 1;
+        at = next_line(e, c.len());
+    }
+}
+
+// Whether a line begins with /NZP/ and the VO code, within its room.
+fn is_nzp(sign: bool, l: &[u8]) -> bool
+    ensures { λ r. ⌜ Says (NzpFirst sign (now (l .entry))) r ⌝ }
+{
+    if l.len() < 5 {
+        return false;
+    }
+    if 35 < l.len() {
+        return false;
+    }
+    if !has_word(l, 0, b"/NZP/") {
+        return false;
+    }
+    is_vo(sign, &l[5..])
+}
+
+// Whether a line of that many bytes has text behind /NZP/ and the code.
+fn has_text(sign: bool, n: usize) -> bool
+    ensures { λ r. ⌜ Says (5 + textAt sign < n) r ⌝ }
+{
+    if sign {
+        return 16 < n;
+    }
+    14 < n
+}
+
+fn details_72(sign: bool, c: &[u8], at: usize, most: usize) -> bool
+    requires { ⌜ (at ≤ length (now c)) × (1 ≤ most) ⌝ }
+    ensures { λ r. ⌜ Says (In72 sign most (linesIn (drop at (now (c .entry))))) r ⌝ }
+{
+    let e = mark_at(b'\r', c, at);
+    if !is_nzp(sign, &c[at..e]) {
+        return false;
+    }
+    if e < c.len() {
+        return are_marked(c, next_line(e, c.len()), most - 1);
+    }
+    has_text(sign, e - at)
+}
+
+// 72 in 202: wrong; details alone; or an RPP line first, with the sizes of its number and its last date.
+pub enum Note {
+    Wrong,
+    Plain,
+    Dated(usize, usize),
+}
+
+// Where the RPP line is no such line, details alone are left.
+pub fn rpp_and_details(sign: bool, c: &[u8]) -> Note
+    ensures { λ r. ⌜ NoteSaid sign (linesIn (now (c .entry))) r ⌝ }
+{
+    let e = mark_at(b'\r', c, 0);
+    match rpp_line(&c[..e]) {
+        Rpp::Wrong => {
+            if details_72(sign, c, 0, 6) {
+                return Note::Plain;
+            }
+            Note::Wrong
+        }
+        Rpp::Is(n, value) => {
+            if c.len() <= e {
+                return Note::Wrong;
+            }
+            if details_72(sign, c, next_line(e, c.len()), 5) {
+                return Note::Dated(n, value);
+            }
+            Note::Wrong
+        }
+    }
+}
+
+fn is_held(h: Held) -> bool
+    ensures { λ r. ⌜ r ≡ isHeld h ⌝ }
+{
+    match h {
+        Held::Wrong => false,
+        Held::Plain => true,
+        Held::Taxed(_, _, _) => true,
+    }
+}
+
+fn is_bank(b: Bank) -> bool
+    ensures { λ r. ⌜ r ≡ isBank b ⌝ }
+{
+    match b {
+        Bank::Wrong => false,
+        Bank::Alone => true,
+        Bank::Led(_) => true,
+    }
+}
+
+fn is_note(n: Note) -> bool
+    ensures { λ r. ⌜ r ≡ isNote n ⌝ }
+{
+    match n {
+        Note::Wrong => false,
+        Note::Plain => true,
+        Note::Dated(_, _) => true,
+    }
+}
+
+fn is_paid(p: Paid) -> bool
+    ensures { λ r. ⌜ r ≡ isPaid p ⌝ }
+{
+    match p {
+        Paid::Wrong => false,
+        Paid::Is(_, _) => true,
+    }
+}
+
+fn is_rpp(p: Rpp) -> bool
+    ensures { λ r. ⌜ r ≡ isRpp p ⌝ }
+{
+    match p {
+        Rpp::Wrong => false,
+        Rpp::Is(_, _) => true,
+    }
+}
+
+// Whether one line is as such a content asks; false for a content of several lines.
+fn is_line(content: Content, l: &[u8]) -> bool
+    ensures { λ r. ⌜ Says (LineOf content (now (l .entry))) r ⌝ }
+{
+    match content {
+        Content::Reference => is_reference(l),
+        Content::Related => is_just(l, b"NONREF"),
+        Content::Operation => is_just(l, b"CRED"),
+        Content::Purpose => is_purpose(l),
+        Content::Payment => is_paid(payment(l)),
+        Content::OwnAccount => is_own_account(l),
+        Content::Charges => is_just(l, b"OUR"),
+        Content::Document => is_rpp(rpp_line(l)),
+        Content::Unknown => false,
+        Content::Payer => false,
+        Content::BankByBic => false,
+        Content::BankByName => false,
+        Content::AccountAndBic => false,
+        Content::BeneficiaryBank => false,
+        Content::Beneficiary => false,
+        Content::Details => false,
+        Content::DocumentAndDetails => false,
+        Content::Regulatory => false,
+    }
+}
+
+fn is_one(content: Content, c: &[u8]) -> bool
+    ensures { λ r. ⌜ Says (One (LineOf content) (linesIn (now (c .entry)))) r ⌝ }
+{
+    if !is_one_line(c) {
+        return false;
+    }
+    is_line(content, c)
+}
+
+// 8: whether a content is right.
+pub fn is_right(content: Content, sign: bool, c: &[u8]) -> bool
+    ensures { λ r. ⌜ Says (Right content sign (linesIn (now (c .entry)))) r ⌝ }
+{
+    match content {
+        Content::Unknown => false,
+        Content::Payer => is_held(payer(c)),
+        Content::BankByBic => is_bank(bank_by_bic(c)),
+        Content::BankByName => is_bank(bank_by_name(c)),
+        Content::AccountAndBic => account_and_bic(c),
+        Content::BeneficiaryBank => is_held(customer(false, c)),
+        Content::Beneficiary => is_held(customer(true, c)),
+        Content::Details => details(sign, c),
+        Content::DocumentAndDetails => is_note(rpp_and_details(sign, c)),
+        Content::Regulatory => regulatory(c),
+        Content::Reference => is_one(content, c),
+        Content::Related => is_one(content, c),
+        Content::Operation => is_one(content, c),
+        Content::Purpose => is_one(content, c),
+        Content::Payment => is_one(content, c),
+        Content::OwnAccount => is_one(content, c),
+        Content::Charges => is_one(content, c),
+        Content::Document => is_one(content, c),
+    }
+}

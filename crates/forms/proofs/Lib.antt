@@ -1,5 +1,0 @@
-pub mod Placed
-pub mod StartLaws
-pub mod FieldRules
-pub mod ContentLaws
-pub mod Examples

@@ -1,0 +1,98 @@
+// A field's content as the parts of a record: details, the notes of field 72, and lines, by the shape of the tag.
+ghost use mathlib.Core.Path.{_≡_};
+ghost use Prim.Native.Nat.{_+_, _≤_};
+ghost use lib.ListN.{length};
+ghost use Rattle.base.specs.Calls.{Puts};
+ghost use Rattle.fields.specs.Lines.{linesIn};
+ghost use Rattle.roles.specs.Speech.{codeSize};
+ghost use Rattle.records.specs.Record.{tabbed};
+ghost use Rattle.sheets.specs.Gather.{codeDigits};
+ghost use Rattle.sheets.specs.Steps.{toldBy, noteBy, contentBy};
+use super::texts::put_lines;
+use super::texts::put_over;
+use super::texts::put_part;
+use base::bytes::front;
+use base::bytes::past;
+use base::bytes::put;
+use base::marks::mark_at;
+use fields::lines::next_line;
+use roles::Role;
+use roles::Shape;
+use roles::parts::first_role;
+use values::parts::is_rpp;
+
+// The VO digits behind the code's front.
+fn digits_of(sign: bool, l: &[u8]) -> &[u8]
+    ensures { λ r. ⌜ now r ≡ codeDigits sign (now (l .entry)) ⌝ }
+{
+    if sign {
+        return front(past(l, 4), 5);
+    }
+    front(past(l, 3), 5)
+}
+
+fn code_size(sign: bool) -> usize
+    ensures { λ r. ⌜ (r ≡ codeSize sign) × (r ≤ 11) ⌝ }
+{
+    if sign {
+        return 11;
+    }
+    9
+}
+
+// VO digits and the text, of lines behind `first` bytes of mark in the first and `mark` bytes in each later one.
+fn put_told(
+    back: &[u8; 256],
+    sign: bool,
+    first: usize,
+    mark: usize,
+    c: &[u8],
+    out: &mut [u8],
+    at: usize,
+) -> usize
+    requires { ⌜ (first ≤ 5) × (length (now c) ≤ 10000) × (at ≤ 300000) ⌝ }
+    ensures { λ r. ⌜ (r ≤ at + length (now (c .entry)) + 7) × Puts (tabbed (toldBy (now (back .entry)) sign first mark (linesIn (now (c .entry))))) (now (out .entry)) at r (now (out .exit)) ⌝ }
+{
+    let e = mark_at(13, c, 0);
+    let n = put_part(back, false, digits_of(sign, past(&c[..e], first)), out, at);
+    put(out, n, b"\t");
+    put_over(back, sign, first + code_size(sign), mark, c, out, n + 1)
+}
+
+// 72 of a 202: what follows /RPP/ or an empty part, then VO digits and text.
+fn put_note(back: &[u8; 256], sign: bool, c: &[u8], out: &mut [u8], at: usize) -> usize
+    requires { ⌜ (length (now c) ≤ 10000) × (at ≤ 200000) ⌝ }
+    ensures { λ r. ⌜ (r ≤ at + length (now (c .entry)) + 8) × Puts (tabbed (noteBy (now (back .entry)) sign (linesIn (now (c .entry))))) (now (out .entry)) at r (now (out .exit)) ⌝ }
+{
+    let e = mark_at(13, c, 0);
+    if !is_rpp(&c[..e]) {
+        put(out, at, b"\t");
+        return put_told(back, sign, 5, 2, c, out, at + 1);
+    }
+    let n = put_part(back, false, past(&c[..e], 5), out, at);
+    if c.len() <= e {
+        return n;
+    }
+    let i = next_line(e, c.len());
+    put_told(back, sign, 5, 2, &c[i..], out, n)
+}
+
+// The parts of a content, each behind a tab, by the shape of its tag.
+pub(crate) fn put_content(
+    back: &[u8; 256],
+    shape: Shape,
+    sign: bool,
+    c: &[u8],
+    out: &mut [u8],
+    at: usize,
+) -> usize
+    requires { ⌜ (length (now c) ≤ 10000) × (at ≤ 200000) ⌝ }
+    ensures { λ r. ⌜ (r ≤ at + length (now (c .entry)) + 8) × Puts (tabbed (contentBy (now (back .entry)) sign shape (linesIn (now (c .entry))))) (now (out .entry)) at r (now (out .exit)) ⌝ }
+{
+    match shape {
+        Shape::Details => put_told(back, sign, 0, 0, c, out, at),
+        Shape::Note103 => put_lines(back, sign, Role::Copies, 5, c, out, at),
+        Shape::Note202 => put_note(back, sign, c, out, at),
+        _ => put_lines(back, sign, first_role(shape), 0, c, out, at),
+    }
+}

@@ -1,0 +1,197 @@
+-- Details that are right are the code and a text over the lines of their field, and what is broken into such lines is right: the code whole in
+-- the first line behind its mark, text there or on a later line; and perhaps an RPP line before (B1-B3, C70, C72, Cdetails, Crpp). Assumes
+-- nothing.
+use Prim.Native.Nat.{ℕ, zero, suc, _+_, _≤_}
+use Prim.Native.String.{String}
+use mathlib.Core.Path.{_≡_, refl, sym, ap, ap₂, _∙_}
+use mathlib.Core.Bool.{Bool, true, false, not, _&&_, _||_, true≢false}
+use mathlib.Core.Logic.{inl, inr}
+use mathlib.Core.List.{List, [], _∷_, _++_, map, tail, append-assoc}
+use native.Mathlib.Omega.{arith}
+use lib.Dec.{eqb}
+use lib.ListN.{length, take, drop, replicate, length-append, length-map, take-append-drop}
+use lib.Seq.{take-append-le, drop-append-le, take-append-seam, drop-append-seam}
+use borrow.Author.Tests.{eqb-true, eq-eqb}
+use Rattle.base.specs.Choice.{all}
+use Rattle.base.specs.Bytes.{empty, isIn}
+use Rattle.base.specs.Quoted.{bytes}
+use Rattle.base.specs.Says.{Not}
+use Rattle.base.proofs.Bools.{left, right, both}
+use Rattle.fields.specs.Shapes.{goesOn}
+use Rattle.contents.specs.Words.{Size, join, behind}
+use Rattle.contents.specs.Lines.{opening, closing}
+use Rattle.contents.specs.Fields as fields
+use Rattle.contents.specs.Fields.{Each, One, IsRpp, Details, RppAndDetails}
+use Rattle.roles.specs.Speech.{codeSize}
+use Rattle.records.specs.Rule19.{digits}
+use Rattle.details.specs.Lines.{together, Later, none, line, Division, lines}
+use Rattle.details.specs.Breaking.{opens}
+use Rattle.details.specs.Layouts.{layout, marked}
+use Rattle.details.specs.declared.Place.{Place}
+use Rattle.details.specs.declared.Place.the-variants.{In70, In72, BehindRpp}
+use Rattle.lines.specs.Spread.{code, rppLine}
+use Rattle.written.proofs.CastLaws.{code-size}
+
+-- ---- details by their place: in 70; in 72 of a 202; there behind an RPP line
+abbrev pub IsIn : Place → Bool → List (List ℕ) → Type 0
+IsIn In70 s ls = fields.In70 s ls
+IsIn In72 s ls = fields.In72 s 6 ls
+IsIn BehindRpp s ls = fields.In72 s 5 ls
+
+-- what the grammar says of a place is its layout: the marks, the room behind them, and how many lines may follow
+record As (p : Place) (first later : String) (room rest more : ℕ) : Type 0 where
+  mark : layout p .mark ≡ bytes first
+  next : layout p .next ≡ bytes later
+  widths : layout p .widths ≡ room ∷ replicate more rest
+  wide : length (bytes first) + room ≡ 35
+
+as-70 : As In70 "" "" 35 35 3
+as-70 = record { mark = refl; next = refl; widths = refl; wide = refl }
+
+as-72 : As In72 "/NZP/" "//" 30 33 5
+as-72 = record { mark = refl; next = refl; widths = refl; wide = refl }
+
+as-behind : As BehindRpp "/NZP/" "//" 30 33 4
+as-behind = record { mark = refl; next = refl; widths = refl; wide = refl }
+
+-- the code
+code-on : (s : Bool) (vo t : List ℕ) → join (opening s ∷ vo ∷ closing s ∷ t ∷ []) ≡ code s vo ++ t
+code-on true vo t = ap (λ (k : List ℕ). bytes "'(VO" ++ k) (sym (append-assoc vo (bytes ")'") t))
+code-on false vo t = ap (λ (k : List ℕ). bytes "(VO" ++ k) (sym (append-assoc vo (bytes ")") t))
+
+-- ---- details: their lines, without marks
+pub record Told (p : Place) (s : Bool) (ls : List (List ℕ)) : Type 0 where
+  pub vo : List ℕ
+  pub text : List ℕ
+  pub texts : List (List ℕ)
+  pub is : ls ≡ marked (layout p) ((code s vo ++ text) ∷ texts)
+  pub five : digits 5 vo ≡ true
+  pub short : length (layout p .mark ++ (code s vo ++ text)) ≤ 35
+  pub later : Later (opens (layout p .barred)) (tail (layout p .widths)) texts
+  pub some : empty (text ++ together texts) ≡ false
+
+-- what goes on as 4 wants it opens a later line lawfully
+lawful : (p : Place) (x : ℕ) (l : List ℕ) → goesOn (layout p .next ++ x ∷ l) ≡ true → opens (layout p .barred) x ≡ true
+unfolding opens isIn
+lawful In70 x l e = go (eqb x 58) (eqb x 45) e
+  where
+    go : (a b : Bool) → (not b && not a) ≡ true → not (a || (b || false)) ≡ true
+    go true true e = e
+    go true false e = e
+    go false true e = e
+    go false false e = e
+lawful In72 x l e = refl
+lawful BehindRpp x l e = refl
+
+later-of : (p : Place) (n w : ℕ) (ts : List (List ℕ)) → Each (Size 1 w) ts → length ts ≤ n → all goesOn (map (λ (k : List ℕ). layout p .next ++ k) ts) ≡ true
+    → Later (opens (layout p .barred)) (replicate n w) ts
+later-of p n w [] e h g = none
+later-of p n w ([] ∷ ts) e h g = absurd (omega (arith, e .0 .least))
+later-of p zero w ((x ∷ l) ∷ ts) e h g = absurd (omega arith)
+later-of p (suc n) w ((x ∷ l) ∷ ts) e h g =
+    line (e .0 .most) (lawful p x l (left (goesOn (layout p .next ++ x ∷ l)) _ g)) (later-of p n w ts (e .1) (omega arith) (right (goesOn (layout p .next ++ x ∷ l)) _ g))
+
+later-each : {ok : ℕ → Bool} (n w : ℕ) {ts : List (List ℕ)} → Later ok (replicate n w) ts → Each (Size 1 w) ts × (length ts ≤ n)
+later-each zero w none = (tt, omega arith)
+later-each (suc n) w none = (tt, omega arith)
+later-each (suc n) w (line h o m) = let r = later-each n w m in ((record { least = omega arith; most = h }, r .0), omega (arith, r .1))
+
+some-text : (w : ℕ) (t : List ℕ) (ts : List (List ℕ)) → Each (Size 1 w) ts → Not ((t ≡ []) × (ts ≡ [])) → empty (t ++ together ts) ≡ false
+some-text w (x ∷ t) ts e n = refl
+some-text w [] [] e n = absurd (n (refl, refl))
+some-text w [] ([] ∷ ts) e n = absurd (omega (arith, e .0 .least))
+some-text w [] ((x ∷ l) ∷ ts) e n = refl
+
+module _ {p : Place} {first later : String} {room rest more : ℕ} (a : As p first later room rest more) (s : Bool) where
+  -- the lines, as the grammar and as the layout have them
+  lines-as : (vo t : List ℕ) (ts : List (List ℕ))
+      → join (bytes first ∷ opening s ∷ vo ∷ closing s ∷ t ∷ []) ∷ map (λ (k : List ℕ). bytes later ++ k) ts ≡ marked (layout p) ((code s vo ++ t) ∷ ts)
+  lines-as vo t ts = rw (a .mark, a .next, code-on s vo t)
+
+  told-by : {vo t : List ℕ} {ts ls : List (List ℕ)} → Details first later room rest (suc more) s vo t ts ls → all goesOn (tail ls) ≡ true → Told p s ls
+  unfolding digits
+  told-by {vo} {t} {ts} {ls} d g =
+      let e : ls ≡ marked (layout p) ((code s vo ++ t) ∷ ts) = d .lines ∙ lines-as vo t ts in
+      let n = length-map ts (λ (k : List ℕ). layout p .next ++ k) in
+      let c : length (code s vo ++ t) ≤ room = rw (code-on s vo t) at (d .front) in
+      record {
+        vo = vo;
+        text = t;
+        texts = ts;
+        is = e;
+        five = both (eq-eqb (length vo) 5 (d .number .size)) (d .number .each);
+        short = rw (a .mark) (omega (arith, length-append (bytes first) (code s vo ++ t), a .wide));
+        later = rw (a .widths) (later-of p more rest ts (d .back) (omega (arith, d .count, ap length e)) (rw e at g));
+        some = some-text rest t ts (d .back) (d .text);
+      }
+
+  -- the code stands whole in the first line, so behind it stands the text
+  pass-by : (vo text : List ℕ) {least : ℕ} {ws : List ℕ} {ls : List (List ℕ)} → digits 5 vo ≡ true → length (code s vo) ≡ least → empty text ≡ false → ws ≡ layout p .widths
+      → Division (opens (layout p .barred)) least (code s vo ++ text) ws ls → (vo t : List ℕ) × (ts : List (List ℕ)) × Details first later room rest (suc more) s vo t ts (marked (layout p) ls)
+  unfolding digits
+  pass-by vo text f z e i (lines {w} {ws} {l} {ls} o c h m j) =
+      let n : ℕ = length (code s vo) in
+      let k : n ≤ length l = omega arith in
+      let r : List ℕ = drop n l in
+      let u : l ≡ code s vo ++ r =
+      sym (take-append-drop n l) ∙ ap (λ (x : List ℕ). x ++ r) (sym (take-append-le n l (together ls) k) ∙ ap (take n) j ∙ take-append-seam (code s vo) text) in
+      let v : r ++ together ls ≡ text = sym (drop-append-le n l (together ls) k) ∙ ap (drop n) j ∙ drop-append-seam (code s vo) text in
+      let q : w ∷ ws ≡ room ∷ replicate more rest = i ∙ a .widths in
+      let b : w ≡ room = cc in
+      let g : ws ≡ replicate more rest = cc in
+      let y = later-each more rest (rw g at m) in (
+        vo,
+        r,
+        ls,
+        record {
+          number = record { size = eqb-true (length vo) 5 (left (eqb (length vo) 5) _ f); each = right (eqb (length vo) 5) _ f };
+          lines = ap (λ (x : List ℕ). marked (layout p) (x ∷ ls)) u ∙ sym (lines-as vo r ls);
+          front = rw (code-on s vo r) (omega (arith, ap length u));
+          back = y .0;
+          count = omega (arith, y .1, length-map ls (λ (k : List ℕ). layout p .next ++ k));
+          text = λ x. true≢false (ap₂ (λ (b : List ℕ) (bs : List (List ℕ)). empty (b ++ together bs)) (sym (x .0)) (sym (x .1)) ∙ ap empty v ∙ e);
+        },
+      )
+
+pub told-lines : (p : Place) (s : Bool) (ls : List (List ℕ)) → IsIn p s ls → all goesOn (tail ls) ≡ true → Told p s ls
+told-lines In70 s ls d g = told-by as-70 s (d .3) g
+told-lines In72 s ls d g = told-by as-72 s (d .3) g
+told-lines BehindRpp s ls d g = told-by as-behind s (d .3) g
+
+-- ---- an RPP line, and nothing or details behind it
+pub rpp-line : (l : List ℕ) → IsRpp l → (r : List ℕ) × (l ≡ rppLine r) × (empty r ≡ false)
+rpp-line l (number, date, turn, way, value, d) =
+    let r : List ℕ = join (bytes "." ∷ date ∷ bytes "." ∷ turn ∷ bytes "." ∷ way ∷ behind "." value ∷ []) in
+    (number ++ r, d .line, go number r (d .serial .least))
+  where
+    go : (a b : List ℕ) → 1 ≤ length a → empty (a ++ b) ≡ false
+    go [] b h = absurd (omega arith)
+    go (x ∷ a) b h = refl
+
+pub rpp-alone : (ls : List (List ℕ)) → One IsRpp ls → (r : List ℕ) × (ls ≡ rppLine r ∷ []) × (empty r ≡ false)
+rpp-alone [] d = absurd d
+rpp-alone (l ∷ []) d = let w = rpp-line l d in (w .0, ap (λ (k : List ℕ). k ∷ []) (w .1), w .2)
+rpp-alone (l ∷ k ∷ ls) d = absurd d
+
+-- 72 of a 202
+pub data Note (s : Bool) (ls : List (List ℕ)) : Type 0 where
+  with-rpp : (r : List ℕ) (ks : List (List ℕ)) → ls ≡ rppLine r ∷ ks → empty r ≡ false → Told BehindRpp s ks → Note s ls
+  without : Told In72 s ls → Note s ls
+
+pub note-lines : (s : Bool) (ls : List (List ℕ)) → RppAndDetails s ls → all goesOn (tail ls) ≡ true → Note s ls
+note-lines s ls (inl d) g = without (told-lines In72 s ls d g)
+note-lines s [] (inr d) g = absurd d
+note-lines s (l ∷ ls) (inr d) g =
+    let w = rpp-line l (d .0) in
+    with-rpp (w .0) ls (ap (λ (k : List ℕ). k ∷ ls) (w .1)) (w .2) (told-lines BehindRpp s ls (d .1) (on ls g))
+  where
+    on : (ls : List (List ℕ)) → all goesOn ls ≡ true → all goesOn (tail ls) ≡ true
+    on [] g = refl
+    on (l ∷ ls) g = right (goesOn l) _ g
+
+-- ---- details broken into lines are right
+pub divided-pass : (p : Place) (s : Bool) (vo : List ℕ) → digits 5 vo ≡ true → {ws : List ℕ} {ls : List (List ℕ)} (text : List ℕ) → empty text ≡ false → ws ≡ layout p .widths
+    → Division (opens (layout p .barred)) (codeSize s) (code s vo ++ text) ws ls → IsIn p s (marked (layout p) ls)
+divided-pass In70 s vo f text e i d = pass-by as-70 s vo text f (code-size s vo f) e i d
+divided-pass In72 s vo f text e i d = pass-by as-72 s vo text f (code-size s vo f) e i d
+divided-pass BehindRpp s vo f text e i d = pass-by as-behind s vo text f (code-size s vo f) e i d

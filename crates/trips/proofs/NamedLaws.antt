@@ -1,0 +1,147 @@
+-- Rule 8 lets pass names that are written again: those of 50K, 59, 58D, 56D and 57D (C50K, C59, C58D, C56D, C57D). Assumes nothing.
+use Prim.Native.Nat.{ℕ, _≤_}
+use mathlib.Core.Path.{_≡_, refl, sym, ap, _∙_, subst}
+use mathlib.Core.Bool.{Bool, true, false, true≢false, false≢true}
+use mathlib.Core.Logic.{inl, inr}
+use mathlib.Core.List.{List, [], _∷_, map}
+use native.Mathlib.Omega.{arith}
+use lib.Dec.{eqb}
+use lib.ListN.{length, length-map}
+use borrow.Author.Tests.{eqb-true}
+use Rattle.base.specs.Choice.{pick}
+use Rattle.base.specs.Bytes.{begins, empty, digit}
+use Rattle.base.specs.Quoted.{bytes}
+use Rattle.base.specs.Says.{Says}
+use Rattle.base.proofs.Bools.{left, right}
+use Rattle.base.proofs.SaysLaws.{is-so, says-by}
+use Rattle.fields.specs.Field.{field}
+use Rattle.contents.specs.declared.Content.{Content}
+use Rattle.contents.specs.declared.Content.the-variants as holds
+use Rattle.contents.specs.Lines.{Name}
+use Rattle.contents.specs.Fields.{LooksTax, IsAccount, Each, Names, BankByName, Beside, Customer, Payer, Right}
+use Rattle.contents.specs.Tags.{heldBy}
+use Rattle.contents.specs.Rule8.{rightField}
+use Rattle.contents.proofs.RuleLaws.{field-says}
+use Rattle.contents.proofs.LineTests.{begins-says}
+use Rattle.contents.proofs.FieldLaws.{tax-looks}
+use Rattle.values.specs.Values.{isTax, starts}
+use Rattle.roles.specs.Role.{copy, name, taxName, taxed, cast, shapeFor, shapeOf}
+use Rattle.roles.specs.declared.Shape.the-variants as shape
+use Rattle.written.specs.Sentences.{Every}
+use Rattle.trips.specs.Again.{again, lineAgain, fieldAgain}
+use Rattle.trips.proofs.Held.{Held, Kept, KeptPart, LineByLine}
+use Rattle.trips.proofs.NameLaws.{held-kept, held-lines}
+
+-- ---- a line begins INN and a digit exactly if 13 takes it for a tax line
+tax-says : (l : List ℕ) → Says (LooksTax l) (isTax l)
+unfolding isTax digit
+tax-says l = says-by (made l) (λ t. ap isTax (t .2 .line) ∙ t .2 .digit-first)
+  where
+    made : (l : List ℕ) → isTax l ≡ true → LooksTax l
+    made [] e = absurd (false≢true e)
+    made (a ∷ []) e = absurd (false≢true (right (starts (bytes "INN") (a ∷ [])) _ e))
+    made (a ∷ b ∷ []) e = absurd (false≢true (right (starts (bytes "INN") (a ∷ b ∷ [])) _ e))
+    made (a ∷ b ∷ c ∷ []) e = absurd (false≢true (right (starts (bytes "INN") (a ∷ b ∷ c ∷ [])) _ e))
+    made (a ∷ b ∷ c ∷ d ∷ s) e =
+        let w = left (starts (bytes "INN") (a ∷ b ∷ c ∷ d ∷ s)) _ e in
+        let p = right (eqb a 73) _ w in
+        let i = eqb-true a 73 (left (eqb a 73) _ w) in
+        let j = eqb-true b 78 (left (eqb b 78) _ p) in
+        let k = eqb-true c 78 (left (eqb c 78) _ (right (eqb b 78) _ p)) in
+        (d, s, record { digit-first = right (starts (bytes "INN") (a ∷ b ∷ c ∷ d ∷ s)) _ e; line = cc })
+
+account-slash : (l : List ℕ) → IsAccount l → begins 47 l ≡ true
+account-slash l a = is-so (begins-says l) (a .0, a .1 .line)
+
+module _ (s : Bool) where
+  -- ---- names
+  name-pass : (l : List ℕ) → Kept s l → Name l → Name (again s l)
+  name-pass l k n = record { least = go (again s l) (k .some); most = omega (arith, k .slim, n .most) }
+    where
+      go : (l : List ℕ) → empty l ≡ false → 1 ≤ length l
+      go [] e = absurd (true≢false e)
+      go (x ∷ l) e = omega arith
+
+  each-pass : (ls : List (List ℕ)) → Every (KeptPart s) (map name ls) → Each Name ls → Each Name (map (lineAgain s) (map name ls))
+  each-pass [] k e = tt
+  each-pass (l ∷ ls) k e = (name-pass l (k .0) (e .0), each-pass ls (k .1) (e .1))
+
+  names-pass : {n : ℕ} (ls : List (List ℕ)) → Every (KeptPart s) (map name ls) → Names n ls → Names n (map (lineAgain s) (map name ls))
+  names-pass ls k p =
+      let z = length-map (map name ls) (lineAgain s) ∙ length-map ls name in
+      let a = p .least in
+      let b = p .most in
+      record { least = omega arith; most = omega arith; each = each-pass ls k (p .each) }
+
+  -- ---- the tax place: a tax line is copied, and a name there does not become one
+  tax-pass : (twelve : Bool) (ls : List (List ℕ)) → Every (KeptPart s) (taxed ls) → Beside twelve ls → Beside twelve (map (lineAgain s) (taxed ls))
+  tax-pass twelve [] k r = r
+  tax-pass twelve (l ∷ ls) k r = go (isTax l) refl (k .0) r
+    where
+      go : (b : Bool) → isTax l ≡ b → KeptPart s (pick b (copy l) (taxName l)) → Beside twelve (l ∷ ls) → Beside twelve (map (lineAgain s) (pick b (copy l) (taxName l) ∷ map name ls))
+      go true e a (inl t) = inl (t .0, names-pass ls (k .1) (t .1))
+      go true e a (inr n) = absurd (n .0 (tax-says l .so e, tt))
+      go false e a (inl t) = absurd (tax-says l .not-so e (tax-looks twelve l (t .0)))
+      go false e a (inr n) = inr (λ t. tax-says (again s l) .not-so (a .untaxed-again) (t .0), names-pass (l ∷ ls) (a .as-name, k .1) (n .1))
+
+  -- ---- by shape: the first line is an account or a party line, which stays, or in 50K the tax place
+  customer-pass : (twelve : Bool) (ls : List (List ℕ)) → Every (KeptPart s) (cast shape.Payee ls) → Customer twelve ls → Customer twelve (map (lineAgain s) (cast shape.Payee ls))
+  unfolding cast
+  customer-pass twelve [] k r = r
+  customer-pass twelve (l ∷ ls) k r = rw (account-slash l (r .0)) (r .0, tax-pass twelve ls (k .1) (r .1))
+
+  slash-pass : (b : Bool) (l : List ℕ) → KeptPart s (pick b (copy l) (taxName l)) → begins 47 (lineAgain s (pick b (copy l) (taxName l))) ≡ begins 47 l
+  slash-pass true l a = refl
+  slash-pass false l a = a .as-name .slash
+
+  payer-pass : (ls : List (List ℕ)) → Every (KeptPart s) (cast shape.Payer ls) → Payer ls → Payer (map (lineAgain s) (cast shape.Payer ls))
+  unfolding cast
+  payer-pass [] k r = r
+  payer-pass (l ∷ ls) k r = go (begins 47 l) refl k r
+    where
+      go : (b : Bool) → begins 47 l ≡ b → Every (KeptPart s) (pick b (copy l ∷ taxed ls) (taxed (l ∷ ls))) → Payer (l ∷ ls)
+          → Payer (map (lineAgain s) (pick b (copy l ∷ taxed ls) (taxed (l ∷ ls))))
+      go true e k (inl c) = inl (c .0, tax-pass true ls (k .1) (c .1))
+      go true e k (inr p) = absurd (p .0 (begins-says l .so e, tt))
+      go false e k (inl c) = absurd (true≢false (sym (account-slash l (c .0)) ∙ e))
+      go false e k (inr p) = inr (λ x. begins-says (lineAgain s (pick (isTax l) (copy l) (taxName l))) .not-so (slash-pass (isTax l) l (k .0) ∙ e) (x .0), tax-pass true (l ∷ ls) k (p .1))
+
+  agent-pass : (ls : List (List ℕ)) → Every (KeptPart s) (cast shape.Agent ls) → BankByName ls → BankByName (map (lineAgain s) (cast shape.Agent ls))
+  unfolding cast
+  agent-pass [] k r = r
+  agent-pass (l ∷ ls) k r = (r .0, names-pass ls (k .1) (r .1))
+
+  -- copied lines stay
+  copies-same : (ls : List (List ℕ)) → map (lineAgain s) (map copy ls) ≡ ls
+  copies-same [] = refl
+  copies-same (l ∷ ls) = ap (λ (k : List (List ℕ)). l ∷ k) (copies-same ls)
+
+  plain-pass : (c : Content) (ls : List (List ℕ)) → Right c s ls → Right c s (map (lineAgain s) (cast shape.Plain ls))
+  unfolding cast
+  plain-pass c ls r = rw (copies-same ls) r
+
+  pub lines-pass : (c : Content) (ls : List (List ℕ)) → LineByLine (shapeFor c) → Every (KeptPart s) (cast (shapeFor c) ls) → Right c s ls
+      → Right c s (map (lineAgain s) (cast (shapeFor c) ls))
+  lines-pass holds.Payer ls v k r = payer-pass ls k r
+  lines-pass holds.BankByName ls v k r = agent-pass ls k r
+  lines-pass holds.BeneficiaryBank ls v k r = customer-pass false ls k r
+  lines-pass holds.Beneficiary ls v k r = customer-pass true ls k r
+  lines-pass holds.Unknown ls v k r = plain-pass holds.Unknown ls r
+  lines-pass holds.Reference ls v k r = plain-pass holds.Reference ls r
+  lines-pass holds.Related ls v k r = plain-pass holds.Related ls r
+  lines-pass holds.Operation ls v k r = plain-pass holds.Operation ls r
+  lines-pass holds.Purpose ls v k r = plain-pass holds.Purpose ls r
+  lines-pass holds.Payment ls v k r = plain-pass holds.Payment ls r
+  lines-pass holds.BankByBic ls v k r = plain-pass holds.BankByBic ls r
+  lines-pass holds.OwnAccount ls v k r = plain-pass holds.OwnAccount ls r
+  lines-pass holds.AccountAndBic ls v k r = plain-pass holds.AccountAndBic ls r
+  lines-pass holds.Charges ls v k r = plain-pass holds.Charges ls r
+  lines-pass holds.Regulatory ls v k r = plain-pass holds.Regulatory ls r
+
+-- ---- 8, of a field written again
+pub named-again : (kind : ℕ) (s : Bool) (t : List ℕ) (ls : List (List ℕ)) → LineByLine (shapeOf kind t) → Held kind s t ls → rightField kind s (fieldAgain kind s (field t ls)) ≡ true
+unfolding shapeOf
+named-again kind s t ls v h =
+    let c : Content = heldBy kind t in
+    field-says kind s (fieldAgain kind s (field t ls)) .1
+    (subst (Right c s) (sym (held-lines kind s t ls v h)) (lines-pass s c ls v (held-kept kind s t ls v h) (field-says kind s (field t ls) .0 (h .right))))

@@ -1,0 +1,32 @@
+-- No field that 8 lets pass is long (N8, section C). Assumes nothing.
+use Prim.Native.Nat.{ℕ, _*_, _≤_}
+use mathlib.Core.Path.{_≡_}
+use mathlib.Core.Bool.{Bool, true, false, false≢true}
+use mathlib.Core.List.{List, [], _∷_}
+use native.Mathlib.Omega.{arith}
+use lib.ListN.{length, length-append}
+use Rattle.base.specs.Bytes.{digit, capital}
+use Rattle.base.proofs.Bools.{right}
+use Rattle.fields.specs.Field.{field, lined, laid}
+use Rattle.fields.specs.Places.{sizeOf}
+use Rattle.fields.specs.Shapes.{shaped}
+use Rattle.fields.proofs.FieldLaws.{laid-size}
+use Rattle.contents.specs.Tags.{heldBy}
+use Rattle.contents.specs.Rule8.{rightField}
+use Rattle.contents.proofs.RuleLaws.{field-says}
+use Rattle.contents.proofs.SizeLaws.{right-size}
+
+-- a tag has three bytes at most
+tag-short : (t : List ℕ) → shaped t ≡ true → length t ≤ 3
+unfolding shaped
+tag-short [] e = omega arith
+tag-short (a ∷ []) e = omega arith
+tag-short (a ∷ b ∷ []) e = omega arith
+tag-short (a ∷ b ∷ c ∷ []) e = omega arith
+tag-short (a ∷ b ∷ c ∷ d ∷ r) e = absurd (false≢true (right (capital c) false (right (digit b) _ (right (digit a) _ e))))
+
+pub right-short : (kind : ℕ) (s : Bool) (t : List ℕ) (ls : List (List ℕ)) → shaped t ≡ true → rightField kind s (field t ls) ≡ true → length (laid (lined (field t ls))) ≤ 300
+right-short kind s t [] e r = omega arith
+right-short kind s t (l ∷ ls) e r =
+    let b : sizeOf (l ∷ ls) ≤ 37 * 6 = right-size (heldBy kind t) s (l ∷ ls) (field-says kind s (field t (l ∷ ls)) .0 r) in
+    omega (arith, tag-short t e, length-append t (58 ∷ l), laid-size (lined (field t (l ∷ ls))))
