@@ -8,4 +8,5 @@ pub mod DayLaws
 pub mod MoneyLaws
 pub mod PartLaws
 pub mod FaultLaws
+pub mod GrammarLaws
 pub mod Examples

@@ -29,7 +29,7 @@ first-byte [] (k ∷ ls) = refl
 first-byte (x ∷ l) [] = refl
 first-byte (x ∷ l) (k ∷ ls) = refl
 
-place-is : (payer : Bool) (l : List ℕ) (ls : List (List ℕ)) (b : Bool) → (payer && not (begins 47 l)) ≡ b → without 13 l ≡ true → taxPlace payer (joined (l ∷ ls)) ≡ pick b 0 (length l + 2)
+pub place-is : (payer : Bool) (l : List ℕ) (ls : List (List ℕ)) (b : Bool) → (payer && not (begins 47 l)) ≡ b → without 13 l ≡ true → taxPlace payer (joined (l ∷ ls)) ≡ pick b 0 (length l + 2)
 unfolding taxPlace
 place-is payer l ls b e n =
     ap (λ (q : Bool). pick (payer && not q) 0 (length (upto 13 (joined (l ∷ ls))) + 2)) (first-byte l ls)
