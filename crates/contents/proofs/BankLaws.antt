@@ -1,17 +1,17 @@
 -- 53B, BICs and party lines: their tests and their pieces. Assumes nothing.
 use Rattle.base.specs.Says.{Not}
-use Prim.Native.Nat.{ℕ, _+_, _≤_, _<_}
+use Prim.Native.Nat.{ℕ, _+_, _≤_}
 use mathlib.Core.Path.{_≡_, refl, sym, ap, _∙_}
 use mathlib.Core.Logic.{_⊎_, inl, inr, ⊎-elim}
 use mathlib.Core.Bool.{true, false, false≢true}
-use mathlib.Core.List.{List, [], _∷_, _++_}
+use mathlib.Core.List.{List, [], _∷_}
 use native.Mathlib.Omega.{arith}
 use lib.ListN.{length, take, drop}
 use lib.Seq.{take-take}
 use Rattle.base.specs.Quoted.{bytes}
-use Rattle.contents.specs.Words.{Text, Line, Digits, Capitals, CapitalsOrDigits, Perhaps, behind}
-use Rattle.contents.specs.Lines.{OwnAccount, Bic, PartyByBik, PartyByAccount}
-use Rattle.contents.specs.Fields.{IsOwnAccount, IsBic, IsParty, One, Then, BankByBic}
+use Rattle.contents.specs.Words.{Text, Line, Digits, Capitals, CapitalsOrDigits, Perhaps}
+use Rattle.contents.specs.Lines.{PartyByBik, PartyByAccount}
+use Rattle.contents.specs.Fields.{IsOwnAccount, IsBic, IsParty, One, BankByBic}
 use Rattle.contents.specs.declared.lines.Party.{Party}
 use Rattle.contents.specs.declared.lines.Party.the-variants as party
 use Rattle.contents.specs.Answers.{cut, PartySaid, IsA, noParty}

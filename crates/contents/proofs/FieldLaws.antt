@@ -1,26 +1,23 @@
 -- The lines of a field: the first and the others; names; the tax place. Assumes nothing.
 use Rattle.base.specs.Says.{Not, _or_}
-use Prim.Native.Nat.{ℕ, suc, _+_, _-_, _≤_, _<_, min}
+use Prim.Native.Nat.{ℕ, _+_, _-_, _≤_, _<_, min}
 use mathlib.Core.Path.{_≡_, refl, sym, ap, _∙_}
-use mathlib.Core.Bool.{Bool, true, false}
+use mathlib.Core.Bool.{Bool, true}
 use mathlib.Core.Logic.{_⊎_, inl, inr, ⊎-elim}
-use mathlib.Core.List.{List, [], _∷_, _++_}
+use mathlib.Core.List.{List, [], _∷_}
 use native.Mathlib.Omega.{arith}
 use native.Mathlib.Decide.{decLt}
 use lib.ListN.{length, take, drop, drop-of-length-le}
 use lib.Seq.{length-take-le, getD-take}
 use Rattle.base.specs.Bytes.{upTo, byte, digit}
-use Rattle.base.specs.Quoted.{bytes}
 use Rattle.base.proofs.MarkLaws.{up-rest, up-pass}
 use Rattle.fields.specs.Lines.{split, linesIn}
 use Rattle.fields.proofs.ContentLaws.{lines-last, lines-more}
 use Rattle.contents.proofs.Laws.{kind-at, head-tail}
 use Rattle.contents.proofs.LineLaws.{looks-tax, account-size}
 use Rattle.contents.proofs.TaxLaws.{tax-tests, inn-range}
-use Rattle.contents.specs.Words.{Text, Line}
-use Rattle.contents.specs.Lines.{Name}
+use Rattle.contents.specs.Words.{Text, Line, BeginsWith}
 use Rattle.contents.specs.Fields.{LooksTax, IsTax, IsAccount, Then, Any, Names, Several, Beside, Customer, Payer}
-use Rattle.contents.specs.Words.{BeginsWith}
 use Rattle.contents.specs.Answers.{BesideSaid, CustomerSaid, PayerSaid}
 use Rattle.contents.specs.declared.whole.Held.{Held}
 use Rattle.contents.specs.declared.whole.Held.the-variants as held

@@ -1,23 +1,21 @@
 -- The tests of whole fields are exact: `right` says whether the grammar's `Right` holds (section C, N8). Assumes nothing.
-use Prim.Native.Nat.{ℕ, suc, _+_, _≤_}
+use Prim.Native.Nat.{ℕ, _+_, _≤_}
 use Prim.Native.String.{String}
 use mathlib.Core.Path.{_≡_, refl, sym, ap, ap₂, _∙_, subst}
-use mathlib.Core.Bool.{Bool, true, false, not, _&&_, _||_, true≢false, false≢true}
-use mathlib.Core.Logic.{inl, inr}
+use mathlib.Core.Bool.{Bool, true, false, true≢false}
 use mathlib.Core.List.{List, [], _∷_, _++_, map}
-use native.Mathlib.Omega.{arith}
-use lib.ListN.{length, take, drop, length-append}
+use lib.ListN.{length, length-append}
 use Rattle.base.specs.Choice.{all}
-use Rattle.base.specs.Bytes.{digit, begins, empty, same}
+use Rattle.base.specs.Bytes.{digit, empty, same}
 use Rattle.base.specs.Quoted.{bytes}
 use Rattle.base.specs.Says.{Not, _or_, Says}
-use Rattle.base.proofs.SaysLaws.{says-so, says-not, says-by, says-as, says-and, says-or, says-no, says-le, says-text, says-empty}
+use Rattle.base.proofs.SaysLaws.{says-so, says-not, says-as, says-and, says-or, says-no, says-le, says-text, says-empty}
 use Rattle.contents.specs.declared.Content.{Content}
 use Rattle.contents.specs.declared.Content.the-variants as holds
-use Rattle.contents.specs.Words.{Text, Line, Size, Digits, join, BeginsWith}
+use Rattle.contents.specs.Words.{Text, Line, Size, Digits, join}
 use Rattle.contents.specs.Lines.{Name, opening, closing}
-use Rattle.contents.specs.Fields.{One, Then, Any, Each, Several, Names, Beside, Customer, Payer, Details, In70, In72, RppAndDetails, Regulatory, Right}
-use Rattle.contents.specs.Tests.{sized, cutBy, piece, just, starts, sizes, isName, one, after, any, several, beside, customer, payer, codeParts, codeTest, laterTest, details, in72, right}
+use Rattle.contents.specs.Fields.{One, Then, Any, Each, Several, Names, Beside, Customer, Payer, Details, Right}
+use Rattle.contents.specs.Tests.{sized, piece, sizes, isName, one, after, any, several, beside, customer, payer, codeParts, codeTest, laterTest, details, right}
 use Rattle.contents.proofs.CutLaws.{cut-whole, cut-once}
 use Rattle.contents.proofs.LineTests.{size-says, just-says, starts-says, begins-says, reference-says, purpose-says, payment-says, own-says, account-says, looks-says, party-says, bic-says, tax-says, rpp-says}
 

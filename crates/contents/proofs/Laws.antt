@@ -3,21 +3,18 @@ use Rattle.base.specs.Says.{Not, Says}
 use Prim.Native.Nat.{ℕ, zero, suc, _+_, _-_, _≤_, _<_}
 use Prim.Native.String.{String}
 use mathlib.Core.Path.{_≡_, refl, sym, ap, _∙_}
-use mathlib.Core.Bool.{Bool, true, false, not, _&&_, false≢true}
-use mathlib.Core.Logic.{_⊎_, inl, inr}
-use mathlib.Core.List.{List, [], _∷_, _++_, append-nil}
+use mathlib.Core.Bool.{Bool, true, false, _&&_, false≢true}
+use mathlib.Core.List.{List, [], _∷_, _++_}
 use native.Mathlib.Numerals.{add-one}
-use native.Mathlib.Nat.{add-zero}
 use native.Mathlib.Omega.{arith}
 use native.Mathlib.Decide.{decLt}
-use borrow.Author.Tests.{not-true, not-false}
 use lib.ListN.{length, take, drop, drop-of-length-le, length-drop, length-append, take-append-drop}
 use lib.Seq.{drop-cons, take-suc, take-all, take-length, length-take-le, getD-drop, getD-take, drop-drop, take-at, drop-at}
 use Rattle.base.specs.Choice.{all}
 use Rattle.base.specs.Bytes.{byte, digit}
 use Rattle.base.specs.Quoted.{bytes}
 use Rattle.base.proofs.Bools.{left, right, all-append, all-front}
-use Rattle.contents.specs.Words.{Text, Just, Run, join, behind}
+use Rattle.contents.specs.Words.{Text, Just, join, behind}
 use Rattle.contents.specs.Answers.{cut, Leads}
 
 -- ---- cuts

@@ -1,16 +1,15 @@
 -- Names, accounts, and how a tax line begins. Assumes nothing.
 use Rattle.base.specs.Says.{Not}
-use Prim.Native.Nat.{ℕ, _+_, _≤_, _<_}
-use mathlib.Core.Path.{_≡_, refl, sym, ap, ap₂, _∙_}
-use mathlib.Core.Bool.{Bool, true, false}
-use mathlib.Core.List.{List, [], _∷_, _++_}
+use Prim.Native.Nat.{_+_, _≤_}
+use mathlib.Core.Path.{_≡_, sym, ap, ap₂, _∙_}
+use mathlib.Core.Bool.{true}
+use mathlib.Core.List.{_∷_, _++_}
 use native.Mathlib.Omega.{arith}
 use lib.ListN.{length, drop, take-append-drop}
 use lib.Seq.{drop-cons}
 use Rattle.base.specs.Bytes.{byte, digit}
 use Rattle.base.specs.Quoted.{bytes}
-use Rattle.contents.specs.Words.{Text, Size}
-use Rattle.contents.specs.Lines.{Account, BeginsTax}
+use Rattle.contents.specs.Words.{Text}
 use Rattle.contents.specs.Fields.{IsAccount, LooksTax}
 use Rattle.contents.specs.Answers.{cut}
 use Rattle.contents.proofs.Laws.{head-tail}

@@ -1,8 +1,8 @@
 -- The tests of single lines are exact, and the parts of a line are those that it is cut into (section C). Assumes nothing.
-use Prim.Native.Nat.{ℕ, suc, _+_, _-_, _*_, _/_, _%_, _≤_, _<_}
+use Prim.Native.Nat.{ℕ, _+_, _-_, _*_, _/_, _%_, _≤_}
 use Prim.Native.String.{String}
 use mathlib.Core.Path.{_≡_, refl, sym, ap, ap₂, _∙_, subst}
-use mathlib.Core.Bool.{Bool, true, false, not, _&&_, _||_, true≢false, false≢true}
+use mathlib.Core.Bool.{Bool, true, false, not, _&&_, true≢false, false≢true}
 use mathlib.Core.Logic.{inl, inr, ⊎-elim}
 use mathlib.Core.List.{List, [], _∷_, _++_}
 use native.Mathlib.Nat.{div-add-mod'}
@@ -12,16 +12,15 @@ use lib.ListN.{length, take, drop, length-append, take-append-drop}
 use lib.Seq.{take-at, drop-at, getD-drop}
 use borrow.Author.Tests.{eqb-true}
 use Rattle.base.specs.Choice.{all}
-use Rattle.base.specs.Bytes.{byte, digit, capital, begins, empty, same}
+use Rattle.base.specs.Bytes.{byte, digit, capital, begins, empty}
 use Rattle.base.specs.Quoted.{bytes}
 use Rattle.base.specs.Says.{Not, _or_, Says}
 use Rattle.base.proofs.SaysLaws.{says-so, says-not, says-by, says-as, says-and, says-or, says-no, says-le, says-eq, says-true, says-text, says-empty}
-use Rattle.contents.specs.Words.{Text, Line, Size, Just, Run, Some, capitalOrDigit, Digits, Capitals, CapitalsOrDigits, join, Perhaps, behind, BeginsWith}
-use Rattle.contents.specs.Lines.{Reference, twoDigits, Purpose, Payment, OwnAccount, PartyByBik, PartyByAccount, Bic, Account, Inn, TaxLine, BeginsTax, Name, Way, RppLine}
+use Rattle.contents.specs.Words.{Text, Line, Size, Just, capitalOrDigit, Digits, Capitals, CapitalsOrDigits, join, Perhaps, behind, BeginsWith}
+use Rattle.contents.specs.Lines.{Reference, twoDigits, Purpose, Payment, PartyByBik, Bic, Inn, TaxLine, Way, RppLine}
 use Rattle.contents.specs.Fields.{IsPurpose, IsPayment, IsOwnAccount, IsParty, IsBic, IsAccount, IsTax, LooksTax, IsRpp}
-use Rattle.contents.specs.Tests.{sized, digits, cutBy, piece, sizes, just, starts, perhaps, ends, pair, isReference, numberIn, isPurpose, paymentParts, paymentTest, isPayment, isOwnAccount, bikParts, isPartyByBik, isParty, bicParts, isBic, isAccount, isInn, taxParts, isTax, looksTax, isName, isWay, rppParts, rppTest, isRpp}
-use Rattle.contents.proofs.Laws.{behind-some, head-tail}
-use Rattle.contents.proofs.CutLaws.{Fit, cut-whole, cut-once}
+use Rattle.contents.specs.Tests.{sized, digits, piece, sizes, just, starts, perhaps, ends, pair, isReference, numberIn, isPurpose, paymentParts, paymentTest, isPayment, isOwnAccount, bikParts, isPartyByBik, isParty, bicParts, isBic, isAccount, isInn, taxParts, isTax, looksTax, isWay, rppParts, rppTest, isRpp}
+use Rattle.contents.proofs.CutLaws.{cut-whole, cut-once}
 
 -- ---- parts
 pub size-says : (a n : ℕ) (s : Text) → Says (Size a n s) (sizes a n s)

@@ -1,14 +1,13 @@
 -- 32A: its tests and its pieces. Assumes nothing.
 use Prim.Native.Nat.{ℕ, _+_, _-_, _≤_, _<_}
-use mathlib.Core.Path.{_≡_, refl, sym, ap, ap₂, _∙_}
-use mathlib.Core.Bool.{Bool, true, false}
-use mathlib.Core.Logic.{_⊎_, inl, inr}
-use mathlib.Core.List.{List, [], _∷_, _++_}
+use mathlib.Core.Path.{_≡_, refl, _∙_}
+use mathlib.Core.Bool.{false}
+use mathlib.Core.List.{List, [], _∷_}
 use native.Mathlib.Omega.{arith}
 use lib.ListN.{length, length-append}
 use Rattle.base.specs.Bytes.{byte, digit}
 use Rattle.base.specs.Quoted.{bytes}
-use Rattle.contents.specs.Words.{Text, Digits, Capitals, Perhaps, behind}
+use Rattle.contents.specs.Words.{Text, Digits, Capitals}
 use Rattle.contents.specs.Lines.{Payment}
 use Rattle.contents.specs.Answers.{cut, Leads}
 use Rattle.contents.proofs.Laws.{Spot, spot, laid, Laid, made, cut-length, mark-stops, run-once}

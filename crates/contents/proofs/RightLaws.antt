@@ -2,10 +2,10 @@
 use Rattle.base.specs.Says.{Not, Says}
 use Rattle.base.proofs.SaysLaws.{says-so, says-not}
 use Prim.Native.Nat.{ℕ, _+_, _≤_, _<_, min}
-use mathlib.Core.Path.{_≡_, refl, sym, ap, _∙_}
+use mathlib.Core.Path.{_≡_, refl, ap, _∙_}
 use mathlib.Core.Bool.{Bool, true, false, false≢true}
 use mathlib.Core.Logic.{_⊎_, inl, inr, ⊎-elim}
-use mathlib.Core.List.{List, [], _∷_, _++_}
+use mathlib.Core.List.{List, [], _∷_}
 use native.Mathlib.Omega.{arith}
 use native.Mathlib.Decide.{decLt}
 use lib.ListN.{length, take, drop}
@@ -14,7 +14,7 @@ use Rattle.base.specs.Bytes.{upTo}
 use Rattle.fields.specs.Lines.{linesIn}
 use Rattle.contents.specs.Words.{Text, Line}
 use Rattle.contents.specs.Fields.{IsParty, IsBic, IsPayment, IsRpp, One, Then, Names, Beside, Customer, Payer, BankByBic, BankByName, In72, RppAndDetails}
-use Rattle.contents.specs.Answers.{PaidSaid, RppSaid, BesideSaid, Behind, CustomerSaid, PayerSaid, PartySaid, IsA, BicSaid, NameSaid, RppWith, NoteSaid, isHeld, isBank, isNote, isPaid, isRpp}
+use Rattle.contents.specs.Answers.{PaidSaid, RppSaid, BesideSaid, Behind, CustomerSaid, PayerSaid, IsA, BicSaid, NameSaid, RppWith, NoteSaid, isHeld, isBank, isNote, isPaid, isRpp}
 use Rattle.contents.specs.declared.lines.Paid.{Paid}
 use Rattle.contents.specs.declared.lines.Paid.the-variants as paid
 use Rattle.contents.specs.declared.lines.Rpp.{Rpp}

@@ -1,16 +1,16 @@
 -- The RPP line: its tests and its pieces. Assumes nothing.
 use Rattle.base.specs.Says.{Not, _or_}
 use Prim.Native.Nat.{ℕ, _+_, _-_, _≤_, _<_}
-use mathlib.Core.Path.{_≡_, refl, sym, ap, ap₂, _∙_}
-use mathlib.Core.Bool.{Bool, true, false}
-use mathlib.Core.Logic.{_⊎_, inl, inr}
-use mathlib.Core.List.{List, [], _∷_, _++_}
+use mathlib.Core.Path.{_≡_, refl, sym, _∙_}
+use mathlib.Core.Bool.{false}
+use mathlib.Core.Logic.{inl, inr}
+use mathlib.Core.List.{List, [], _∷_}
 use native.Mathlib.Omega.{arith}
 use lib.ListN.{length}
 use Rattle.base.specs.Bytes.{byte, digit}
 use Rattle.base.specs.Quoted.{bytes}
 use Rattle.contents.specs.Words.{Text, Digits, Perhaps, join, behind}
-use Rattle.contents.specs.Lines.{Way, RppLine}
+use Rattle.contents.specs.Lines.{RppLine}
 use Rattle.contents.specs.Answers.{cut, Leads, RppBody}
 use Rattle.contents.proofs.LineTests.{way-size}
 use Rattle.contents.proofs.Laws.{Spot, spot, laid, Laid, made, cut-one, cut-first, cut-length, mark-stops, run-once, behind-some}

@@ -1,9 +1,9 @@
 -- 8 in words, over the grammar; that no right content is empty; and where the sign stands (N8, T1). Assumes nothing.
 use Prim.Native.Nat.{ℕ, suc, _+_}
 use mathlib.Core.Path.{_≡_, refl, sym, ap, _∙_, subst}
-use mathlib.Core.Bool.{Bool, true, false, _&&_, _||_, false≢true, true≢false}
+use mathlib.Core.Bool.{Bool, true, false, _&&_, _||_, false≢true}
 use mathlib.Core.List.{List, [], _∷_, _++_}
-use mathlib.Core.Logic.{_↔_, inl, inr}
+use mathlib.Core.Logic.{_↔_}
 use native.Mathlib.Omega.{arith}
 use lib.Dec.{eqb}
 use lib.ListN.{length, drop}
@@ -26,10 +26,6 @@ use Rattle.types.specs.Walk.{find, walked}
 use Rattle.types.specs.Sign.{firstLine, signOf}
 use Rattle.types.proofs.WalkLaws.{Seated, Accepted, seated, walked-accepted}
 use Rattle.types.proofs.TableLaws.{no-form}
-use Rattle.contents.specs.declared.Content.{Content}
-use Rattle.contents.specs.declared.Content.the-variants as holds
-use Rattle.contents.specs.Words.{Line}
-use Rattle.contents.specs.Fields.{Right}
 use Rattle.contents.specs.Tags.{heldBy, RightField}
 use Rattle.contents.specs.Tests as tests
 use Rattle.contents.specs.Rule8.{firstWrong, rightField, rule8, EachRight, FirstWrong, rightContent}

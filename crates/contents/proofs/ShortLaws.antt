@@ -2,18 +2,18 @@
 use Rattle.base.specs.Says.{Not}
 use Prim.Native.Nat.{ℕ, suc, _+_, _-_, _*_, _/_, _%_, _≤_, _<_}
 use mathlib.Core.Path.{_≡_, refl, sym, ap, ap₂, _∙_}
-use mathlib.Core.List.{List, [], _∷_, _++_}
+use mathlib.Core.List.{[], _∷_, _++_}
 use native.Mathlib.Omega.{arith}
 use native.Mathlib.Decide.{decLt}
 use lib.ListN.{length, take, drop, length-append, drop-of-length-le}
 use lib.Seq.{split-at, getD-append-seam}
 use Rattle.base.specs.Bytes.{byte}
 use Rattle.base.specs.Quoted.{bytes}
-use Rattle.contents.specs.Words.{Text, Size, join}
-use Rattle.contents.specs.Lines.{Reference, Purpose, twoDigits}
+use Rattle.contents.specs.Words.{Text}
+use Rattle.contents.specs.Lines.{Reference}
 use Rattle.contents.specs.Fields.{IsPurpose}
 use Rattle.contents.specs.Answers.{cut, HasPair}
-use Rattle.contents.proofs.Laws.{Spot, spot, laid, made, cut-one, cut-on, cut-byte, cut-first, head-tail}
+use Rattle.contents.proofs.Laws.{spot, laid, made, cut-one, cut-on, cut-byte, head-tail}
 
 -- ---- //
 abbrev pub Pair : ℕ → Text → Type 0

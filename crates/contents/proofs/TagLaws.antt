@@ -14,7 +14,6 @@ use Rattle.fields.proofs.PackLaws.{pack-unpack}
 use Rattle.types.specs.Form.{Place, placesOf, forms, form103, form202}
 use Rattle.types.specs.Tables as tables
 use Rattle.types.proofs.TableLaws.{no-form}
-use Rattle.contents.specs.declared.Content.{Content}
 use Rattle.contents.specs.declared.Content.the-variants as holds
 use Rattle.contents.specs.Tags.{Tag, tag, tags103, tags202, heldIn, tagsOf, heldBy}
 

@@ -1,14 +1,14 @@
 -- The tax line: what its sizes and its pieces are, and that they make it one. Assumes nothing.
 use Rattle.base.specs.Says.{Not, _or_}
-use Prim.Native.Nat.{ℕ, _+_, _≤_, _<_}
-use mathlib.Core.Path.{_≡_, refl, sym, ap, _∙_}
+use Prim.Native.Nat.{ℕ, _+_, _≤_}
+use mathlib.Core.Path.{_≡_, refl, sym, _∙_}
 use mathlib.Core.Bool.{Bool, true, false}
-use mathlib.Core.Logic.{_⊎_, inl, inr}
-use mathlib.Core.List.{List, [], _∷_, _++_}
+use mathlib.Core.Logic.{inl, inr}
+use mathlib.Core.List.{List, [], _∷_}
 use native.Mathlib.Omega.{arith}
 use lib.ListN.{length}
 use Rattle.base.specs.Quoted.{bytes}
-use Rattle.contents.specs.Words.{Text, Digits, Perhaps, behind}
+use Rattle.contents.specs.Words.{Text, Digits, Perhaps}
 use Rattle.contents.specs.Lines.{Inn, TaxLine}
 use Rattle.contents.specs.Answers.{cut, InnSize, InnBy}
 use Rattle.contents.proofs.Laws.{Spot, spot, laid, Laid, made, behind-some}

@@ -2,17 +2,17 @@
 use Rattle.base.specs.Says.{Not}
 use Prim.Native.Nat.{ℕ, _+_, _-_, _≤_, _<_}
 use mathlib.Core.Path.{_≡_, refl, sym, ap, ap₂, _∙_}
-use mathlib.Core.Bool.{Bool, true, false}
+use mathlib.Core.Bool.{Bool}
 use mathlib.Core.List.{List, [], _∷_, _++_, map}
 use native.Mathlib.Omega.{arith}
 use native.Mathlib.Decide.{decLt}
-use lib.ListN.{length, take, drop, length-append, length-map, length-drop, take-append-drop}
+use lib.ListN.{length, drop, length-map, length-drop, take-append-drop}
 use Rattle.base.specs.Quoted.{bytes}
 use Rattle.contents.specs.Words.{Text, Line, Size, Digits, join}
-use Rattle.contents.specs.Lines.{Name, opening, closing}
+use Rattle.contents.specs.Lines.{opening, closing}
 use Rattle.contents.specs.Fields.{Names, Each, Several, Details, In70, In72}
 use Rattle.contents.specs.Answers.{cut, VoFirst, textAt, IsMarked, NzpFirst, RppWith}
-use Rattle.contents.proofs.Laws.{Spot, spot, laid, Laid, made}
+use Rattle.contents.proofs.Laws.{Spot, spot, laid, made}
 use Rattle.contents.proofs.RppLaws.{rpp-front}
 use Rattle.base.specs.Bytes.{byte}
 

@@ -14,25 +14,137 @@ use super::pieces::has_word;
 use super::pieces::is_just;
 use base::bytes::is_digit;
 
-// A tax line: the sizes of its INN, which stands at 3, and of its KPP, 7 behind the INN's size; 0 for none.
+// How wide a line may be, and an account behind its slash.
+pub(crate) const WIDTH: usize = 35;
+
+const SLASH: usize = 1;
+
+// A tax line: INN, 10 or 12 digits, and perhaps .KPP and nine digits.
+const INN_MARK: usize = 3;
+
+const KPP_MARK: usize = 4;
+
+const KPP: usize = 9;
+
+const TEN: usize = 10;
+
+const TWELVE: usize = 12;
+
+const WITH_TEN: usize = INN_MARK + TEN;
+
+const WITH_TWELVE: usize = INN_MARK + TWELVE;
+
+const TEN_AND_KPP: usize = WITH_TEN + KPP_MARK + KPP;
+
+const TWELVE_AND_KPP: usize = WITH_TWELVE + KPP_MARK + KPP;
+
+// 32A: a date, a currency, and an amount, of which a comma is one byte.
+const DATE: usize = 6;
+
+const CURRENCY: usize = 3;
+
+const COMMA: usize = 1;
+
+const AMOUNT: usize = 15;
+
+const MOST_DIGITS: usize = AMOUNT - COMMA;
+
+const MOST_DECIMALS: usize = 2;
+
+const MONEY: usize = DATE + CURRENCY;
+
+const SHORTEST_PAID: usize = MONEY + 1 + COMMA;
+
+const LONGEST_PAID: usize = MONEY + AMOUNT;
+
+// An RPP line behind its mark and its number: point, date, point, digit, point, way; and perhaps point and date.
+const RPP_MARK: usize = 5;
+
+const MOST_NUMBER: usize = 3;
+
+const POINT: usize = 1;
+
+const TURN: usize = 1;
+
+const WAY: usize = 4;
+
+const RPP_DATE: usize = POINT;
+
+const SECOND_POINT: usize = RPP_DATE + DATE;
+
+const RPP_TURN: usize = SECOND_POINT + POINT;
+
+const THIRD_POINT: usize = RPP_TURN + TURN;
+
+const RPP_WAY: usize = THIRD_POINT + POINT;
+
+const RPP_BODY: usize = RPP_WAY + WAY;
+
+const RPP_VALUE: usize = RPP_BODY + POINT;
+
+const RPP_WHOLE: usize = RPP_VALUE + DATE;
+
+const SHORTEST_RPP: usize = RPP_MARK + 1 + RPP_BODY;
+
+// Our account: /D/ and 20 digits.
+const OWN_MARK: usize = 3;
+
+const ACCOUNT: usize = 20;
+
+const OWN: usize = OWN_MARK + ACCOUNT;
+
+// A BIC: four letters, two letters, two letters or digits, perhaps three more.
+const BANK: usize = 4;
+
+const LAND: usize = 2;
+
+const PLACE: usize = 2;
+
+const BRANCH: usize = 3;
+
+const BIC_PLACE: usize = BANK + LAND;
+
+const SHORT_BIC: usize = BIC_PLACE + PLACE;
+
+const LONG_BIC: usize = SHORT_BIC + BRANCH;
+
+// A party line: / and an account; or //RU, a BIK, and perhaps a point and an account.
+const BY_ACCOUNT: usize = SLASH + ACCOUNT;
+
+const BIK_MARK: usize = 4;
+
+const BIK: usize = 9;
+
+const BY_BIK: usize = BIK_MARK + BIK;
+
+const BIK_ACCOUNT: usize = BY_BIK + POINT;
+
+const BY_BOTH: usize = BIK_ACCOUNT + ACCOUNT;
+
+// A reference, and the numbers of purposes.
+const REFERENCE: usize = 16;
+
+const LAST_PURPOSE: usize = 26;
+
+// A tax line: the sizes of its INN and of its KPP; 0 for none.
 pub enum Tax {
     Wrong,
     Is(usize, usize),
 }
 
-// 32A: the sizes of the whole part, which stands at 9, and of the decimals behind the comma.
+// 32A: the sizes of the whole part and of the decimals behind the comma.
 pub enum Paid {
     Wrong,
     Is(usize, usize),
 }
 
-// An RPP line: the sizes of its number, which stands at 5, and of its last date; 0 for none.
+// An RPP line: the sizes of its number and of its last date; 0 for none.
 pub enum Rpp {
     Wrong,
     Is(usize, usize),
 }
 
-// A party line: an account at 1; or a BIK at 4, and the size of the account at 14, 0 for none.
+// A party line: an account; or a BIK, and the size of the account behind it, 0 for none.
 pub enum Party {
     Wrong,
     Account,
@@ -45,7 +157,7 @@ pub fn is_name(l: &[u8]) -> bool
     if l.len() < 1 {
         return false;
     }
-    l.len() <= 35
+    l.len() <= WIDTH
 }
 
 pub fn is_account(l: &[u8]) -> bool
@@ -54,7 +166,7 @@ pub fn is_account(l: &[u8]) -> bool
     if l.len() < 2 {
         return false;
     }
-    if 35 < l.len() {
+    if WIDTH < l.len() {
         return false;
     }
     if l[0] != b'/' {
@@ -72,26 +184,26 @@ pub fn looks_tax(l: &[u8]) -> bool
     if !has_word(l, 0, b"INN") {
         return false;
     }
-    is_digit(l[3])
+    is_digit(l[INN_MARK])
 }
 
 fn inn_size(twelve: bool, size: usize) -> usize
     ensures { λ r. ⌜ InnBy twelve size r ⌝ }
 {
-    if size == 13 {
-        return 10;
+    if size == WITH_TEN {
+        return TEN;
     }
-    if size == 26 {
-        return 10;
+    if size == TEN_AND_KPP {
+        return TEN;
     }
     if !twelve {
         return 0;
     }
-    if size == 15 {
-        return 12;
+    if size == WITH_TWELVE {
+        return TWELVE;
     }
-    if size == 28 {
-        return 12;
+    if size == TWELVE_AND_KPP {
+        return TWELVE;
     }
     0
 }
@@ -106,52 +218,52 @@ pub fn tax_line(twelve: bool, l: &[u8]) -> Tax
     if !has_word(l, 0, b"INN") {
         return Tax::Wrong;
     }
-    if !are_digits(l, 3, n) {
+    if !are_digits(l, INN_MARK, n) {
         return Tax::Wrong;
     }
-    if l.len() == n + 3 {
+    if l.len() == n + INN_MARK {
         return Tax::Is(n, 0);
     }
-    if !has_word(l, n + 3, b".KPP") {
+    if !has_word(l, n + INN_MARK, b".KPP") {
         return Tax::Wrong;
     }
-    if !are_digits(l, 4 + (n + 3), 9) {
+    if !are_digits(l, KPP_MARK + (n + INN_MARK), KPP) {
         return Tax::Wrong;
     }
-    Tax::Is(n, 9)
+    Tax::Is(n, KPP)
 }
 
 pub fn payment(l: &[u8]) -> Paid
     ensures { λ r. ⌜ PaidSaid (now (l .entry)) r ⌝ }
 {
-    if l.len() < 11 {
+    if l.len() < SHORTEST_PAID {
         return Paid::Wrong;
     }
-    if 24 < l.len() {
+    if LONGEST_PAID < l.len() {
         return Paid::Wrong;
     }
-    if !are_digits(l, 0, 6) {
+    if !are_digits(l, 0, DATE) {
         return Paid::Wrong;
     }
-    if !are_capitals(l, 6, 3) {
+    if !are_capitals(l, DATE, CURRENCY) {
         return Paid::Wrong;
     }
-    let n = digits_from(l, 9, 14);
+    let n = digits_from(l, MONEY, MOST_DIGITS);
     if n < 1 {
         return Paid::Wrong;
     }
-    let comma = n + 9;
+    let comma = n + MONEY;
     if l.len() <= comma {
         return Paid::Wrong;
     }
-    let d = l.len() - (1 + comma);
-    if 2 < d {
+    let d = l.len() - (COMMA + comma);
+    if MOST_DECIMALS < d {
         return Paid::Wrong;
     }
     if !has_word(l, comma, b",") {
         return Paid::Wrong;
     }
-    if !are_digits(l, 1 + comma, d) {
+    if !are_digits(l, COMMA + comma, d) {
         return Paid::Wrong;
     }
     Paid::Is(n, d)
@@ -181,129 +293,129 @@ fn is_rpp_body(l: &[u8], i: usize) -> bool
     if l[i] != b'.' {
         return false;
     }
-    if l[7 + i] != b'.' {
+    if l[SECOND_POINT + i] != b'.' {
         return false;
     }
-    if l[9 + i] != b'.' {
+    if l[THIRD_POINT + i] != b'.' {
         return false;
     }
-    if !are_digits(l, 1 + i, 6) {
+    if !are_digits(l, RPP_DATE + i, DATE) {
         return false;
     }
-    if !are_digits(l, 8 + i, 1) {
+    if !are_digits(l, RPP_TURN + i, TURN) {
         return false;
     }
-    is_way(l, 10 + i)
+    is_way(l, RPP_WAY + i)
 }
 
 pub fn rpp_line(l: &[u8]) -> Rpp
     ensures { λ r. ⌜ RppSaid (now (l .entry)) r ⌝ }
 {
-    if l.len() < 20 {
+    if l.len() < SHORTEST_RPP {
         return Rpp::Wrong;
     }
     if !has_word(l, 0, b"/RPP/") {
         return Rpp::Wrong;
     }
-    let n = digits_from(l, 5, 3);
+    let n = digits_from(l, RPP_MARK, MOST_NUMBER);
     if n < 1 {
         return Rpp::Wrong;
     }
-    let i = n + 5;
-    if l.len() < 14 + i {
+    let i = n + RPP_MARK;
+    if l.len() < RPP_BODY + i {
         return Rpp::Wrong;
     }
     if !is_rpp_body(l, i) {
         return Rpp::Wrong;
     }
-    if l.len() == 14 + i {
+    if l.len() == RPP_BODY + i {
         return Rpp::Is(n, 0);
     }
-    if l.len() != 21 + i {
+    if l.len() != RPP_WHOLE + i {
         return Rpp::Wrong;
     }
-    if l[14 + i] != b'.' {
+    if l[RPP_BODY + i] != b'.' {
         return Rpp::Wrong;
     }
-    if !are_digits(l, 15 + i, 6) {
+    if !are_digits(l, RPP_VALUE + i, DATE) {
         return Rpp::Wrong;
     }
-    Rpp::Is(n, 6)
+    Rpp::Is(n, DATE)
 }
 
 pub fn is_own_account(l: &[u8]) -> bool
     ensures { λ r. ⌜ Says (IsOwnAccount (now (l .entry))) r ⌝ }
 {
-    if l.len() != 23 {
+    if l.len() != OWN {
         return false;
     }
     if !has_word(l, 0, b"/D/") {
         return false;
     }
-    are_digits(l, 3, 20)
+    are_digits(l, OWN_MARK, ACCOUNT)
 }
 
 pub fn is_bic(l: &[u8]) -> bool
     ensures { λ r. ⌜ Says (IsBic (now (l .entry))) r ⌝ }
 {
-    if l.len() < 8 {
+    if l.len() < SHORT_BIC {
         return false;
     }
-    if !are_capitals(l, 0, 4) {
+    if !are_capitals(l, 0, BANK) {
         return false;
     }
-    if !are_capitals(l, 4, 2) {
+    if !are_capitals(l, BANK, LAND) {
         return false;
     }
-    if !are_capitals_or_digits(l, 6, 2) {
+    if !are_capitals_or_digits(l, BIC_PLACE, PLACE) {
         return false;
     }
-    if l.len() == 8 {
+    if l.len() == SHORT_BIC {
         return true;
     }
-    if l.len() != 11 {
+    if l.len() != LONG_BIC {
         return false;
     }
-    are_capitals_or_digits(l, 8, 3)
+    are_capitals_or_digits(l, SHORT_BIC, BRANCH)
 }
 
 pub fn party_line(l: &[u8]) -> Party
     ensures { λ r. ⌜ PartySaid (now (l .entry)) r ⌝ }
 {
-    if l.len() == 21 {
+    if l.len() == BY_ACCOUNT {
         if !has_word(l, 0, b"/") {
             return Party::Wrong;
         }
-        if are_digits(l, 1, 20) {
+        if are_digits(l, SLASH, ACCOUNT) {
             return Party::Account;
         }
         return Party::Wrong;
     }
-    if l.len() < 13 {
+    if l.len() < BY_BIK {
         return Party::Wrong;
     }
     if !has_word(l, 0, b"//RU") {
         return Party::Wrong;
     }
-    if !has_word(l, 4, b"04") {
+    if !has_word(l, BIK_MARK, b"04") {
         return Party::Wrong;
     }
-    if !are_digits(l, 4, 9) {
+    if !are_digits(l, BIK_MARK, BIK) {
         return Party::Wrong;
     }
-    if l.len() == 13 {
+    if l.len() == BY_BIK {
         return Party::Bik(0);
     }
-    if l.len() != 34 {
+    if l.len() != BY_BOTH {
         return Party::Wrong;
     }
-    if !has_word(l, 13, b".") {
+    if !has_word(l, BY_BIK, b".") {
         return Party::Wrong;
     }
-    if !are_digits(l, 14, 20) {
+    if !are_digits(l, BIK_ACCOUNT, ACCOUNT) {
         return Party::Wrong;
     }
-    Party::Bik(20)
+    Party::Bik(ACCOUNT)
 }
 
 // Whether // stands in it.
@@ -330,7 +442,7 @@ pub fn is_reference(l: &[u8]) -> bool
     if l.len() < 1 {
         return false;
     }
-    if 16 < l.len() {
+    if REFERENCE < l.len() {
         return false;
     }
     if l[0] == b'/' {
@@ -382,7 +494,7 @@ pub fn is_purpose(l: &[u8]) -> bool
     if n < 1 {
         return false;
     }
-    if 26 < n {
+    if LAST_PURPOSE < n {
         return false;
     }
     n != 15

@@ -12,6 +12,7 @@ use super::lines::Paid;
 use super::lines::Party;
 use super::lines::Rpp;
 use super::lines::Tax;
+use super::lines::WIDTH;
 use super::lines::is_account;
 use super::lines::is_bic;
 use super::lines::is_name;
@@ -28,6 +29,47 @@ use super::pieces::has_word;
 use super::pieces::is_just;
 use base::marks::mark_at;
 use fields::lines::next_line;
+
+// Beside an account four lines may stand, of which a tax line is one; 70 has four lines, 72 of a 202 six.
+const BESIDE: usize = 4;
+
+const BEHIND_TAX: usize = BESIDE - 1;
+
+const BANK_NAMES: usize = 4;
+
+const LINES_77B: usize = 3;
+
+const LINES_70: usize = 4;
+
+const BEHIND_CODE: usize = LINES_70 - 1;
+
+const LINES_72: usize = 6;
+
+const BEHIND_RPP: usize = LINES_72 - 1;
+
+// The VO code: what opens it, five digits, what closes it; with the sign an apostrophe more at each end.
+const VO_MARK: usize = 3;
+
+const SIGNED_MARK: usize = VO_MARK + 1;
+
+const VO: usize = 5;
+
+const VO_SHUT: usize = VO_MARK + VO;
+
+const SIGNED_SHUT: usize = SIGNED_MARK + VO;
+
+const CODE: usize = VO_SHUT + 1;
+
+const SIGNED_CODE: usize = SIGNED_SHUT + 2;
+
+// 72 of a 202: /NZP/ in front of the code, // in front of each later line, which has a byte behind it.
+const NZP: usize = 5;
+
+const NZP_CODE: usize = NZP + CODE;
+
+const NZP_SIGNED: usize = NZP + SIGNED_CODE;
+
+const SHORTEST_MARKED: usize = 3;
 
 // 50K, 59, 58D: wrong; right without a tax line; or right with one, where it begins, and the sizes of its INN and its KPP.
 pub enum Held {
@@ -73,7 +115,7 @@ fn beside(twelve: bool, c: &[u8], at: usize) -> Held
 {
     let e = mark_at(b'\r', c, at);
     if !looks_tax(&c[at..e]) {
-        if are_names(c, at, 4) {
+        if are_names(c, at, BESIDE) {
             return Held::Plain;
         }
         return Held::Wrong;
@@ -84,7 +126,7 @@ fn beside(twelve: bool, c: &[u8], at: usize) -> Held
     if c.len() <= e {
         return Held::Wrong;
     }
-    if are_names(c, next_line(e, c.len()), 3) {
+    if are_names(c, next_line(e, c.len()), BEHIND_TAX) {
         return Held::Taxed(at, inn, kpp);
     }
     Held::Wrong
@@ -122,27 +164,27 @@ fn is_vo(sign: bool, l: &[u8]) -> bool
     ensures { λ r. ⌜ Says (VoFirst sign (now (l .entry))) r ⌝ }
 {
     if sign {
-        if l.len() < 11 {
+        if l.len() < SIGNED_CODE {
             return false;
         }
         if !has_word(l, 0, b"'(VO") {
             return false;
         }
-        if !has_word(l, 9, b")'") {
+        if !has_word(l, SIGNED_SHUT, b")'") {
             return false;
         }
-        return are_digits(l, 4, 5);
+        return are_digits(l, SIGNED_MARK, VO);
     }
-    if l.len() < 9 {
+    if l.len() < CODE {
         return false;
     }
     if !has_word(l, 0, b"(VO") {
         return false;
     }
-    if !has_word(l, 8, b")") {
+    if !has_word(l, VO_SHUT, b")") {
         return false;
     }
-    are_digits(l, 3, 5)
+    are_digits(l, VO_MARK, VO)
 }
 
 // 70.
@@ -150,19 +192,19 @@ pub fn details(sign: bool, c: &[u8]) -> bool
     ensures { λ r. ⌜ Says (In70 sign (linesIn (now (c .entry)))) r ⌝ }
 {
     let e = mark_at(b'\r', c, 0);
-    if 35 < e {
+    if WIDTH < e {
         return false;
     }
     if !is_vo(sign, &c[..e]) {
         return false;
     }
     if e < c.len() {
-        return are_names(c, next_line(e, c.len()), 3);
+        return are_names(c, next_line(e, c.len()), BEHIND_CODE);
     }
     if sign {
-        return 11 < e;
+        return SIGNED_CODE < e;
     }
-    9 < e
+    CODE < e
 }
 
 fn is_no_party(p: Party) -> bool
@@ -220,7 +262,7 @@ pub fn bank_by_name(c: &[u8]) -> Bank
     if c.len() <= e {
         return Bank::Wrong;
     }
-    if are_names(c, next_line(e, c.len()), 4) {
+    if are_names(c, next_line(e, c.len()), BANK_NAMES) {
         return Bank::Led(p);
     }
     Bank::Wrong
@@ -250,7 +292,7 @@ pub fn regulatory(c: &[u8]) -> bool
     if c[0] != b'/' {
         return false;
     }
-    are_names(c, 0, 3)
+    are_names(c, 0, LINES_77B)
 }
 
 // Whether a content is one line.
@@ -263,10 +305,10 @@ pub fn is_one_line(c: &[u8]) -> bool
 fn is_marked(l: &[u8]) -> bool
     ensures { λ r. ⌜ Says (IsMarked (now (l .entry))) r ⌝ }
 {
-    if l.len() < 3 {
+    if l.len() < SHORTEST_MARKED {
         return false;
     }
-    if 35 < l.len() {
+    if WIDTH < l.len() {
         return false;
     }
     has_word(l, 0, b"//")
@@ -299,16 +341,16 @@ fn are_marked(c: &[u8], from: usize, most: usize) -> bool
 fn is_nzp(sign: bool, l: &[u8]) -> bool
     ensures { λ r. ⌜ Says (NzpFirst sign (now (l .entry))) r ⌝ }
 {
-    if l.len() < 5 {
+    if l.len() < NZP {
         return false;
     }
-    if 35 < l.len() {
+    if WIDTH < l.len() {
         return false;
     }
     if !has_word(l, 0, b"/NZP/") {
         return false;
     }
-    is_vo(sign, &l[5..])
+    is_vo(sign, &l[NZP..])
 }
 
 // Whether a line of that many bytes has text behind /NZP/ and the code.
@@ -316,9 +358,9 @@ fn has_text(sign: bool, n: usize) -> bool
     ensures { λ r. ⌜ Says (5 + textAt sign < n) r ⌝ }
 {
     if sign {
-        return 16 < n;
+        return NZP_SIGNED < n;
     }
-    14 < n
+    NZP_CODE < n
 }
 
 fn details_72(sign: bool, c: &[u8], at: usize, most: usize) -> bool
@@ -349,7 +391,7 @@ pub fn rpp_and_details(sign: bool, c: &[u8]) -> Note
     let e = mark_at(b'\r', c, 0);
     match rpp_line(&c[..e]) {
         Rpp::Wrong => {
-            if details_72(sign, c, 0, 6) {
+            if details_72(sign, c, 0, LINES_72) {
                 return Note::Plain;
             }
             Note::Wrong
@@ -358,7 +400,7 @@ pub fn rpp_and_details(sign: bool, c: &[u8]) -> Note
             if c.len() <= e {
                 return Note::Wrong;
             }
-            if details_72(sign, c, next_line(e, c.len()), 5) {
+            if details_72(sign, c, next_line(e, c.len()), BEHIND_RPP) {
                 return Note::Dated(n, value);
             }
             Note::Wrong

@@ -4,6 +4,7 @@ use mathlib.Core.Path.{_≡_, refl, sym, ap, ap₂, _∙_, subst}
 use mathlib.Core.Bool.{false}
 use mathlib.Core.List.{List, [], _∷_, _++_}
 use lib.ListN.{length}
+use Rattle.base.specs.Examples.{AllHold, _also_}
 use Rattle.base.specs.Quoted.{bytes}
 use Rattle.base.specs.Rules.{then, first}
 use Rattle.base.specs.declared.Verdict.{Verdict}
@@ -47,12 +48,8 @@ use Rattle.message.specs.declared.Checked.the-variants as checked
 use Rattle.message.specs.declared.Amount.the-variants as amount
 use Rattle.message.specs.declared.Day.the-variants as day
 use Rattle.message.specs.Calls.{checkedBy, answerOf, leftOf, spanBy, spanOf, partOf, contentOf, paid, amountBy, amountOf, daySplit, dayBy, dayOf}
-use Rattle.message.specs.Cases.{Case, accepts, refuses, narrow, spans, shows, lent, Holds, AllHold, signed202, cases}
+use Rattle.message.specs.Cases.{Case, accepts, refuses, narrow, spans, shows, lent, Holds, signed202, cases}
 use Rattle.message.proofs.CallLaws.{last-17}
-
-infixr 4 _also_
-abbrev _also_ : {A B : Type 0} → A → B → A × B
-a also b = (a, b)
 
 -- ---- what is computed of a case: its message's verdict, once, and what the calls make of a message with that verdict
 abbrev place-32A : ℕ → ℕ
@@ -116,11 +113,7 @@ case-holds (narrow kind s n needed) (e, h) = (answer-by kind (bytes s) e (lent n
 case-holds (spans kind s place part) (v, e, h) = span-by kind (bytes s) e place ∙ h
 case-holds (shows kind s place c) (v, e, h) = content-by kind (bytes s) e place ∙ h
 
-abbrev AllComputed : List Case → Type 0
-AllComputed [] = Unit {0}
-AllComputed (c ∷ cs) = Computed c × AllComputed cs
-
-all-hold : (cs : List Case) → AllComputed cs → AllHold cs
+all-hold : (cs : List Case) → AllHold Computed cs → AllHold Holds cs
 all-hold [] h = tt
 all-hold (c ∷ cs) h = (case-holds c (h .0), all-hold cs (h .1))
 
@@ -160,7 +153,7 @@ sample-verdicts : (verdictOf 103 (bytes sample) ≡ Fine) × (verdictOf 202 (byt
 unfolding verdictOf rule18 form103 form202 forms placesOf long rule1 framed body same rule2 scan xset isIn digit capital letter marks shared rule3 cut tagged lineBad badLine rule4 upto past grouped fields find wrong walk walked signOf firstWrong rightField rule8 rightContent onward leap daysIn isDay yearOf realDay dated behindDigits payment pointIn datesBehind rpp bothParts parties taxPlace isTax withKpp taxes valuesOf firstBad rule9 rule10 rule11 rule12 rule13 spoken speeches names details noted roles-speech.behind shapeOf heldBy tags103 tags202 cast hidden isInn taxLike breaks unheard rule14 grid alphabets-grid.sign reads capitalOrDigit tests.lead tests.ends tests.pair tests.isReference tests.isPurpose tests.isPayment tests.isOwnAccount tests.isPartyByBik tests.isParty tests.isBic tests.isAccount tests.isTax tests.looksTax tests.isRpp tests.details tests.right
 sample-verdicts = (refl, refl)
 
-computed : AllComputed cases
+computed : AllHold Computed cases
 unfolding cases verdictOf rule18 form103 form202 forms placesOf long rule1 framed body same rule2 scan xset isIn digit capital letter marks shared rule3 cut tagged lineBad badLine rule4 upto past grouped fields find wrong walk walked signOf firstWrong rightField rule8 rightContent onward leap daysIn isDay yearOf realDay dated behindDigits payment pointIn datesBehind rpp bothParts parties taxPlace isTax withKpp taxes valuesOf firstBad rule9 rule10 rule11 rule12 rule13 spoken speeches names details noted roles-speech.behind shapeOf heldBy tags103 tags202 cast hidden isInn taxLike breaks unheard rule14 grid alphabets-grid.sign reads message listed word partAt short dateOf dayAt kopecksOf kopecks kppOf faultOf capitalOrDigit tests.lead tests.ends tests.pair tests.isReference tests.isPurpose tests.isPayment tests.isOwnAccount tests.isPartyByBik tests.isParty tests.isBic tests.isAccount tests.isTax tests.looksTax tests.isRpp tests.details tests.right
 computed =
     (sample-verdicts .0, refl, refl, refl, refl, refl, refl, refl) also (signed-fine, refl, refl, refl, refl, refl, refl, refl) also (refl, refl, refl, refl, refl, refl, refl, refl)
@@ -168,5 +161,5 @@ computed =
     also (Fine, sample-verdicts .0, refl) also (Fine, sample-verdicts .0, refl) also (Fine, sample-verdicts .0, refl) also (Fine, sample-verdicts .0, refl)
     also (Broken 5 15, sample-verdicts .1, refl) also (Fine, sample-verdicts .0, refl) also (Fine, sample-verdicts .0, refl) also tt
 
-pub worked : AllHold cases
+pub worked : AllHold Holds cases
 worked = all-hold cases computed

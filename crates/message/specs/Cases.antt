@@ -42,10 +42,6 @@ Holds (narrow kind s n needed) = (answerOf kind (bytes s) (lent n) ≡ checked.R
 Holds (spans kind s place part) = spanOf kind (bytes s) place ≡ part
 Holds (shows kind s place c) = contentOf kind (bytes s) place ≡ bytes c
 
-abbrev pub AllHold : List Case → Type 0
-AllHold [] = Unit {0}
-AllHold (c ∷ cs) = Holds c × AllHold cs
-
 abbrev pub signed202 : String
 signed202 =
     "{4:\r\n:20:+B2\r\n:21:NONREF\r\n:32A:240301RUB1000,\r\n:53B:/D/30111810500000100000\r\n:58D:/30101810400000000225\r\nINN7707083893\r\n'OOO' SBERBANK\r\n:72:/RPP/7.240301.5.ELEK.240301\r\n/NZP/'(VO10100)'PEREVOD SREDSTV\r\n//PO DOGOVORU 'A'\r\n-}"

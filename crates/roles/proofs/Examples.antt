@@ -1,5 +1,6 @@
 -- The worked examples of 14 hold: computed. Assumes nothing.
 use mathlib.Core.Path.{refl}
+use Rattle.base.specs.Examples.{AllHold}
 use Rattle.base.specs.Bytes.{isIn, digit, capital, letter, marks, shared, xset, same}
 use Rattle.alphabets.specs.Grid.{grid, sign}
 use Rattle.alphabets.specs.Bank.{reads}
@@ -9,9 +10,9 @@ use Rattle.roles.specs.Role.{shapeOf, cast}
 use Rattle.roles.specs.Speech.{names, behind, details, noted, speeches}
 use Rattle.types.specs.Sign.{signOf}
 use Rattle.roles.specs.Rule14.{hidden, isInn, taxLike, breaks, unheard, spoken, rule14}
-use Rattle.roles.specs.Cases.{cases, AllHold}
+use Rattle.roles.specs.Cases.{cases, Holds}
 
-pub worked : AllHold cases
+pub worked : AllHold Holds cases
 unfolding cases isIn digit capital letter marks shared xset same grid sign reads tags103 tags202 shapeOf heldBy isTax cast names behind details noted speeches hidden isInn taxLike breaks unheard spoken signOf rule14
 worked =
     (refl, (refl, (refl, (refl, (refl, (refl, (refl, (refl, (refl, (refl, (refl, (refl, (refl, (refl, (refl, (refl, (refl, (refl, (refl, (refl, (refl, (refl, (refl, (refl, (refl, (refl, (refl, (refl, (refl, (refl, (refl, (refl, (refl, (refl, (refl, (refl, (refl, (refl, (refl, (refl, (refl, (refl, (refl, (refl, (refl, (refl, (refl, (refl, (refl, (refl, (refl, (refl, (refl, (refl, (refl, (refl, (refl, (refl, (refl, tt)))))))))))))))))))))))))))))))))))))))))))))))))))))))))))

@@ -38,10 +38,6 @@ Holds (casts kind t ls ps) = cast (shapeOf kind (bytes t)) (texts ls) ≡ ps
 Holds (says s kind t ls xs) = speeches s (shapeOf kind (bytes t)) 0 (texts ls) ≡ xs
 Holds (stops b k) = reading true (bytes b) ≡ stuck k
 
-abbrev pub AllHold : List Case → Type 0
-AllHold [] = Unit {0}
-AllHold (c ∷ cs) = Holds c × AllHold cs
-
 -- one field, its content lines
 abbrev pub one : String → List String → List Field
 one t ls = of t ls ∷ []

@@ -1,5 +1,6 @@
 -- The worked examples hold: each is computed. Assumes nothing.
 use mathlib.Core.Path.{refl}
+use Rattle.base.specs.Examples.{AllHold, _also_}
 use Rattle.base.specs.Calls.{long, short}
 use Rattle.base.specs.Bytes.{isIn, digit, capital, letter, marks, shared, xset, same}
 use Rattle.fields.specs.Field.{message, body, cut, upto, past, grouped, fields}
@@ -24,12 +25,8 @@ use Rattle.alphabets.specs.Grid.{grid, kind}
 use Rattle.alphabets.specs.Grid as alphabets-grid
 use Rattle.alphabets.specs.Bank.{reads, plainly}
 use Rattle.sheets.specs.Gather.{contentParts, gather, recordsOf, sheetOf}
-use Rattle.sheets.specs.Cases.{AllHold, cases}
+use Rattle.sheets.specs.Cases.{Holds, cases}
 
-infixr 4 _also_
-abbrev _also_ : {A B : Type 0} → A → B → A × B
-a also b = (a, b)
-
-pub worked : AllHold cases
+pub worked : AllHold Holds cases
 unfolding cases long short isIn digit capital letter marks shared xset same message body cut upto past grouped fields rule1 framed rule2 scan rule3 tagged lineBad badLine rule4 form103 form202 forms placesOf find wrong walk rule18 walked signOf verdictOf firstWrong rightField rule8 onward leap daysIn isDay yearOf realDay dated behindDigits payment pointIn datesBehind rpp bothParts parties taxPlace isTax withKpp taxes valuesOf firstBad rule9 rule10 rule11 rule12 rule13 tags103 tags202 shapeOf heldBy cast names details noted speeches roles-speech.behind hidden isInn taxLike breaks unheard spoken rule14 grid kind alphabets-grid.sign reads plainly contentParts gather recordsOf sheetOf capitalOrDigit tests.lead tests.ends tests.pair tests.isReference tests.isPurpose tests.isPayment tests.isOwnAccount tests.isPartyByBik tests.isParty tests.isBic tests.isAccount tests.isTax tests.looksTax tests.isRpp tests.details tests.right
 worked = (refl, refl) also (refl, refl) also refl also refl also tt

@@ -21,10 +21,6 @@ abbrev pub Holds : Case → Type 0
 Holds (read kind m s) = (first (readRules kind (bytes m) (desk s)) ≡ Fine) × (sheetOf kind (bytes m) ≡ desk s)
 Holds (refused kind m n p) = first (readRules kind (bytes m) []) ≡ Broken n p
 
-abbrev pub AllHold : List Case → Type 0
-AllHold [] = Unit {0}
-AllHold (c ∷ cs) = Holds c × AllHold cs
-
 unfoldable pub cases : List Case
 cases =
     -- without the sign apostrophes stay, and details are joined with nothing between

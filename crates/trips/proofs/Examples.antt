@@ -6,6 +6,7 @@ use mathlib.Core.List.{List, [], _∷_, _++_, map}
 use native.Mathlib.Omega.{arith}
 use lib.ListN.{length, replicate, drop}
 use borrow.Author.Tests.{le-ltb}
+use Rattle.base.specs.Examples.{AllHold, _also_}
 use Rattle.base.specs.Choice.{pick}
 use Rattle.base.specs.Calls.{Answer, said, textOf, long, short}
 use Rattle.base.specs.Bytes.{empty, isIn, digit, capital, letter, marks, shared, xset, same}
@@ -55,11 +56,7 @@ use Rattle.writer.specs.Sheet.{sheetRules, unsaid, rule15, crowded, rule16, fie
 use Rattle.written.specs.Cases.{sheet103}
 use Rattle.sheets.specs.Calls.{readRules}
 use Rattle.sheets.specs.Gather.{codeDigits, contentParts, recordFor, gather, typeRecord, recordsOf, sheetOf}
-use Rattle.trips.specs.Cases.{AllHold, plain202, plainSheet, signed202, signedSheet, otherwise103, otherwiseSheet, best103, trips, idle, stops}
-
-infixr 4 _also_
-abbrev _also_ : {A B : Type 0} → A → B → A × B
-a also b = (a, b)
+use Rattle.trips.specs.Cases.{Holds, plain202, plainSheet, signed202, signedSheet, otherwise103, otherwiseSheet, best103, trips, idle, stops}
 
 -- ---- a message's refusal, 14 apart from the rest
 abbrev Easy : ℕ → List ℕ → Type 0
@@ -155,7 +152,7 @@ signed-sheet = ap₂ signed-with (signed-reads .0) (signed-reads .1)
 signed-fine : verdictOf 202 (bytes signed202) ≡ Fine
 signed-fine = fine-by 202 (bytes signed202) signed-easy signed-14
 
-pub worked : AllHold trips
+pub worked : AllHold Holds trips
 unfolding trips
 worked =
     there-and-back 103 (bytes sample) (desk sheet103) (bytes sample) (all-fine .0) (all-read .0) (all-written .0) (all-fine .0)
@@ -263,6 +260,6 @@ idle-crowded : first (sheetRules (sheet (typeRecord 103 ∷ its-records))) ≡ B
 unfolding contentParts gather same tags103 shapeOf heldBy cast reads signs.sign grid marks isIn digit capital letter shared long form103 form202 forms placesOf rule18 shaped signOf isTax isInn xset plainly kind latinNext best bad writes pieces recordOf records rest begun digits general untaxed sound badFrom judge sheetSign sheetType rule19 opens last broken breaking.breaks sizeFor unsaid rule15 crowded rule16
 idle-crowded = refl
 
-pub stopped : AllHold stops
+pub stopped : AllHold Holds stops
 unfolding stops
 stopped = (idle-fine, ap (λ (s : List ℕ). first (sheetRules s)) idle-sheet ∙ idle-crowded) also tt

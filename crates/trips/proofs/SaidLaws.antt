@@ -23,20 +23,20 @@ use Rattle.records.specs.Record.{plainText}
 use Rattle.written.proofs.SpeltLaws.{isSaid}
 
 -- ---- a text that says something
-pub record Says (s : Bool) (b : List ℕ) : Type 0 where
+pub record Means (s : Bool) (b : List ℕ) : Type 0 where
   pub desk : List ℕ
   pub reads : reading s b ≡ said desk
   pub means : empty desk ≡ false
 
 -- without the sign: bytes of the x set; with it: what 14's first clause lets pass
-pub says-plain : (b : List ℕ) → all xset b ≡ true → empty b ≡ false → Says false b
+pub says-plain : (b : List ℕ) → all xset b ≡ true → empty b ≡ false → Means false b
 says-plain b e z = record { desk = b; reads = plain-iff b .1 e; means = z }
 
-pub says-signed : (b : List ℕ) → breaks told b ≡ false → Says true b
+pub says-signed : (b : List ℕ) → breaks told b ≡ false → Means true b
 unfolding breaks
 says-signed b e = go (reading true b) refl e
   where
-    go : (a : Answer) → reading true b ≡ a → mute a ≡ false → Says true b
+    go : (a : Answer) → reading true b ≡ a → mute a ≡ false → Means true b
     go (said d) r e = record { desk = d; reads = r; means = e }
     go (stuck k) r e = absurd (true≢false e)
 

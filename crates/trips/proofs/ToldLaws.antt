@@ -48,7 +48,7 @@ use Rattle.written.proofs.CastLaws.{behind-code, code-size, unmarked}
 use Rattle.sheets.specs.Gather.{codeDigits, toldParts, noteParts, contentParts}
 use Rattle.trips.proofs.Held.{Held, Noted, Sheeted}
 use Rattle.trips.proofs.DetailLaws.{Told, told-lines, rpp-alone, Note, with-rpp, without, note-lines}
-use Rattle.trips.proofs.SaidLaws.{Says, says-plain, says-signed, says-written, plain-said, says-short, set-text, says-text, digits-set}
+use Rattle.trips.proofs.SaidLaws.{Means, says-plain, says-signed, says-written, plain-said, says-short, set-text, says-text, digits-set}
 
 -- ---- details: code and text over their lines
 code-least : (s : Bool) → 9 ≤ codeSize s
@@ -151,7 +151,7 @@ record Gathered (p : Place) (s : Bool) (ls : List (List ℕ)) (vo d : List ℕ) 
   five : length vo ≡ 5
   short : markSize p + codeSize s + length d + 2 ≤ length (laid ls)
 
-gathered : {p : Place} {s : Bool} {ls : List (List ℕ)} (w : Told p s ls) (h : Says s (whole w)) → Gathered p s ls (w .vo) (h .desk)
+gathered : {p : Place} {s : Bool} {ls : List (List ℕ)} (w : Told p s ls) (h : Means s (whole w)) → Gathered p s ls (w .vo) (h .desk)
 gathered {p} {s} {ls} w h = record {
   parts = told-parts w ∙ ap (λ (a : Answer). w .vo ∷ textOf a ∷ []) (h .reads);
   right-parts = both (w .five) (ap not (h .means));
@@ -163,7 +163,7 @@ gathered {p} {s} {ls} w h = record {
 
 -- what it says, by 3 or by 14
 told-says : {p : Place} (s : Bool) {ls : List (List ℕ)} (w : Told p s ls) (o : ℕ) → all (all xset) ls ≡ true
-    → (s ≡ true → Heard (speech.details (markSize p + codeSize true) (nextSize p) o ls)) → Says s (whole w)
+    → (s ≡ true → Heard (speech.details (markSize p + codeSize true) (nextSize p) o ls)) → Means s (whole w)
 told-says true w o e h = says-signed (whole w) (told-heard w o (h refl))
 told-says false w o e h = says-plain (whole w) (told-set w e) (w .some)
 
@@ -182,13 +182,13 @@ told-same vo b d r =
     ap (λ (x : List ℕ). code false vo ++ textOf (plainly x)) f ∙ ap (λ (a : Answer). code false vo ++ textOf a) r ∙ ap (λ (x : List ℕ). code false vo ++ x) f
 
 -- so what does not fit has the sign
-unfit-signed : {p : Place} (s : Bool) {ls : List (List ℕ)} (w : Told p s ls) (h : Says s (whole w)) → isUnfit (sizeFor p (codeSize s) (told s (w .vo ∷ h .desk ∷ []))) ≡ true → s ≡ true
+unfit-signed : {p : Place} (s : Bool) {ls : List (List ℕ)} (w : Told p s ls) (h : Means s (whole w)) → isUnfit (sizeFor p (codeSize s) (told s (w .vo ∷ h .desk ∷ []))) ≡ true → s ≡ true
 unfit-signed true w h q = refl
 unfit-signed {p} false w h q =
     absurd (false≢true (sym (never-unfit p 9 (code false (w .vo) ++ whole w) (told-divides w)) ∙ ap (λ (x : List ℕ). isUnfit (sizeFor p 9 x)) (sym (told-same (w .vo) (whole w) (h .desk) (h .reads))) ∙ q))
 
 -- with it a text may be another, but is no longer: that is enough where no byte is barred
-free-fits : {p : Place} {s : Bool} {ls : List (List ℕ)} (w : Told p s ls) (h : Says s (whole w)) → layout p .barred ≡ [] → isUnfit (sizeFor p (codeSize s) (told s (w .vo ∷ h .desk ∷ []))) ≡ false
+free-fits : {p : Place} {s : Bool} {ls : List (List ℕ)} (w : Told p s ls) (h : Means s (whole w)) → layout p .barred ≡ [] → isUnfit (sizeFor p (codeSize s) (told s (w .vo ∷ h .desk ∷ []))) ≡ false
 free-fits {p} {s} w h e =
     let t : List ℕ = textOf (writing s (h .desk)) in
     let n : length t ≤ length (whole w) = no-shorter s (h .desk) t (whole w) (said-is (writing s (h .desk)) (says-written s (whole w) (h .desk) (h .reads))) (h .reads) in
@@ -228,7 +228,7 @@ module _ (kind : ℕ) (s : Bool) (t : List ℕ) (ls : List (List ℕ)) (h : Held
   sheeted-70 : shapeOf kind t ≡ Details → Told In70 s ls → Sheeted kind s t ls
   unfolding contentParts sound crowded speeches
   sheeted-70 e w =
-      let y : Says s (whole w) = told-says s w 0 (h .fair .inside) (heard-as e) in
+      let y : Means s (whole w) = told-says s w 0 (h .fair .inside) (heard-as e) in
       let g = gathered w y in
       let n : length (line (field t (w .vo ∷ y .desk ∷ []))) ≤ length t + 1 + length (laid ls) =
       omega (arith, length-append t (9 ∷ (w .vo ++ 9 ∷ (y .desk ++ []))), length-append (w .vo) (9 ∷ (y .desk ++ [])), length-append (y .desk) [], g .five, g .short, code-least s) in
@@ -243,7 +243,7 @@ module _ (kind : ℕ) (s : Bool) (t : List ℕ) (ls : List (List ℕ)) (h : Held
       sheeted-as kind s t ls Note103 (r ∷ []) e (ap (map (drop 5)) i) (h .fair .some) (ap not z) (both (plain-said r x) refl) (both (set-text r x) refl) n (λ q. absurd (false≢true q))
 
   -- r is what follows /RPP/, or nothing
-  noted-by : shapeOf kind t ≡ Note202 → (r : List ℕ) (ks : List (List ℕ)) (w : Told (notePlace r) s ks) → Says s (whole w)
+  noted-by : shapeOf kind t ≡ Note202 → (r : List ℕ) (ks : List (List ℕ)) (w : Told (notePlace r) s ks) → Means s (whole w)
       → noteParts s ls ≡ r ∷ toldParts s (markSize (notePlace r)) (nextSize (notePlace r)) ks → all xset r ≡ true → length r + length (laid ks) ≤ length (laid ls) → Sheeted kind s t ls
   unfolding contentParts sound crowded
   noted-by e r ks w y i x k =
@@ -271,12 +271,12 @@ module _ (kind : ℕ) (s : Bool) (t : List ℕ) (ls : List (List ℕ)) (h : Held
   sheeted-202 e (with-rpp r ks j z w) =
       let o : ℕ = 0 + length (rppLine r) + 2 in
       let f : all (all xset) (rppLine r ∷ ks) ≡ true = rw j at (h .fair .inside) in
-      let y : Says s (whole w) = told-says s w o (right (all xset (rppLine r)) _ f) (λ q. subst Heard (ap (speech.noted true 0) j) (heard-as e q)) in
+      let y : Means s (whole w) = told-says s w o (right (all xset (rppLine r)) _ f) (λ q. subst Heard (ap (speech.noted true 0) j) (heard-as e q)) in
       let k : length r + length (laid ks) ≤ length (laid ls) = omega (arith, ap (λ (x : List (List ℕ)). length (laid x)) j, length-append (rppLine r) (13 ∷ 10 ∷ laid ks)) in
       by r z (ap (noteParts s) j) (all-behind xset (bytes "/RPP/") r (left (all xset (rppLine r)) _ f)) k w y
     where
       by : (r : List ℕ) {ks : List (List ℕ)} → empty r ≡ false → noteParts s ls ≡ r ∷ toldParts s 5 2 ks → all xset r ≡ true → length r + length (laid ks) ≤ length (laid ls)
-          → (w : Told BehindRpp s ks) → Says s (whole w) → Sheeted kind s t ls
+          → (w : Told BehindRpp s ks) → Means s (whole w) → Sheeted kind s t ls
       by [] z i x k w y = absurd (true≢false z)
       by (c ∷ r) {ks} z i x k w y = noted-by e (c ∷ r) ks w y i x k
 

@@ -9,6 +9,7 @@ use native.Mathlib.Omega.{arith}
 use lib.Dec.{eqb}
 use lib.ListN.{length, drop, drop-of-length-le}
 use borrow.Author.Tests.{eqb-true}
+use Rattle.base.specs.Examples.{_also_}
 use Rattle.base.specs.Choice.{pick, all}
 use Rattle.base.specs.Bytes.{begins, empty, same, xset, other, without}
 use Rattle.base.specs.Quoted.{bytes}
@@ -54,10 +55,6 @@ pub data Seen (kind : ℕ) (t : List ℕ) : Shape → Type 0 where
   as-details : kind ≡ 103 → t ≡ bytes "70" → Seen kind t Details
   as-note103 : heldBy kind t ≡ holds.Document → t ≡ bytes "72" → Seen kind t Note103
   as-note202 : heldBy kind t ≡ holds.DocumentAndDetails → t ≡ bytes "72" → Seen kind t Note202
-
-infixr 4 _also_
-abbrev _also_ : {A B : Type 0} → A → B → A × B
-a also b = (a, b)
 
 module _ (kind : ℕ) (t : List ℕ) where
   abbrev AllSeen : List Tag → Type 0

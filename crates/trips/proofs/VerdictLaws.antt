@@ -6,6 +6,7 @@ use mathlib.Core.List.{List, [], _∷_, map, tail}
 use native.Mathlib.Omega.{arith}
 use lib.Dec.{eqb}
 use lib.ListN.{length, length-append}
+use Rattle.base.specs.Examples.{_also_}
 use Rattle.base.specs.Choice.{pick, all}
 use Rattle.base.specs.Bytes.{empty}
 use Rattle.base.specs.declared.Verdict.the-variants.{Fine, Broken}
@@ -102,10 +103,6 @@ unfolding message
 message-size fs = let a = length-append (laid (linesOf fs)) closing in let b = laid-size (linesOf fs) in omega arith
 
 -- ---- a sheet whose records are those of an accepted message, and which no rule before 17 refuses
-infixr 4 _also_
-abbrev _also_ : {A B : Type 0} → A → B → A × B
-a also b = (a, b)
-
 module _ (kind : ℕ) (m : List ℕ) (e : verdictOf kind m ≡ Fine) (s : List ℕ) (c : Clean (sheetRules s)) (k : sheetType s ≡ kind) (g : sheetSign s ≡ signOf (fields m)) (r : tail (records s) ≡ gather kind (signOf (fields m)) (fields m)) where
   held : Every (HeldField kind (signOf (fields m))) (fields m)
   held = all-held kind m e

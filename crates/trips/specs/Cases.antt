@@ -30,10 +30,6 @@ Holds (trip kind m s n) =
 Holds (narrow kind m k n) = first (readRules kind (bytes m) (replicate k 0)) ≡ Broken 17 n
 Holds (stopped kind m n p) = (verdictOf kind (bytes m) ≡ Fine) × (first (sheetRules (sheetOf kind (bytes m))) ≡ Broken n p)
 
-abbrev pub AllHold : List Case → Type 0
-AllHold [] = Unit {0}
-AllHold (c ∷ cs) = Holds c × AllHold cs
-
 -- a 202 without the sign and without an RPP line; one with both and details over two lines
 abbrev pub plain202 : String
 plain202 =

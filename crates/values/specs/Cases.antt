@@ -38,10 +38,6 @@ Holds (comesTo s n) = kopecks (bytes s) ≡ n
 Holds (passes fs) = judged fs ≡ Fine
 Holds (refused fs n p) = judged fs ≡ Broken n p
 
-abbrev pub AllHold : List Case → Type 0
-AllHold [] = Unit {0}
-AllHold (c ∷ cs) = Holds c × AllHold cs
-
 -- ---- messages
 -- a field of one line
 abbrev one : String → String → List Field

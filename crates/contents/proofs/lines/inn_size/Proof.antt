@@ -1,44 +1,30 @@
-use Prim.Native.Nat.{ℕ, _+_, _≤_, _<_}
-use mathlib.Core.Path.{_≡_, refl, sym, ap, _∙_}
-use mathlib.Core.Bool.{true, false}
+-- `contents::lines::inn_size` meets its contract. Assumes nothing.
+use mathlib.Core.Path.{sym, _∙_}
+use mathlib.Core.Bool.{true, false, false≢true}
 use mathlib.Core.Logic.{inl, inr}
-use native.Mathlib.Omega.{arith}
-use borrow.Author.Needs.{needs}
-use borrow.Author.Tests.{not-true, not-false, eqb-true, eqb-false}
-use lib.ListN.{length}
-use mathlib.Core.Bool.{Bool}
-use Rattle.contents.specs.Answers.{InnBy}
+use borrow.Author.Tests.{not-true, not-false}
 use Rattle.contents.proofs.TaxLaws.{inn-by-10, inn-by-12, inn-by-none}
-use mathlib.Core.Bool.{false≢true}
 use Rattle.contents.proofs.lines.inn_size.Statement.{statement}
 use Rattle.contents.proofs.lines.inn_size.Tie as tie
-use Rattle.contents.proofs.lines.inn_size.Reads as reads
-use Rattle.contents.proofs.lines.inn_size.Lts as lts
 
--- src/lines.rt:70:9
 returns : tie.Need-returns
 returns c = inn-by-10 (c .before .args .twelve) (c .before .args .size) (inl (c .if1 .taken))
 
--- src/lines.rt:73:9
 returns-2 : tie.Need-returns-2
 returns-2 c = inn-by-10 (c .before .before .args .twelve) (c .before .before .args .size) (inr (c .if2 .taken))
 
--- src/lines.rt:76:9
 returns-3 : tie.Need-returns-3
 returns-3 c = let a = c .before .before .before .args in
     inn-by-none (a .twelve) (a .size) (c .before .before .if1 .left) (c .before .if2 .left) (λ e. absurd (false≢true (sym (not-true _ (c .if3 .taken)) ∙ e)))
 
--- src/lines.rt:79:9
 returns-4 : tie.Need-returns-4
 returns-4 c = let a = c .before .before .before .before .args in
     rw (not-false (a .twelve) (c .before .if3 .left)) (inn-by-12 (a .size) (inl (c .if4 .taken)))
 
--- src/lines.rt:82:9
 returns-5 : tie.Need-returns-5
 returns-5 c = let a = c .before .before .before .before .before .args in
     rw (not-false (a .twelve) (c .before .before .if3 .left)) (inn-by-12 (a .size) (inr (c .if5 .taken)))
 
--- src/lines.rt:66:1
 returns-6 : tie.Need-returns-6
 returns-6 c = let a = c .before .before .before .before .before .args in
     inn-by-none (a .twelve) (a .size) (c .before .before .before .before .if1 .left) (c .before .before .before .if2 .left) (λ e. (c .before .if4 .left, c .if5 .left))

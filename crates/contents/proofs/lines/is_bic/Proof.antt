@@ -1,61 +1,41 @@
+-- `contents::lines::is_bic` meets its contract. Assumes nothing.
 use Rattle.base.proofs.SaysLaws.{said, denied, says-so, says-not}
-use Prim.Native.Nat.{ℕ, _+_, _≤_, _<_}
-use mathlib.Core.Path.{_≡_, refl, sym, ap, _∙_}
-use mathlib.Core.Bool.{true, false}
-use mathlib.Core.Logic.{inl, inr}
 use native.Mathlib.Omega.{arith}
-use borrow.Author.Tests.{not-true, not-false, eqb-true, eqb-false}
-use lib.ListN.{length}
 use Rattle.contents.proofs.BankLaws.{bic-tests, bic-short, bic-long}
 use borrow.Author.Needs.{needs}
 use Rattle.contents.proofs.lines.is_bic.Statement.{statement}
 use Rattle.contents.proofs.lines.is_bic.Tie as tie
-use Rattle.contents.proofs.lines.is_bic.Reads as reads
-use Rattle.contents.proofs.lines.is_bic.Lts as lts
-use Rattle.contents.proofs.pieces.are_capitals.Reads as are-capitals-reads
-use Rattle.contents.proofs.pieces.are_capitals_or_digits.Reads as are-capitals-or-digits-reads
 
--- src/lines.rt:248:9
 returns : tie.Need-returns
 returns c = says-not (λ t. absurd (omega (arith, bic-tests (c .before .before .args .l .now) t .least, c .if1 .taken)))
 
--- src/lines.rt:250:9
 are-capitals-requires : tie.Need-are-capitals-requires
 are-capitals-requires c κs = search needs
 
--- src/lines.rt:251:9
 returns-2 : tie.Need-returns-2
 returns-2 c = says-not (λ t. denied (c .before .are-capitals .ensures) (c .if2 .taken) (bic-tests (c .before .before .before .before .args .l .now) t .four))
 
--- src/lines.rt:253:9
 are-capitals-requires-2 : tie.Need-are-capitals-requires-2
 are-capitals-requires-2 c κs = search needs
 
--- src/lines.rt:254:9
 returns-3 : tie.Need-returns-3
 returns-3 c = says-not (λ t. denied (c .before .are-capitals2 .ensures) (c .if3 .taken) (bic-tests (c .before .before .before .before .before .before .args .l .now) t .two))
 
--- src/lines.rt:256:9
 are-capitals-or-digits-requires : tie.Need-are-capitals-or-digits-requires
 are-capitals-or-digits-requires c κs = search needs
 
--- src/lines.rt:257:9
 returns-4 : tie.Need-returns-4
 returns-4 c = says-not (λ t. denied (c .before .are-capitals-or-digits .ensures) (c .if4 .taken) (bic-tests (c .before .before .before .before .before .before .before .before .args .l .now) t .town))
 
--- src/lines.rt:260:9
 returns-5 : tie.Need-returns-5
 returns-5 c = says-so (bic-short (c .before .before .before .before .before .before .before .before .before .args .l .now) (said (c .before .before .before .before .before .before .are-capitals .ensures) (c .before .before .before .before .before .if2 .left)) (said (c .before .before .before .before .are-capitals2 .ensures) (c .before .before .before .if3 .left)) (said (c .before .before .are-capitals-or-digits .ensures) (c .before .if4 .left)) (c .if5 .taken))
 
--- src/lines.rt:263:9
 returns-6 : tie.Need-returns-6
 returns-6 c = says-not (λ t. c .if6 .taken (bic-tests (c .before .before .before .before .before .before .before .before .before .before .args .l .now) t .tail (c .before .if5 .left) .0))
 
--- src/lines.rt:265:5
 are-capitals-or-digits-requires-2 : tie.Need-are-capitals-or-digits-requires-2
 are-capitals-or-digits-requires-2 c κs = search needs
 
--- src/lines.rt:244:1
 returns-7 : tie.Need-returns-7
 returns-7 c = record {
   so = λ e. bic-long (c .before .before .before .before .before .before .before .before .before .before .before .args .l .now) (said (c .before .before .before .before .before .before .before .before .are-capitals .ensures) (c .before .before .before .before .before .before .before .if2 .left)) (said (c .before .before .before .before .before .before .are-capitals2 .ensures) (c .before .before .before .before .before .if3 .left)) (said (c .before .before .before .before .are-capitals-or-digits .ensures) (c .before .before .before .if4 .left)) (c .before .if6 .left) (c .are-capitals-or-digits2 .ensures .so e);

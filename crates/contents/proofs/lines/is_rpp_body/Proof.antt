@@ -1,84 +1,57 @@
+-- `contents::lines::is_rpp_body` meets its contract. Assumes nothing.
 use Rattle.base.proofs.SaysLaws.{said, denied, says-not}
-use Prim.Native.Nat.{ℕ, _+_, _≤_, _<_}
-use mathlib.Core.Path.{_≡_, refl, sym, ap, _∙_}
-use mathlib.Core.Bool.{true, false}
-use mathlib.Core.Logic.{inl, inr}
-use native.Mathlib.Omega.{arith}
-use borrow.Author.Tests.{not-true, not-false, eqb-true, eqb-false}
-use lib.ListN.{length}
 use borrow.Author.Needs.{needs}
 use Rattle.contents.proofs.lines.is_rpp_body.Statement.{statement}
 use Rattle.contents.proofs.lines.is_rpp_body.Tie as tie
-use Rattle.contents.proofs.lines.is_rpp_body.Reads as reads
-use Rattle.contents.proofs.lines.is_rpp_body.Lts as lts
-use Rattle.contents.proofs.lines.is_way.Reads as is-way-reads
-use Rattle.contents.proofs.pieces.are_digits.Reads as are-digits-reads
 
--- src/lines.rt:171:8
 shared-slice-read-if1 : tie.Need-shared-slice-read-if1
 shared-slice-read-if1 c = search needs
 
--- src/lines.rt:172:9
 returns : tie.Need-returns
 returns c = says-not (λ b. c .if1 .taken (b .point))
 
--- src/lines.rt:174:10
 add-if2 : tie.Need-add-if2
 add-if2 c = search needs
 
--- src/lines.rt:174:8
 shared-slice-read-if2 : tie.Need-shared-slice-read-if2
 shared-slice-read-if2 c = search needs
 
--- src/lines.rt:175:9
 returns-2 : tie.Need-returns-2
 returns-2 c = says-not (λ b. c .if2 .taken (b .point2))
 
--- src/lines.rt:177:10
 add-if3 : tie.Need-add-if3
 add-if3 c = search needs
 
--- src/lines.rt:177:8
 shared-slice-read-if3 : tie.Need-shared-slice-read-if3
 shared-slice-read-if3 c = search needs
 
--- src/lines.rt:178:9
 returns-3 : tie.Need-returns-3
 returns-3 c = says-not (λ b. c .if3 .taken (b .point3))
 
--- src/lines.rt:180:23
 add-are-digits : tie.Need-add-are-digits
 add-are-digits c = search needs
 
--- src/lines.rt:180:9
 are-digits-requires : tie.Need-are-digits-requires
 are-digits-requires c κs = search needs
 
--- src/lines.rt:181:9
 returns-4 : tie.Need-returns-4
 returns-4 c = says-not (λ b. denied (c .before .are-digits .ensures) (c .if4 .taken) (b .day))
 
--- src/lines.rt:183:23
 add-are-digits-2 : tie.Need-add-are-digits-2
 add-are-digits-2 c = search needs
 
--- src/lines.rt:183:9
 are-digits-requires-2 : tie.Need-are-digits-requires-2
 are-digits-requires-2 c κs = search needs
 
--- src/lines.rt:184:9
 returns-5 : tie.Need-returns-5
 returns-5 c = says-not (λ b. denied (c .before .are-digits2 .ensures) (c .if5 .taken) (b .order))
 
--- src/lines.rt:186:15
 add-is-way : tie.Need-add-is-way
 add-is-way c = search needs
 
--- src/lines.rt:186:5
 is-way-requires : tie.Need-is-way-requires
 is-way-requires c κs = search needs
 
--- src/lines.rt:167:1
 returns-6 : tie.Need-returns-6
 returns-6 c = record {
   so = λ e. record { point = c .before .before .before .before .before .before .before .before .before .if1 .left; day = said (c .before .before .before .before .are-digits .ensures) (c .before .before .before .if4 .left); point2 = c .before .before .before .before .before .before .before .if2 .left; order = said (c .before .before .are-digits2 .ensures) (c .before .if5 .left); point3 = c .before .before .before .before .before .if3 .left; kind = c .is-way .ensures .so e };

@@ -1,18 +1,10 @@
+-- `contents::lines::is_way` meets its contract. Assumes nothing.
 use Rattle.base.proofs.SaysLaws.{says-so}
 use Rattle.base.specs.Says.{Not, _or_}
-use Prim.Native.Nat.{ℕ, _+_, _≤_, _<_}
-use mathlib.Core.Path.{_≡_, refl, sym, ap, _∙_}
-use mathlib.Core.Bool.{true, false}
 use mathlib.Core.Logic.{inl, inr}
-use native.Mathlib.Omega.{arith}
-use borrow.Author.Tests.{not-true, not-false, eqb-true, eqb-false}
-use lib.ListN.{length}
 use borrow.Author.Needs.{needs}
 use Rattle.contents.proofs.lines.is_way.Statement.{statement}
 use Rattle.contents.proofs.lines.is_way.Tie as tie
-use Rattle.contents.proofs.lines.is_way.Reads as reads
-use Rattle.contents.proofs.lines.is_way.Lts as lts
-use Rattle.contents.proofs.pieces.has_word.Reads as has-word-reads
 
 none-of : {A B C D : Type 0} → Not A → Not B → Not C → Not D → Not (A or B or C or D)
 none-of a b c d (inl x) = a x
@@ -20,51 +12,39 @@ none-of a b c d (inr (inl x)) = b x
 none-of a b c d (inr (inr (inl x))) = c x
 none-of a b c d (inr (inr (inr x))) = d x
 
--- src/lines.rt:154:23
 slice-aggregate-has-word : tie.Need-slice-aggregate-has-word
 slice-aggregate-has-word c = search needs
 
--- src/lines.rt:154:8
 has-word-requires : tie.Need-has-word-requires
 has-word-requires c κs = search needs
 
--- src/lines.rt:155:9
 returns : tie.Need-returns
 returns c = says-so (inl (c .before .has-word .ensures .so (c .if1 .taken)))
 
--- src/lines.rt:157:23
 slice-aggregate-has-word-2 : tie.Need-slice-aggregate-has-word-2
 slice-aggregate-has-word-2 c = search needs
 
--- src/lines.rt:157:8
 has-word-requires-2 : tie.Need-has-word-requires-2
 has-word-requires-2 c κs = search needs
 
--- src/lines.rt:158:9
 returns-2 : tie.Need-returns-2
 returns-2 c = says-so (inr (inl (c .before .has-word2 .ensures .so (c .if2 .taken))))
 
--- src/lines.rt:160:23
 slice-aggregate-has-word-3 : tie.Need-slice-aggregate-has-word-3
 slice-aggregate-has-word-3 c = search needs
 
--- src/lines.rt:160:8
 has-word-requires-3 : tie.Need-has-word-requires-3
 has-word-requires-3 c κs = search needs
 
--- src/lines.rt:161:9
 returns-3 : tie.Need-returns-3
 returns-3 c = says-so (inr (inr (inl (c .before .has-word3 .ensures .so (c .if3 .taken)))))
 
--- src/lines.rt:163:20
 slice-aggregate-has-word-4 : tie.Need-slice-aggregate-has-word-4
 slice-aggregate-has-word-4 c = search needs
 
--- src/lines.rt:163:5
 has-word-requires-4 : tie.Need-has-word-requires-4
 has-word-requires-4 c κs = search needs
 
--- src/lines.rt:150:1
 returns-4 : tie.Need-returns-4
 returns-4 c = record {
   so = λ e. inr (inr (inr (c .has-word4 .ensures .so e)));

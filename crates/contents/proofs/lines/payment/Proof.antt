@@ -1,99 +1,68 @@
+-- `contents::lines::payment` meets its contract. Assumes nothing.
 use Rattle.base.proofs.SaysLaws.{said, denied}
-use Prim.Native.Nat.{ℕ, _+_, _≤_, _<_}
-use mathlib.Core.Path.{_≡_, refl, sym, ap, _∙_}
-use mathlib.Core.Bool.{true, false}
-use mathlib.Core.Logic.{inl, inr}
 use native.Mathlib.Omega.{arith}
-use borrow.Author.Tests.{not-true, not-false, eqb-true, eqb-false}
-use lib.ListN.{length}
 use Rattle.contents.proofs.PaidLaws.{paid-tests, paid-passes, paid-made}
 use borrow.Author.Needs.{needs}
 use Rattle.contents.proofs.lines.payment.Statement.{statement}
 use Rattle.contents.proofs.lines.payment.Tie as tie
-use Rattle.contents.proofs.lines.payment.Reads as reads
-use Rattle.contents.proofs.lines.payment.Lts as lts
-use Rattle.contents.proofs.pieces.are_capitals.Reads as are-capitals-reads
-use Rattle.contents.proofs.pieces.are_digits.Reads as are-digits-reads
-use Rattle.contents.proofs.pieces.digits_from.Reads as digits-from-reads
-use Rattle.contents.proofs.pieces.has_word.Reads as has-word-reads
 
--- src/lines.rt:118:9
 returns : tie.Need-returns
 returns c = λ a b x y t. absurd (omega (arith, paid-tests a b x y (c .before .before .args .l .now) t .least, c .if1 .taken))
 
--- src/lines.rt:121:9
 returns-2 : tie.Need-returns-2
 returns-2 c = λ a b x y t. absurd (omega (arith, paid-tests a b x y (c .before .before .before .args .l .now) t .most, c .if2 .taken))
 
--- src/lines.rt:123:9
 are-digits-requires : tie.Need-are-digits-requires
 are-digits-requires c κs = search needs
 
--- src/lines.rt:124:9
 returns-3 : tie.Need-returns-3
 returns-3 c = λ a b x y t. denied (c .before .are-digits .ensures) (c .if3 .taken) (paid-tests a b x y (c .before .before .before .before .before .args .l .now) t .day)
 
--- src/lines.rt:126:9
 are-capitals-requires : tie.Need-are-capitals-requires
 are-capitals-requires c κs = search needs
 
--- src/lines.rt:127:9
 returns-4 : tie.Need-returns-4
 returns-4 c = λ a b x y t. denied (c .before .are-capitals .ensures) (c .if4 .taken) (paid-tests a b x y (c .before .before .before .before .before .before .before .args .l .now) t .money)
 
--- src/lines.rt:129:9
 digits-from-requires : tie.Need-digits-from-requires
 digits-from-requires c κs = search needs
 
--- src/lines.rt:131:9
 returns-5 : tie.Need-returns-5
 returns-5 c = λ a b x y t. absurd (omega (arith, paid-passes a b x y (c .before .before .before .before .before .before .before .before .before .args .l .now) (c .before .digits-from .result) (c .before .digits-from .ensures) t .some, c .if5 .taken))
 
--- src/lines.rt:133:17
 add-comma : tie.Need-add-comma
 add-comma c = search needs
 
--- src/lines.rt:135:9
 returns-6 : tie.Need-returns-6
 returns-6 c = λ a b x y t. absurd (omega (arith, paid-passes a b x y (c .before .before .before .before .before .before .before .before .before .before .args .l .now) (c .before .before .digits-from .result) (c .before .before .digits-from .ensures) t .there, c .if6 .taken))
 
--- src/lines.rt:137:24
 add-d : tie.Need-add-d
 add-d c = search needs
 
--- src/lines.rt:137:13
 sub-d : tie.Need-sub-d
 sub-d c = search needs
 
--- src/lines.rt:139:9
 returns-7 : tie.Need-returns-7
 returns-7 c = λ a b x y t. absurd (omega (arith, paid-passes a b x y (c .before .before .before .before .before .before .before .before .before .before .before .args .l .now) (c .before .before .before .digits-from .result) (c .before .before .before .digits-from .ensures) t .few, c .if7 .taken))
 
--- src/lines.rt:141:28
 slice-aggregate-has-word : tie.Need-slice-aggregate-has-word
 slice-aggregate-has-word c = search needs
 
--- src/lines.rt:141:9
 has-word-requires : tie.Need-has-word-requires
 has-word-requires c κs = search needs
 
--- src/lines.rt:142:9
 returns-8 : tie.Need-returns-8
 returns-8 c = λ a b x y t. denied (c .before .has-word .ensures) (c .if8 .taken) (paid-passes a b x y (c .before .before .before .before .before .before .before .before .before .before .before .before .before .before .args .l .now) (c .before .before .before .before .before .before .digits-from .result) (c .before .before .before .before .before .before .digits-from .ensures) t .comma)
 
--- src/lines.rt:144:23
 add-are-digits : tie.Need-add-are-digits
 add-are-digits c = search needs
 
--- src/lines.rt:144:9
 are-digits-requires-2 : tie.Need-are-digits-requires-2
 are-digits-requires-2 c κs = search needs
 
--- src/lines.rt:145:9
 returns-9 : tie.Need-returns-9
 returns-9 c = λ a b x y t. denied (c .before .are-digits2 .ensures) (c .if9 .taken) (paid-passes a b x y (c .before .before .before .before .before .before .before .before .before .before .before .before .before .before .before .before .args .l .now) (c .before .before .before .before .before .before .before .before .digits-from .result) (c .before .before .before .before .before .before .before .before .digits-from .ensures) t .parts)
 
--- src/lines.rt:114:1
 returns-10 : tie.Need-returns-10
 returns-10 c = paid-made (c .before .before .before .before .before .before .before .before .digits-from .result) (c .before .before .before .before .before .before .before .before .before .before .before .before .before .before .before .before .args .l .now) (record {
   least = c .before .before .before .before .before .before .before .before .before .before .before .before .before .before .if1 .left;

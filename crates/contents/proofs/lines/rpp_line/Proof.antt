@@ -1,107 +1,74 @@
+-- `contents::lines::rpp_line` meets its contract. Assumes nothing.
 use Rattle.base.proofs.SaysLaws.{said, denied}
-use Prim.Native.Nat.{ℕ, _+_, _≤_, _<_}
-use mathlib.Core.Path.{_≡_, refl, sym, ap, _∙_}
-use mathlib.Core.Bool.{true, false}
-use mathlib.Core.Logic.{inl, inr}
 use native.Mathlib.Omega.{arith}
-use borrow.Author.Tests.{not-true, not-false, eqb-true, eqb-false}
-use lib.ListN.{length}
 use Rattle.contents.proofs.RppLaws.{rpp-front, rpp-passes, rpp-short, rpp-long}
 use borrow.Author.Needs.{needs}
 use Rattle.contents.proofs.lines.rpp_line.Statement.{statement}
 use Rattle.contents.proofs.lines.rpp_line.Tie as tie
-use Rattle.contents.proofs.lines.rpp_line.Reads as reads
-use Rattle.contents.proofs.lines.rpp_line.Lts as lts
-use Rattle.contents.proofs.lines.is_rpp_body.Reads as is-rpp-body-reads
-use Rattle.contents.proofs.pieces.are_digits.Reads as are-digits-reads
-use Rattle.contents.proofs.pieces.digits_from.Reads as digits-from-reads
-use Rattle.contents.proofs.pieces.has_word.Reads as has-word-reads
 
--- src/lines.rt:193:9
 returns : tie.Need-returns
 returns c = λ a b x y v t. absurd (omega (arith, rpp-front a b x y v (c .before .before .args .l .now) t .1, c .if1 .taken))
 
--- src/lines.rt:195:24
 slice-aggregate-has-word : tie.Need-slice-aggregate-has-word
 slice-aggregate-has-word c = search needs
 
--- src/lines.rt:195:9
 has-word-requires : tie.Need-has-word-requires
 has-word-requires c κs = search needs
 
--- src/lines.rt:196:9
 returns-2 : tie.Need-returns-2
 returns-2 c = λ a b x y v t. denied (c .before .has-word .ensures) (c .if2 .taken) (rpp-front a b x y v (c .before .before .before .before .before .args .l .now) t .0)
 
--- src/lines.rt:198:9
 digits-from-requires : tie.Need-digits-from-requires
 digits-from-requires c κs = search needs
 
--- src/lines.rt:200:9
 returns-3 : tie.Need-returns-3
 returns-3 c = λ a b x y v t. absurd (omega (arith, rpp-passes a b x y v (c .before .before .before .before .before .before .before .args .l .now) (c .before .digits-from .result) (c .before .digits-from .ensures) t .some, c .if3 .taken))
 
--- src/lines.rt:202:13
 add-i : tie.Need-add-i
 add-i c = search needs
 
--- src/lines.rt:203:18
 add-if4 : tie.Need-add-if4
 add-if4 c = search needs
 
--- src/lines.rt:204:9
 returns-4 : tie.Need-returns-4
 returns-4 c = λ a b x y v t. absurd (omega (arith, rpp-passes a b x y v (c .before .before .before .before .before .before .before .before .args .l .now) (c .before .before .digits-from .result) (c .before .before .digits-from .ensures) t .there, c .if4 .taken))
 
--- src/lines.rt:206:9
 is-rpp-body-requires : tie.Need-is-rpp-body-requires
 is-rpp-body-requires c κs = search needs
 
--- src/lines.rt:207:9
 returns-5 : tie.Need-returns-5
 returns-5 c = λ a b x y v t. denied (c .before .is-rpp-body .ensures) (c .if5 .taken) (rpp-passes a b x y v (c .before .before .before .before .before .before .before .before .before .before .args .l .now) (c .before .before .before .before .digits-from .result) (c .before .before .before .before .digits-from .ensures) t .body)
 
--- src/lines.rt:209:19
 add-if6 : tie.Need-add-if6
 add-if6 c = search needs
 
--- src/lines.rt:210:9
 returns-6 : tie.Need-returns-6
 returns-6 c = rpp-short (c .before .before .before .before .before .digits-from .result) (c .before .before .before .before .before .before .before .before .before .before .before .args .l .now) (said (c .before .before .before .before .before .before .before .has-word .ensures) (c .before .before .before .before .before .before .if2 .left)) (c .before .before .before .before .before .digits-from .ensures) (c .before .before .before .before .if3 .left) (c .before .before .before .if4 .left) (said (c .before .before .is-rpp-body .ensures) (c .before .if5 .left)) (c .if6 .taken)
 
--- src/lines.rt:212:19
 add-if7 : tie.Need-add-if7
 add-if7 c = search needs
 
--- src/lines.rt:213:9
 returns-7 : tie.Need-returns-7
 returns-7 c = λ a b x y v t. c .if7 .taken (rpp-passes a b x y v (c .before .before .before .before .before .before .before .before .before .before .before .before .args .l .now) (c .before .before .before .before .before .before .digits-from .result) (c .before .before .before .before .before .before .digits-from .ensures) t .tail (c .before .if6 .left) .0)
 
--- src/lines.rt:215:10
 add-if8 : tie.Need-add-if8
 add-if8 c = search needs
 
--- src/lines.rt:215:8
 shared-slice-read-if8 : tie.Need-shared-slice-read-if8
 shared-slice-read-if8 c = search needs
 
--- src/lines.rt:216:9
 returns-8 : tie.Need-returns-8
 returns-8 c = λ a b x y v t. c .if8 .taken (rpp-passes a b x y v (c .before .before .before .before .before .before .before .before .before .before .before .before .before .before .args .l .now) (c .before .before .before .before .before .before .before .before .digits-from .result) (c .before .before .before .before .before .before .before .before .digits-from .ensures) t .tail (c .before .before .before .if6 .left) .1)
 
--- src/lines.rt:218:23
 add-are-digits : tie.Need-add-are-digits
 add-are-digits c = search needs
 
--- src/lines.rt:218:9
 are-digits-requires : tie.Need-are-digits-requires
 are-digits-requires c κs = search needs
 
--- src/lines.rt:219:9
 returns-9 : tie.Need-returns-9
 returns-9 c = λ a b x y v t. denied (c .before .are-digits .ensures) (c .if9 .taken) (rpp-passes a b x y v (c .before .before .before .before .before .before .before .before .before .before .before .before .before .before .before .before .args .l .now) (c .before .before .before .before .before .before .before .before .before .before .digits-from .result) (c .before .before .before .before .before .before .before .before .before .before .digits-from .ensures) t .tail (c .before .before .before .before .before .if6 .left) .2)
 
--- src/lines.rt:189:1
 returns-10 : tie.Need-returns-10
 returns-10 c = rpp-long (c .before .before .before .before .before .before .before .before .before .before .digits-from .result) (c .before .before .before .before .before .before .before .before .before .before .before .before .before .before .before .before .args .l .now) (said (c .before .before .before .before .before .before .before .before .before .before .before .before .has-word .ensures) (c .before .before .before .before .before .before .before .before .before .before .before .if2 .left)) (c .before .before .before .before .before .before .before .before .before .before .digits-from .ensures) (c .before .before .before .before .before .before .before .before .before .if3 .left) (c .before .before .before .before .before .before .before .before .if4 .left) (said (c .before .before .before .before .before .before .before .is-rpp-body .ensures) (c .before .before .before .before .before .before .if5 .left)) (c .before .before .before .before .if7 .left) (c .before .before .if8 .left) (said (c .before .are-digits .ensures) (c .if9 .left))
 

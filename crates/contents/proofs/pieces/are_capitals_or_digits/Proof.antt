@@ -1,22 +1,17 @@
+-- `contents::pieces::are_capitals_or_digits` meets its contract. Assumes nothing.
 use Rattle.base.proofs.SaysLaws.{says-so, says-not}
-use Prim.Native.Nat.{ℕ, _-_, _+_, _≤_, _<_}
+use Prim.Native.Nat.{_-_, _≤_}
 use mathlib.Core.Path.{_≡_, refl, sym, _∙_}
-use mathlib.Core.Bool.{true, false}
-use mathlib.Core.Logic.{⊎-elim}
+use mathlib.Core.Bool.{true}
 use native.Mathlib.Omega.{arith}
 use borrow.Author.Needs.{needs}
 use borrow.Author.Tests.{not-true, not-false}
-use lib.ListN.{length, take}
 use Rattle.base.specs.Choice.{all}
-use Rattle.base.specs.Bytes.{digit}
 use Rattle.contents.specs.Words.{capitalOrDigit}
 use Rattle.contents.specs.Answers.{cut}
-use Rattle.contents.proofs.Laws.{kind-not, kind-on, flag-on, just}
+use Rattle.contents.proofs.Laws.{kind-not, kind-on, just}
 use Rattle.contents.proofs.pieces.are_capitals_or_digits.Statement.{statement}
 use Rattle.contents.proofs.pieces.are_capitals_or_digits.Tie as tie
-use Rattle.contents.proofs.pieces.are_capitals_or_digits.Reads as reads
-use Rattle.contents.proofs.pieces.are_capitals_or_digits.Lts as lts
-use Rattle.contents.proofs.pieces.is_capital_or_digit.Reads as is-capital-or-digit-reads
 
 abbrev Inv-loop : tie.InvT-loop
 Inv-loop s i n k₀ k = (k ≤ n) × (all capitalOrDigit (cut i k s) ≡ true)
@@ -24,41 +19,32 @@ Inv-loop s i n k₀ k = (k ≤ n) × (all capitalOrDigit (cut i k s) ≡ true)
 abbrev μ-loop : tie.MeasureT-loop
 μ-loop s i n k₀ k = n - k
 
--- src/pieces.rt:46:5
 loop-holds : tie.Need-loop-holds Inv-loop μ-loop
 loop-holds c = (omega arith, refl)
 
--- src/pieces.rt:47:26
 add-is-capital-or-digit : tie.Need-add-is-capital-or-digit Inv-loop μ-loop
 add-is-capital-or-digit c = omega arith
 
--- src/pieces.rt:47:24
 shared-slice-read-is-capital-or-digit : tie.Need-shared-slice-read-is-capital-or-digit Inv-loop μ-loop
 shared-slice-read-is-capital-or-digit c = omega arith
 
--- src/pieces.rt:47:13
 is-capital-or-digit-requires : tie.Need-is-capital-or-digit-requires Inv-loop μ-loop
 is-capital-or-digit-requires c κs = search needs
 
--- src/pieces.rt:48:13
 returns : tie.Need-returns Inv-loop μ-loop
 returns c = let l = c .before .before .before .before in let a = l .before .before .args in
     says-not (λ j. kind-not capitalOrDigit (a .i) (a .s .now) (a .n) (l .loop .k) (omega arith) (omega arith) (sym (c .before .is-capital-or-digit .ensures) ∙ not-true _ (c .if1 .taken)) (j .each))
 
--- src/pieces.rt:50:9
 add-k : tie.Need-add-k Inv-loop μ-loop
 add-k c = omega arith
 
--- src/pieces.rt:46:5
 loop-less : tie.Need-loop-less Inv-loop μ-loop
 loop-less c = omega arith
 
--- src/pieces.rt:46:5
 loop-again : tie.Need-loop-again Inv-loop μ-loop
 loop-again c = let l = c .before .before .before .before in let a = l .before .before .args in
     (omega arith, kind-on capitalOrDigit (a .i) (a .s .now) (l .loop .k) (omega arith) (l .loop .inv .1) (sym (c .before .is-capital-or-digit .ensures) ∙ not-false _ (c .if1 .left)))
 
--- src/pieces.rt:41:1
 returns-2 : tie.Need-returns-2 Inv-loop μ-loop
 returns-2 c = let l = c .before in let a = l .before .before .args in let q : l .loop .k ≡ a .n = omega (arith, c .loop-test .left) in
     just capitalOrDigit (a .i) (a .s .now) (a .n) true (omega arith) (says-so (rw q at (l .loop .inv .1)))

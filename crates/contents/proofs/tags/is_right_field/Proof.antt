@@ -1,5 +1,5 @@
 -- `contents::tags::is_right_field` meets its contract: the reader and the test say the same. Assumes nothing.
-use mathlib.Core.Path.{_≡_, ap, _∙_}
+use mathlib.Core.Path.{ap, _∙_}
 use borrow.Author.Needs.{needs}
 use Rattle.base.proofs.SaysLaws.{says-same}
 use Rattle.fields.specs.Lines.{linesIn}

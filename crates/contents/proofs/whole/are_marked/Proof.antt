@@ -1,28 +1,17 @@
+-- `contents::whole::are_marked` meets its contract. Assumes nothing.
 use Rattle.base.proofs.SaysLaws.{said, denied, says-so, says-not}
-use Rattle.contents.proofs.FieldLaws.{lines-on}
-use Prim.Native.Nat.{ℕ, _+_, _≤_, _<_}
-use mathlib.Core.Path.{_≡_, refl, sym, ap, _∙_}
-use mathlib.Core.Bool.{true, false}
-use mathlib.Core.Logic.{inl, inr}
+use Rattle.contents.proofs.FieldLaws.{lines-on, front, names-none, names-last, names-more, names-first, names-rest}
+use Prim.Native.Nat.{_≤_, _-_}
 use native.Mathlib.Omega.{arith}
 use borrow.Author.Needs.{needs}
-use borrow.Author.Tests.{not-true, not-false, eqb-true, eqb-false}
-use lib.ListN.{length}
-use Prim.Native.Nat.{_-_, min}
-use lib.ListN.{drop}
+use lib.ListN.{length, drop}
 use Rattle.base.proofs.MarkLaws.{up-rest}
 use Rattle.fields.specs.Lines.{linesIn}
-use Rattle.fields.proofs.ContentLaws.{lines-last, lines-more}
+use Rattle.fields.proofs.ContentLaws.{lines-last}
 use Rattle.contents.specs.Fields.{Several}
 use Rattle.contents.specs.Answers.{IsMarked}
-use Rattle.contents.proofs.FieldLaws.{front, some-line, names-none, names-last, names-more, names-first, names-rest}
 use Rattle.contents.proofs.whole.are_marked.Statement.{statement}
 use Rattle.contents.proofs.whole.are_marked.Tie as tie
-use Rattle.contents.proofs.whole.are_marked.Reads as reads
-use Rattle.contents.proofs.whole.are_marked.Lts as lts
-use Rattle.base.proofs.marks.mark_at.Reads as mark-at-reads
-use Rattle.contents.proofs.whole.is_marked.Reads as is-marked-reads
-use Rattle.fields.proofs.lines.next_line.Reads as next-line-reads
 
 abbrev Inv-loop : tie.InvT-loop
 Inv-loop c from most at₀ left₀ at left = (at ≤ length c) × (Several IsMarked left (linesIn (drop at c)) → Several IsMarked most (linesIn (drop from c))) × (Several IsMarked most (linesIn (drop from c)) → Several IsMarked left (linesIn (drop at c)))
@@ -30,57 +19,44 @@ Inv-loop c from most at₀ left₀ at left = (at ≤ length c) × (Several IsMar
 abbrev μ-loop : tie.MeasureT-loop
 μ-loop c from most at₀ left₀ at left = length c - at
 
--- src/whole.rt:32:5
 loop-holds : tie.Need-loop-holds Inv-loop μ-loop
 loop-holds c = (omega arith, λ p. p, λ p. p)
 
--- src/whole.rt:34:13
 returns : tie.Need-returns Inv-loop μ-loop
 returns c = let v = c .before .loop .inv in says-not (λ p. names-none (c .before .loop .left) _ (c .if1 .taken) (v .2 p))
 
--- src/whole.rt:36:13
 mark-at-requires : tie.Need-mark-at-requires Inv-loop μ-loop
 mark-at-requires c κs = search needs
 
--- src/whole.rt:37:21
 sub-is-marked : tie.Need-sub-is-marked Inv-loop μ-loop
 sub-is-marked c = omega arith
 
--- src/whole.rt:37:21
 part-is-marked-start : tie.Need-part-is-marked-start Inv-loop μ-loop
 part-is-marked-start c = search needs
 
--- src/whole.rt:37:21
 part-is-marked-end : tie.Need-part-is-marked-end Inv-loop μ-loop
 part-is-marked-end c = let v = c .before .before .loop .inv in omega (arith, up-rest 13 (c .before .before .before .before .args .c .now) (c .before .before .loop .at) (v .0))
 
--- src/whole.rt:37:13
 is-marked-requires : tie.Need-is-marked-requires Inv-loop μ-loop
 is-marked-requires c κs = search needs
 
--- src/whole.rt:38:13
 returns-2 : tie.Need-returns-2 Inv-loop μ-loop
 returns-2 c = let v = c .before .before .before .before .before .loop .inv in let f = front (c .before .before .before .before .before .before .before .args .c .now) (c .before .before .before .before .before .loop .at) (c .before .before .before .mark-at .result) (v .0) (c .before .before .before .mark-at .ensures) in
     says-not (λ p. denied (c .before .is-marked .ensures) (c .if2 .taken) (names-first (c .before .before .before .before .before .loop .left) _ (f .0) (rw (f .1) at (v .2 p))))
 
--- src/whole.rt:41:13
 returns-3 : tie.Need-returns-3 Inv-loop μ-loop
 returns-3 c = let v = c .before .before .before .before .before .before .loop .inv in
     says-so (v .1 (rw (lines-last (c .before .before .before .before .before .before .before .before .args .c .now) (c .before .before .before .before .before .before .loop .at) (c .before .before .before .before .mark-at .result) (v .0) (c .before .before .before .before .mark-at .ensures) (c .if3 .taken)) (names-last (c .before .before .before .before .before .before .loop .left) _ (c .before .before .before .before .before .if1 .left) (said (c .before .before .is-marked .ensures) (c .before .if2 .left)))))
 
--- src/whole.rt:43:9
 sub-left : tie.Need-sub-left Inv-loop μ-loop
 sub-left c = omega arith
 
--- src/whole.rt:44:9
 next-line-requires : tie.Need-next-line-requires Inv-loop μ-loop
 next-line-requires c κs = search needs
 
--- src/whole.rt:32:5
 loop-less : tie.Need-loop-less Inv-loop μ-loop
 loop-less c = omega arith
 
--- src/whole.rt:32:5
 loop-again : tie.Need-loop-again Inv-loop μ-loop
 loop-again c = let v = c .before .before .before .before .before .before .before .loop .inv in
     let g = lines-on (c .before .before .before .before .before .before .before .before .before .args .c .now) (c .before .before .before .before .before .before .before .loop .at) (c .before .before .before .before .before .mark-at .result) (c .next-line .result) (v .0) (c .before .before .before .before .before .mark-at .ensures) (c .before .if3 .left) (c .next-line .ensures) in

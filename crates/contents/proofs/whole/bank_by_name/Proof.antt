@@ -1,62 +1,41 @@
-use Prim.Native.Nat.{ℕ, _+_, _≤_, _<_}
-use mathlib.Core.Path.{_≡_, refl, sym, ap, _∙_}
-use mathlib.Core.Bool.{true, false}
-use mathlib.Core.Logic.{inl, inr}
+-- `contents::whole::bank_by_name` meets its contract. Assumes nothing.
+use mathlib.Core.Path.{sym, _∙_}
 use native.Mathlib.Omega.{arith}
-use borrow.Author.Tests.{not-true, not-false, eqb-true, eqb-false}
-use lib.ListN.{length}
 use Rattle.contents.proofs.FieldLaws.{taken-0, front-0, last-0, on-0}
 use Rattle.contents.proofs.BankLaws.{read-none, read-some}
 use borrow.Author.Needs.{needs}
 use Rattle.contents.proofs.whole.bank_by_name.Statement.{statement}
 use Rattle.contents.proofs.whole.bank_by_name.Tie as tie
-use Rattle.contents.proofs.whole.bank_by_name.Reads as reads
-use Rattle.contents.proofs.whole.bank_by_name.Lts as lts
-use Rattle.base.proofs.marks.mark_at.Reads as mark-at-reads
-use Rattle.contents.proofs.lines.party_line.Reads as party-line-reads
-use Rattle.contents.proofs.whole.are_names.Reads as are-names-reads
-use Rattle.contents.proofs.whole.is_no_party.Reads as is-no-party-reads
-use Rattle.fields.proofs.lines.next_line.Reads as next-line-reads
 
--- src/whole.rt:204:9
 mark-at-requires : tie.Need-mark-at-requires
 mark-at-requires c κs = search needs
 
--- src/whole.rt:205:24
 slice-aggregate-party-line : tie.Need-slice-aggregate-party-line
 slice-aggregate-party-line c = taken-0 (c .before .before .before .args .c .now) (c .before .mark-at .result) (c .before .mark-at .ensures)
 
--- src/whole.rt:205:9
 party-line-requires : tie.Need-party-line-requires
 party-line-requires c κs = search needs
 
--- src/whole.rt:206:8
 is-no-party-requires : tie.Need-is-no-party-requires
 is-no-party-requires c κs = search needs
 
--- src/whole.rt:207:9
 returns : tie.Need-returns
 returns c = let f = front-0 (c .before .before .before .before .before .before .args .c .now) (c .before .before .before .before .mark-at .result) (c .before .before .before .before .mark-at .ensures) in
     rw (f .1) (λ k. read-none _ (c .before .before .party-line .result) (c .before .before .party-line .ensures) (sym (c .before .is-no-party .ensures) ∙ c .if1 .taken) (k .0))
 
--- src/whole.rt:210:9
 returns-2 : tie.Need-returns-2
 returns-2 c = rw (last-0 (c .before .before .before .before .before .before .before .args .c .now) (c .before .before .before .before .before .mark-at .result) (c .before .before .before .before .before .mark-at .ensures) (c .if2 .taken)) (λ k. absurd (omega (arith, k .1 .least)))
 
--- src/whole.rt:212:21
 next-line-requires : tie.Need-next-line-requires
 next-line-requires c κs = search needs
 
--- src/whole.rt:212:8
 are-names-requires : tie.Need-are-names-requires
 are-names-requires c κs = search needs
 
--- src/whole.rt:213:9
 returns-3 : tie.Need-returns-3
 returns-3 c = let g = on-0 (c .before .before .before .before .before .before .before .before .before .before .args .c .now) (c .before .before .before .before .before .before .before .before .mark-at .result) (c .before .before .before .before .before .before .before .before .mark-at .ensures) (c .before .before .next-line .result) (c .before .before .before .if2 .left) (c .before .before .next-line .ensures) in
     rw (g .0) (read-some _ (c .before .before .before .before .before .before .party-line .result) (c .before .before .before .before .before .before .party-line .ensures) (sym (c .before .before .before .before .before .is-no-party .ensures) ∙ c .before .before .before .before .if1 .left), c .before .are-names .ensures .so (c .if3 .taken))
 
--- src/whole.rt:201:1
 returns-4 : tie.Need-returns-4
 returns-4 c = let g = on-0 (c .before .before .before .before .before .before .before .before .before .before .args .c .now) (c .before .before .before .before .before .before .before .before .mark-at .result) (c .before .before .before .before .before .before .before .before .mark-at .ensures) (c .before .before .next-line .result) (c .before .before .before .if2 .left) (c .before .before .next-line .ensures) in
     rw (g .0) (λ k. c .before .are-names .ensures .not-so (c .if3 .left) (k .1))

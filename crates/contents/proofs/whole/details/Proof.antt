@@ -1,56 +1,38 @@
+-- `contents::whole::details` meets its contract. Assumes nothing.
 use Rattle.base.proofs.SaysLaws.{said, denied, says-not}
 use Rattle.contents.specs.Answers.{textAt}
-use Prim.Native.Nat.{ℕ, _+_, _≤_, _<_}
-use mathlib.Core.Path.{_≡_, refl, sym, ap, _∙_}
-use mathlib.Core.Bool.{true, false}
-use mathlib.Core.Logic.{inl, inr}
+use mathlib.Core.Path.{refl, ap}
 use native.Mathlib.Omega.{arith}
-use borrow.Author.Tests.{not-true, not-false, eqb-true, eqb-false}
-use lib.ListN.{length}
 use borrow.Author.Tests.{ltb-true, ltb-false}
 use Rattle.contents.proofs.FieldLaws.{taken-0, front-0, last-0, on-0}
 use Rattle.contents.proofs.VoLaws.{in70-more, in70-one, in70-vo, in70-wide, in70-names, in70-text}
 use borrow.Author.Needs.{needs}
 use Rattle.contents.proofs.whole.details.Statement.{statement}
 use Rattle.contents.proofs.whole.details.Tie as tie
-use Rattle.contents.proofs.whole.details.Reads as reads
-use Rattle.contents.proofs.whole.details.Lts as lts
-use Rattle.base.proofs.marks.mark_at.Reads as mark-at-reads
-use Rattle.contents.proofs.whole.are_names.Reads as are-names-reads
-use Rattle.contents.proofs.whole.is_vo.Reads as is-vo-reads
-use Rattle.fields.proofs.lines.next_line.Reads as next-line-reads
 
--- src/whole.rt:131:9
 mark-at-requires : tie.Need-mark-at-requires
 mark-at-requires c κs = search needs
 
--- src/whole.rt:133:9
 returns : tie.Need-returns
 returns c = let s = c .before .before .before .args .c .now in let f = front-0 s (c .before .mark-at .result) (c .before .mark-at .ensures) in
     says-not (λ d. absurd (omega (arith, in70-wide (c .before .before .before .args .sign) _ (f .0) (rw (f .1) at d), taken-0 s (c .before .mark-at .result) (c .before .mark-at .ensures), c .if1 .taken)))
 
--- src/whole.rt:135:21
 slice-aggregate-is-vo : tie.Need-slice-aggregate-is-vo
 slice-aggregate-is-vo c = taken-0 (c .before .before .before .before .args .c .now) (c .before .before .mark-at .result) (c .before .before .mark-at .ensures)
 
--- src/whole.rt:135:9
 is-vo-requires : tie.Need-is-vo-requires
 is-vo-requires c κs = search needs
 
--- src/whole.rt:136:9
 returns-2 : tie.Need-returns-2
 returns-2 c = let s = c .before .before .before .before .before .before .args .c .now in let f = front-0 s (c .before .before .before .before .mark-at .result) (c .before .before .before .before .mark-at .ensures) in
     says-not (λ d. denied (c .before .is-vo .ensures) (c .if2 .taken) (in70-vo (c .before .before .before .before .before .before .args .sign) _ (f .0) (rw (f .1) at d)))
 
--- src/whole.rt:139:29
 next-line-requires : tie.Need-next-line-requires
 next-line-requires c κs = search needs
 
--- src/whole.rt:139:9
 are-names-requires : tie.Need-are-names-requires
 are-names-requires c κs = search needs
 
--- src/whole.rt:139:9
 returns-3 : tie.Need-returns-3
 returns-3 c = let s = c .before .before .before .before .before .before .before .before .before .args .c .now in let g = on-0 s (c .before .before .before .before .before .before .before .mark-at .result) (c .before .before .before .before .before .before .before .mark-at .ensures) (c .before .next-line .result) (c .before .before .if3 .taken) (c .before .next-line .ensures) in
     let w = taken-0 s (c .before .before .before .before .before .before .before .mark-at .result) (c .before .before .before .before .before .before .before .mark-at .ensures) in
@@ -59,7 +41,6 @@ returns-3 c = let s = c .before .before .before .before .before .before .before 
       not-so = λ e d. c .are-names .ensures .not-so e (in70-names (c .before .before .before .before .before .before .before .before .before .args .sign) _ _ (rw (g .0) at d) (g .2));
     }
 
--- src/whole.rt:142:9
 returns-4 : tie.Need-returns-4
 returns-4 c = let s = c .before .before .before .before .before .before .before .before .args .c .now in let g = last-0 s (c .before .before .before .before .before .before .mark-at .result) (c .before .before .before .before .before .before .mark-at .ensures) (c .before .if3 .left) in
     let w = taken-0 s (c .before .before .before .before .before .before .mark-at .result) (c .before .before .before .before .before .before .mark-at .ensures) in let t = ap textAt (c .if4 .taken) in
@@ -68,7 +49,6 @@ returns-4 c = let s = c .before .before .before .before .before .before .before 
       not-so = λ e d. absurd (omega (arith, w, t, ltb-false 11 (c .before .before .before .before .before .before .mark-at .result) e, in70-text (c .before .before .before .before .before .before .before .before .args .sign) _ _ (rw g at d) refl));
     }
 
--- src/whole.rt:128:1
 returns-5 : tie.Need-returns-5
 returns-5 c = let s = c .before .before .before .before .before .before .before .before .args .c .now in let g = last-0 s (c .before .before .before .before .before .before .mark-at .result) (c .before .before .before .before .before .before .mark-at .ensures) (c .before .if3 .left) in
     let w = taken-0 s (c .before .before .before .before .before .before .mark-at .result) (c .before .before .before .before .before .before .mark-at .ensures) in let t = ap textAt (c .if4 .left) in

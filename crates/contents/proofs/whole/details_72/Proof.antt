@@ -1,68 +1,46 @@
+-- `contents::whole::details_72` meets its contract. Assumes nothing.
 use Rattle.base.proofs.SaysLaws.{said, denied, says-not}
-use Prim.Native.Nat.{ℕ, _+_, _≤_, _<_}
-use mathlib.Core.Path.{_≡_, refl, sym, ap, _∙_}
-use mathlib.Core.Bool.{true, false}
-use mathlib.Core.Logic.{inl, inr}
+use mathlib.Core.Path.{_≡_, refl}
 use native.Mathlib.Omega.{arith}
-use borrow.Author.Tests.{not-true, not-false, eqb-true, eqb-false}
-use lib.ListN.{length}
+use lib.ListN.{length, take, drop, length-drop}
 use Prim.Native.Nat.{_-_}
 use Rattle.base.proofs.MarkLaws.{up-rest}
-use lib.ListN.{take, drop}
 use lib.Seq.{length-take-le}
-use lib.ListN.{length-drop}
 use Rattle.fields.proofs.ContentLaws.{lines-last}
 use Rattle.contents.proofs.FieldLaws.{front, lines-on}
 use Rattle.contents.proofs.VoLaws.{in72-more, in72-one, in72-nzp, in72-marked, in72-text}
 use borrow.Author.Needs.{needs}
 use Rattle.contents.proofs.whole.details_72.Statement.{statement}
 use Rattle.contents.proofs.whole.details_72.Tie as tie
-use Rattle.contents.proofs.whole.details_72.Reads as reads
-use Rattle.contents.proofs.whole.details_72.Lts as lts
-use Rattle.base.proofs.marks.mark_at.Reads as mark-at-reads
-use Rattle.contents.proofs.whole.are_marked.Reads as are-marked-reads
-use Rattle.contents.proofs.whole.has_text.Reads as has-text-reads
-use Rattle.contents.proofs.whole.is_nzp.Reads as is-nzp-reads
-use Rattle.fields.proofs.lines.next_line.Reads as next-line-reads
 
--- src/whole.rt:320:9
 mark-at-requires : tie.Need-mark-at-requires
 mark-at-requires c κs = search needs
 
--- src/whole.rt:321:22
 sub-is-nzp : tie.Need-sub-is-nzp
 sub-is-nzp c = search needs
 
--- src/whole.rt:321:22
 part-is-nzp-start : tie.Need-part-is-nzp-start
 part-is-nzp-start c = search needs
 
--- src/whole.rt:321:22
 part-is-nzp-end : tie.Need-part-is-nzp-end
 part-is-nzp-end c = omega (arith, up-rest 13 (c .before .before .args .c .now) (c .before .before .args .at) (c .before .before .pre .0), c .mark-at .ensures)
 
--- src/whole.rt:321:9
 is-nzp-requires : tie.Need-is-nzp-requires
 is-nzp-requires c κs = search needs
 
--- src/whole.rt:322:9
 returns : tie.Need-returns
 returns c = let f = front (c .before .before .before .before .before .args .c .now) (c .before .before .before .before .before .args .at) (c .before .before .before .mark-at .result) (c .before .before .before .before .before .pre .0) (c .before .before .before .mark-at .ensures) in
     says-not (λ d. denied (c .before .is-nzp .ensures) (c .if1 .taken) (in72-nzp (c .before .before .before .before .before .args .sign) (c .before .before .before .before .before .args .most) _ (f .0) (rw (f .1) at d)))
 
--- src/whole.rt:325:30
 next-line-requires : tie.Need-next-line-requires
 next-line-requires c κs = search needs
 
--- src/whole.rt:325:53
 sub-are-marked : tie.Need-sub-are-marked
 sub-are-marked c = search needs
 
--- src/whole.rt:325:9
 are-marked-requires : tie.Need-are-marked-requires
 are-marked-requires c κs = search needs
 
--- src/whole.rt:325:9
 returns-2 : tie.Need-returns-2
 returns-2 c = let g = lines-on (c .before .before .before .before .before .before .before .before .args .c .now) (c .before .before .before .before .before .before .before .before .args .at) (c .before .before .before .before .before .before .mark-at .result) (c .before .next-line .result) (c .before .before .before .before .before .before .before .before .pre .0) (c .before .before .before .before .before .before .mark-at .ensures) (c .before .before .if2 .taken) (c .before .next-line .ensures) in
     record {
@@ -70,15 +48,12 @@ returns-2 c = let g = lines-on (c .before .before .before .before .before .befor
       not-so = λ e d. c .are-marked .ensures .not-so e (in72-marked (c .before .before .before .before .before .before .before .before .args .sign) (c .before .before .before .before .before .before .before .before .args .most) _ _ (rw (g .0) at d) (g .2));
     }
 
--- src/whole.rt:327:20
 sub-has-text : tie.Need-sub-has-text
 sub-has-text c = search needs
 
--- src/whole.rt:327:5
 has-text-requires : tie.Need-has-text-requires
 has-text-requires c κs = search needs
 
--- src/whole.rt:316:1
 returns-3 : tie.Need-returns-3
 returns-3 c = let s = c .before .before .before .before .before .before .before .args .c .now in let e = c .before .before .before .before .before .mark-at .result in let a = c .before .before .before .before .before .before .before .args .at in let g = lines-last s a e (c .before .before .before .before .before .before .before .pre .0) (c .before .before .before .before .before .mark-at .ensures) (c .before .if2 .left) in
     let z : length (take (e - a) (drop a s)) ≡ e - a = length-take-le (e - a) (drop a s) (omega (arith, length-drop a s, up-rest 13 s a (c .before .before .before .before .before .before .before .pre .0), c .before .before .before .before .before .mark-at .ensures)) in

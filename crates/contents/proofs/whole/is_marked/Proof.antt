@@ -1,36 +1,23 @@
+-- `contents::whole::is_marked` meets its contract. Assumes nothing.
 use Rattle.base.proofs.SaysLaws.{says-not}
-use Prim.Native.Nat.{ℕ, _+_, _≤_, _<_}
-use mathlib.Core.Path.{_≡_, refl, sym, ap, _∙_}
-use mathlib.Core.Bool.{true, false}
-use mathlib.Core.Logic.{inl, inr}
 use native.Mathlib.Omega.{arith}
-use borrow.Author.Tests.{not-true, not-false, eqb-true, eqb-false}
-use lib.ListN.{length}
 use Rattle.contents.proofs.VoLaws.{marked-tests, marked-made}
 use borrow.Author.Needs.{needs}
 use Rattle.contents.proofs.whole.is_marked.Statement.{statement}
 use Rattle.contents.proofs.whole.is_marked.Tie as tie
-use Rattle.contents.proofs.whole.is_marked.Reads as reads
-use Rattle.contents.proofs.whole.is_marked.Lts as lts
-use Rattle.contents.proofs.pieces.has_word.Reads as has-word-reads
 
--- src/whole.rt:259:9
 returns : tie.Need-returns
 returns c = says-not (λ m. absurd (omega (arith, marked-tests (c .before .before .args .l .now) m .0, c .if1 .taken)))
 
--- src/whole.rt:262:9
 returns-2 : tie.Need-returns-2
 returns-2 c = says-not (λ m. absurd (omega (arith, marked-tests (c .before .before .before .args .l .now) m .1, c .if2 .taken)))
 
--- src/whole.rt:264:20
 slice-aggregate-has-word : tie.Need-slice-aggregate-has-word
 slice-aggregate-has-word c = search needs
 
--- src/whole.rt:264:5
 has-word-requires : tie.Need-has-word-requires
 has-word-requires c κs = search needs
 
--- src/whole.rt:255:1
 returns-3 : tie.Need-returns-3
 returns-3 c = record { so = λ e. marked-made (c .before .before .before .before .before .args .l .now) (c .before .before .before .if1 .left) (c .before .before .if2 .left) (c .has-word .ensures .so e); not-so = λ e m. c .has-word .ensures .not-so e (marked-tests (c .before .before .before .before .before .args .l .now) m .2) }
 

@@ -1,28 +1,19 @@
-use Prim.Native.Nat.{ℕ, _+_, _≤_, _<_}
-use mathlib.Core.Path.{_≡_, refl, sym, ap, _∙_}
-use mathlib.Core.Bool.{true, false}
-use mathlib.Core.Logic.{inl, inr}
+-- `contents::whole::is_one_line` meets its contract. Assumes nothing.
+use Prim.Native.Nat.{ℕ, _+_, min}
+use mathlib.Core.Path.{refl, sym, ap, _∙_}
 use native.Mathlib.Omega.{arith}
-use borrow.Author.Tests.{not-true, not-false, eqb-true, eqb-false}
 use lib.ListN.{length}
 use borrow.Author.Tests.{leb-true, leb-false}
-use Rattle.contents.proofs.FieldLaws.{within-0, last-0, on-0, front-0}
-use Prim.Native.Nat.{min}
+use Rattle.contents.proofs.FieldLaws.{last-0, on-0}
 use lib.Seq.{take-all}
 use mathlib.Core.List.{List, [], _∷_}
-use Rattle.fields.specs.Lines.{linesIn}
 use borrow.Author.Needs.{needs}
 use Rattle.contents.proofs.whole.is_one_line.Statement.{statement}
 use Rattle.contents.proofs.whole.is_one_line.Tie as tie
-use Rattle.contents.proofs.whole.is_one_line.Reads as reads
-use Rattle.contents.proofs.whole.is_one_line.Lts as lts
-use Rattle.base.proofs.marks.mark_at.Reads as mark-at-reads
 
--- src/whole.rt:250:16
 mark-at-requires : tie.Need-mark-at-requires
 mark-at-requires c κs = search needs
 
--- src/whole.rt:247:1
 returns : tie.Need-returns
 returns c = let s = c .before .before .args .c .now in let e = c .mark-at .result in record {
   so = λ x. let k = leb-true (length s) e x in last-0 s e (c .mark-at .ensures) k ∙ ap (λ (l : List ℕ). l ∷ []) (take-all e s k);

@@ -5,254 +5,181 @@ use Rattle.contents.proofs.RightLaws.{payer-is, customer-is, bic-is, na
 use borrow.Author.Needs.{needs}
 use Rattle.contents.proofs.whole.is_right.Statement.{statement}
 use Rattle.contents.proofs.whole.is_right.Tie as tie
-use Rattle.contents.proofs.whole.is_right.Reads as reads
-use Rattle.contents.proofs.whole.is_right.Lts as lts
-use Rattle.contents.proofs.whole.account_and_bic.Reads as account-and-bic-reads
-use Rattle.contents.proofs.whole.bank_by_bic.Reads as bank-by-bic-reads
-use Rattle.contents.proofs.whole.bank_by_name.Reads as bank-by-name-reads
-use Rattle.contents.proofs.whole.customer.Reads as customer-reads
-use Rattle.contents.proofs.whole.details.Reads as details-reads
-use Rattle.contents.proofs.whole.is_bank.Reads as is-bank-reads
-use Rattle.contents.proofs.whole.is_held.Reads as is-held-reads
-use Rattle.contents.proofs.whole.is_note.Reads as is-note-reads
-use Rattle.contents.proofs.whole.is_one.Reads as is-one-reads
-use Rattle.contents.proofs.whole.payer.Reads as payer-reads
-use Rattle.contents.proofs.whole.regulatory.Reads as regulatory-reads
-use Rattle.contents.proofs.whole.rpp_and_details.Reads as rpp-and-details-reads
 
--- src/whole.rt:457:29
 enum-told : tie.Need-enum-told
 enum-told c = search needs
 
--- src/whole.rt:458:35
 enum-told-2 : tie.Need-enum-told-2
 enum-told-2 c = search needs
 
--- src/whole.rt:458:35
 payer-requires : tie.Need-payer-requires
 payer-requires c κs = search needs
 
--- src/whole.rt:458:27
 is-held-requires : tie.Need-is-held-requires
 is-held-requires c κs = search needs
 
--- src/whole.rt:459:39
 enum-told-3 : tie.Need-enum-told-3
 enum-told-3 c = search needs
 
--- src/whole.rt:459:39
 bank-by-bic-requires : tie.Need-bank-by-bic-requires
 bank-by-bic-requires c κs = search needs
 
--- src/whole.rt:459:31
 is-bank-requires : tie.Need-is-bank-requires
 is-bank-requires c κs = search needs
 
--- src/whole.rt:460:40
 enum-told-4 : tie.Need-enum-told-4
 enum-told-4 c = search needs
 
--- src/whole.rt:460:40
 bank-by-name-requires : tie.Need-bank-by-name-requires
 bank-by-name-requires c κs = search needs
 
--- src/whole.rt:460:32
 is-bank-requires-2 : tie.Need-is-bank-requires-2
 is-bank-requires-2 c κs = search needs
 
--- src/whole.rt:461:35
 enum-told-5 : tie.Need-enum-told-5
 enum-told-5 c = search needs
 
--- src/whole.rt:461:35
 account-and-bic-requires : tie.Need-account-and-bic-requires
 account-and-bic-requires c κs = search needs
 
--- src/whole.rt:462:45
 enum-told-6 : tie.Need-enum-told-6
 enum-told-6 c = search needs
 
--- src/whole.rt:462:45
 customer-requires : tie.Need-customer-requires
 customer-requires c κs = search needs
 
--- src/whole.rt:462:37
 is-held-requires-2 : tie.Need-is-held-requires-2
 is-held-requires-2 c κs = search needs
 
--- src/whole.rt:463:41
 enum-told-7 : tie.Need-enum-told-7
 enum-told-7 c = search needs
 
--- src/whole.rt:463:41
 customer-requires-2 : tie.Need-customer-requires-2
 customer-requires-2 c κs = search needs
 
--- src/whole.rt:463:33
 is-held-requires-3 : tie.Need-is-held-requires-3
 is-held-requires-3 c κs = search needs
 
--- src/whole.rt:464:29
 enum-told-8 : tie.Need-enum-told-8
 enum-told-8 c = search needs
 
--- src/whole.rt:464:29
 details-requires : tie.Need-details-requires
 details-requires c κs = search needs
 
--- src/whole.rt:465:48
 enum-told-9 : tie.Need-enum-told-9
 enum-told-9 c = search needs
 
--- src/whole.rt:465:48
 rpp-and-details-requires : tie.Need-rpp-and-details-requires
 rpp-and-details-requires c κs = search needs
 
--- src/whole.rt:465:40
 is-note-requires : tie.Need-is-note-requires
 is-note-requires c κs = search needs
 
--- src/whole.rt:466:32
 enum-told-10 : tie.Need-enum-told-10
 enum-told-10 c = search needs
 
--- src/whole.rt:466:32
 regulatory-requires : tie.Need-regulatory-requires
 regulatory-requires c κs = search needs
 
--- src/whole.rt:467:31
 enum-told-11 : tie.Need-enum-told-11
 enum-told-11 c = search needs
 
--- src/whole.rt:467:31
 is-one-requires : tie.Need-is-one-requires
 is-one-requires c κs = search needs
 
--- src/whole.rt:468:29
 enum-told-12 : tie.Need-enum-told-12
 enum-told-12 c = search needs
 
--- src/whole.rt:468:29
 is-one-requires-2 : tie.Need-is-one-requires-2
 is-one-requires-2 c κs = search needs
 
--- src/whole.rt:469:31
 enum-told-13 : tie.Need-enum-told-13
 enum-told-13 c = search needs
 
--- src/whole.rt:469:31
 is-one-requires-3 : tie.Need-is-one-requires-3
 is-one-requires-3 c κs = search needs
 
--- src/whole.rt:470:29
 enum-told-14 : tie.Need-enum-told-14
 enum-told-14 c = search needs
 
--- src/whole.rt:470:29
 is-one-requires-4 : tie.Need-is-one-requires-4
 is-one-requires-4 c κs = search needs
 
--- src/whole.rt:471:29
 enum-told-15 : tie.Need-enum-told-15
 enum-told-15 c = search needs
 
--- src/whole.rt:471:29
 is-one-requires-5 : tie.Need-is-one-requires-5
 is-one-requires-5 c κs = search needs
 
--- src/whole.rt:472:32
 enum-told-16 : tie.Need-enum-told-16
 enum-told-16 c = search needs
 
--- src/whole.rt:472:32
 is-one-requires-6 : tie.Need-is-one-requires-6
 is-one-requires-6 c κs = search needs
 
--- src/whole.rt:473:29
 enum-told-17 : tie.Need-enum-told-17
 enum-told-17 c = search needs
 
--- src/whole.rt:473:29
 is-one-requires-7 : tie.Need-is-one-requires-7
 is-one-requires-7 c κs = search needs
 
--- src/whole.rt:474:30
 enum-told-18 : tie.Need-enum-told-18
 enum-told-18 c = search needs
 
--- src/whole.rt:474:30
 is-one-requires-8 : tie.Need-is-one-requires-8
 is-one-requires-8 c κs = search needs
 
--- src/whole.rt:453:1
 returns : tie.Need-returns
 returns c = rw (c .enum-told .given .1) (says-not (λ x. x))
 
--- src/whole.rt:453:1
 returns-2 : tie.Need-returns-2
 returns-2 c = rw (c .before .before .enum-told2 .given .1) (payer-is (linesIn (c .before .before .before .before .before .args .c .now)) (c .before .payer .result) (c .is-held .result) (c .is-held .ensures) (c .before .payer .ensures))
 
--- src/whole.rt:453:1
 returns-3 : tie.Need-returns-3
 returns-3 c = rw (c .before .before .enum-told3 .given .1) (bic-is (linesIn (c .before .before .before .before .before .args .c .now)) (c .before .bank-by-bic .result) (c .is-bank .result) (c .is-bank .ensures) (c .before .bank-by-bic .ensures))
 
--- src/whole.rt:453:1
 returns-4 : tie.Need-returns-4
 returns-4 c = rw (c .before .before .enum-told4 .given .1) (name-is (linesIn (c .before .before .before .before .before .args .c .now)) (c .before .bank-by-name .result) (c .is-bank2 .result) (c .is-bank2 .ensures) (c .before .bank-by-name .ensures))
 
--- src/whole.rt:453:1
 returns-5 : tie.Need-returns-5
 returns-5 c = rw (c .before .enum-told5 .given .1) (c .account-and-bic .ensures)
 
--- src/whole.rt:453:1
 returns-6 : tie.Need-returns-6
 returns-6 c = rw (c .before .before .enum-told6 .given .1) (customer-is _ (linesIn (c .before .before .before .before .before .args .c .now)) (c .before .customer .result) (c .is-held2 .result) (c .is-held2 .ensures) (c .before .customer .ensures))
 
--- src/whole.rt:453:1
 returns-7 : tie.Need-returns-7
 returns-7 c = rw (c .before .before .enum-told7 .given .1) (customer-is _ (linesIn (c .before .before .before .before .before .args .c .now)) (c .before .customer2 .result) (c .is-held3 .result) (c .is-held3 .ensures) (c .before .customer2 .ensures))
 
--- src/whole.rt:453:1
 returns-8 : tie.Need-returns-8
 returns-8 c = rw (c .before .enum-told8 .given .1) (c .details .ensures)
 
--- src/whole.rt:453:1
 returns-9 : tie.Need-returns-9
 returns-9 c = rw (c .before .before .enum-told9 .given .1) (note-is (c .before .before .before .before .before .args .sign) (linesIn (c .before .before .before .before .before .args .c .now)) (c .before .rpp-and-details .result) (c .is-note .result) (c .is-note .ensures) (c .before .rpp-and-details .ensures))
 
--- src/whole.rt:453:1
 returns-10 : tie.Need-returns-10
 returns-10 c = rw (c .before .enum-told10 .given .1) (c .regulatory .ensures)
 
--- src/whole.rt:453:1
 returns-11 : tie.Need-returns-11
 returns-11 c = rw (c .before .enum-told11 .given .1) (rw (c .before .enum-told11 .given .1) at (c .is-one .ensures))
 
--- src/whole.rt:453:1
 returns-12 : tie.Need-returns-12
 returns-12 c = rw (c .before .enum-told12 .given .1) (rw (c .before .enum-told12 .given .1) at (c .is-one2 .ensures))
 
--- src/whole.rt:453:1
 returns-13 : tie.Need-returns-13
 returns-13 c = rw (c .before .enum-told13 .given .1) (rw (c .before .enum-told13 .given .1) at (c .is-one3 .ensures))
 
--- src/whole.rt:453:1
 returns-14 : tie.Need-returns-14
 returns-14 c = rw (c .before .enum-told14 .given .1) (rw (c .before .enum-told14 .given .1) at (c .is-one4 .ensures))
 
--- src/whole.rt:453:1
 returns-15 : tie.Need-returns-15
 returns-15 c = rw (c .before .enum-told15 .given .1) (rw (c .before .enum-told15 .given .1) at (c .is-one5 .ensures))
 
--- src/whole.rt:453:1
 returns-16 : tie.Need-returns-16
 returns-16 c = rw (c .before .enum-told16 .given .1) (rw (c .before .enum-told16 .given .1) at (c .is-one6 .ensures))
 
--- src/whole.rt:453:1
 returns-17 : tie.Need-returns-17
 returns-17 c = rw (c .before .enum-told17 .given .1) (rw (c .before .enum-told17 .given .1) at (c .is-one7 .ensures))
 
--- src/whole.rt:453:1
 returns-18 : tie.Need-returns-18
 returns-18 c = rw (c .before .enum-told18 .given .1) (rw (c .before .enum-told18 .given .1) at (c .is-one8 .ensures))
 

@@ -1,39 +1,28 @@
+-- `contents::whole::regulatory` meets its contract. Assumes nothing.
 use Rattle.base.proofs.SaysLaws.{says-not}
-use lib.ListN.{List·getD-eq-default}
-use Prim.Native.Nat.{ℕ, _+_, _≤_, _<_}
-use mathlib.Core.Path.{_≡_, refl, sym, ap, _∙_}
-use mathlib.Core.Bool.{true, false}
-use mathlib.Core.Logic.{inl, inr}
+use lib.ListN.{List·getD-eq-default, length}
+use Prim.Native.Nat.{_+_, _≤_}
+use mathlib.Core.Path.{refl}
 use native.Mathlib.Omega.{arith}
-use borrow.Author.Tests.{not-true, not-false, eqb-true, eqb-false}
-use lib.ListN.{length}
 use Rattle.contents.proofs.FieldLaws.{front-0, slash-first, first-slash}
 use Rattle.base.specs.Bytes.{upTo}
 use borrow.Author.Needs.{needs}
 use Rattle.contents.proofs.whole.regulatory.Statement.{statement}
 use Rattle.contents.proofs.whole.regulatory.Tie as tie
-use Rattle.contents.proofs.whole.regulatory.Reads as reads
-use Rattle.contents.proofs.whole.regulatory.Lts as lts
-use Rattle.contents.proofs.whole.are_names.Reads as are-names-reads
 
--- src/whole.rt:238:9
 returns : tie.Need-returns
 returns c = let s = c .before .before .args .c .now in let f = front-0 s (0 + upTo 13 s) refl in let h : length s ≤ 0 = omega (arith, c .if1 .taken) in
     says-not (λ r. absurd (omega (arith, slash-first s (0 + upTo 13 s) refl (f .0) (rw (f .1) at (r .first)), List·getD-eq-default s 0 {n = 0} h)))
 
--- src/whole.rt:240:8
 shared-slice-read-if2 : tie.Need-shared-slice-read-if2
 shared-slice-read-if2 c = search needs
 
--- src/whole.rt:241:9
 returns-2 : tie.Need-returns-2
 returns-2 c = let s = c .before .before .before .before .args .c .now in let f = front-0 s (0 + upTo 13 s) refl in says-not (λ r. c .if2 .taken (slash-first s (0 + upTo 13 s) refl (f .0) (rw (f .1) at (r .first))))
 
--- src/whole.rt:243:5
 are-names-requires : tie.Need-are-names-requires
 are-names-requires c κs = search needs
 
--- src/whole.rt:234:1
 returns-3 : tie.Need-returns-3
 returns-3 c = let s = c .before .before .before .before .before .args .c .now in let f = front-0 s (0 + upTo 13 s) refl in
     record { so = λ e. record { first = rw (f .1) (first-slash s (0 + upTo 13 s) refl (f .0) (omega arith) (c .before .if2 .left)); lines = c .are-names .ensures .so e }; not-so = λ e r. c .are-names .ensures .not-so e (r .lines) }

@@ -1,74 +1,49 @@
-use Prim.Native.Nat.{ℕ, _+_, _≤_, _<_}
-use mathlib.Core.Path.{_≡_, refl, sym, ap, _∙_}
-use mathlib.Core.Bool.{true, false}
-use mathlib.Core.Logic.{inl, inr}
-use native.Mathlib.Omega.{arith}
-use borrow.Author.Tests.{not-true, not-false, eqb-true, eqb-false}
-use lib.ListN.{length}
+-- `contents::whole::rpp_and_details` meets its contract. Assumes nothing.
 use mathlib.Core.Logic.{⊎-elim}
 use Rattle.contents.proofs.FieldLaws.{taken-0, front-0, last-0, on-0}
 use Rattle.contents.proofs.VoLaws.{rpp-not-nzp, in72-some}
 use borrow.Author.Needs.{needs}
 use Rattle.contents.proofs.whole.rpp_and_details.Statement.{statement}
 use Rattle.contents.proofs.whole.rpp_and_details.Tie as tie
-use Rattle.contents.proofs.whole.rpp_and_details.Reads as reads
-use Rattle.contents.proofs.whole.rpp_and_details.Lts as lts
-use Rattle.base.proofs.marks.mark_at.Reads as mark-at-reads
-use Rattle.contents.proofs.lines.rpp_line.Reads as rpp-line-reads
-use Rattle.contents.proofs.whole.details_72.Reads as details-72-reads
-use Rattle.fields.proofs.lines.next_line.Reads as next-line-reads
 
--- src/whole.rt:341:9
 mark-at-requires : tie.Need-mark-at-requires
 mark-at-requires c κs = search needs
 
--- src/whole.rt:342:20
 slice-aggregate-rpp-line : tie.Need-slice-aggregate-rpp-line
 slice-aggregate-rpp-line c = taken-0 (c .before .before .before .args .c .now) (c .before .mark-at .result) (c .before .mark-at .ensures)
 
--- src/whole.rt:342:11
 rpp-line-requires : tie.Need-rpp-line-requires
 rpp-line-requires c κs = search needs
 
--- src/whole.rt:344:16
 enum-told : tie.Need-enum-told
 enum-told c = search needs
 
--- src/whole.rt:344:16
 details-72-requires : tie.Need-details-72-requires
 details-72-requires c κs = search needs
 
--- src/whole.rt:345:17
 returns : tie.Need-returns
 returns c = c .before .details-72 .ensures .so (c .if1 .taken)
 
--- src/whole.rt:349:17
 enum-known-n : tie.Need-enum-known-n
 enum-known-n c = search needs
 
--- src/whole.rt:351:17
 returns-2 : tie.Need-returns-2
 returns-2 c = rw (last-0 (c .before .before .before .before .before .before .before .before .args .c .now) (c .before .before .before .before .before .before .mark-at .result) (c .before .before .before .before .before .before .mark-at .ensures) (c .if2 .taken)) (⊎-elim (rpp-not-nzp (c .before .before .before .before .before .before .before .before .args .sign) 6 (c .before .before .n .given .0 .0) (c .before .before .n .given .0 .1 .0) _ _ (rw (c .before .before .n .given .1) at (c .before .before .before .before .rpp-line .ensures))) (λ x. in72-some (c .before .before .before .before .before .before .before .before .args .sign) 5 (x .1)))
 
--- src/whole.rt:353:36
 next-line-requires : tie.Need-next-line-requires
 next-line-requires c κs = search needs
 
--- src/whole.rt:353:16
 details-72-requires-2 : tie.Need-details-72-requires-2
 details-72-requires-2 c κs = search needs
 
--- src/whole.rt:354:17
 returns-3 : tie.Need-returns-3
 returns-3 c = let g = on-0 (c .before .before .before .before .before .before .before .before .before .before .before .args .c .now) (c .before .before .before .before .before .before .before .before .before .mark-at .result) (c .before .before .before .before .before .before .before .before .before .mark-at .ensures) (c .before .before .next-line .result) (c .before .before .before .if2 .left) (c .before .before .next-line .ensures) in
     rw (g .0) (rw (c .before .before .before .before .before .n .given .1) at (c .before .before .before .before .before .before .before .rpp-line .ensures), c .before .details-722 .ensures .so (c .if3 .taken))
 
--- src/whole.rt:338:1
 returns-4 : tie.Need-returns-4
 returns-4 c = let f = front-0 (c .before .before .before .before .before .before .before .before .args .c .now) (c .before .before .before .before .before .before .mark-at .result) (c .before .before .before .before .before .before .mark-at .ensures) in
     rw (f .1) (⊎-elim (rw (f .1) at (c .before .details-72 .ensures .not-so (c .if1 .left))) (λ x. (rw (c .before .before .enum-told .given .1) at (c .before .before .before .before .rpp-line .ensures)) (x .0 .0) (x .0 .1) (x .0 .2) (x .0 .3) (x .0 .4) (x .0 .5)))
 
--- src/whole.rt:338:1
 returns-5 : tie.Need-returns-5
 returns-5 c = let g = on-0 (c .before .before .before .before .before .before .before .before .before .before .before .args .c .now) (c .before .before .before .before .before .before .before .before .before .mark-at .result) (c .before .before .before .before .before .before .before .before .before .mark-at .ensures) (c .before .before .next-line .result) (c .before .before .before .if2 .left) (c .before .before .next-line .ensures) in
     rw (g .0) (⊎-elim (rpp-not-nzp (c .before .before .before .before .before .before .before .before .before .before .before .args .sign) 6 (c .before .before .before .before .before .n .given .0 .0) (c .before .before .before .before .before .n .given .0 .1 .0) _ _ (rw (c .before .before .before .before .before .n .given .1) at (c .before .before .before .before .before .before .before .rpp-line .ensures))) (λ x. c .before .details-722 .ensures .not-so (c .if3 .left) (x .1)))
