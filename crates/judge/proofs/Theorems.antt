@@ -18,8 +18,8 @@ use Rattle.frame.proofs.CallLaws.{Found}
 use Rattle.contents.specs.Rule8.{rightField, rule8}
 use Rattle.contents.proofs.RuleLaws.{rule8-fine}
 use Rattle.values.specs.Values.{valuesIn}
-use Rattle.values.specs.Judged.{firstBad, noDay, rule9}
-use Rattle.judge.specs.Message.{contentRules, messageRules, verdictOf, judgedOf}
+use Rattle.values.specs.Judged.{firstBad, noDay, foreign, rule9, rule10}
+use Rattle.judge.specs.Message.{innerRules, contentRules, messageRules, verdictOf, judgedOf}
 use Rattle.judge.proofs.CallLaws.{verdict-by}
 
 -- any two outcomes are equal
@@ -46,10 +46,18 @@ module _ (kind : ℕ) (m : List ℕ) where
   pub contents-right : verdictOf kind m ≡ Fine → all (rightField kind (signOf (fields m))) (fields m) ≡ true
   contents-right e = rule8-fine kind m .0 (then-clean (rule8 kind m) _ (halves e .1) .0)
 
+  behind-8 : verdictOf kind m ≡ Fine → first (innerRules kind (fields m)) ≡ Fine
+  behind-8 e = then-clean (rule8 kind m) _ (halves e .1) .1
+
   -- no date is wrong
   pub days-right : verdictOf kind m ≡ Fine → firstBad 9 noDay (valuesIn 5 (fields m)) ≡ Fine
   unfolding rule9
-  days-right e = then-clean (rule9 (fields m)) _ (then-clean (rule8 kind m) _ (halves e .1) .1) .0
+  days-right e = then-clean (rule9 (fields m)) _ (behind-8 e) .0
+
+  -- and no currency
+  pub roubles-only : verdictOf kind m ≡ Fine → firstBad 10 foreign (valuesIn 5 (fields m)) ≡ Fine
+  unfolding rule10
+  roubles-only e = then-clean (rule10 (fields m)) _ (then-clean (rule9 (fields m)) _ (behind-8 e) .1) .0
 
   -- ---- what a caller learns of the struct
   by-verdict : (v : Verdict) → frameBy v kind m .verdict ≡ v

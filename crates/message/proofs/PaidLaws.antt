@@ -1,15 +1,16 @@
--- The 32A of an accepted message: it is there, its amount is whole, and its date is a day of the calendar (K3, Camount, Cdate). Assumes nothing.
-use Prim.Native.Nat.{ℕ, zero, suc, _+_, _≤_, _<_}
+-- The 32A of an accepted message: it is there, in roubles, the kopecks are the value of its digits, and its date is a day of the calendar (K3, C32A,
+-- Camount, Cdate, N9, N10). Assumes nothing.
+use Prim.Native.Nat.{ℕ, zero, suc, _+_, _*_, _/_, _%_, _≤_, _<_}
 use mathlib.Core.Path.{_≡_, refl, sym, ap, ap₂, _∙_, subst}
-use mathlib.Core.Bool.{Bool, true, false, _||_, false≢true}
+use mathlib.Core.Bool.{Bool, true, false, not, _||_, false≢true}
 use mathlib.Core.List.{List, [], _∷_}
 use native.Mathlib.Omega.{arith}
 use native.Mathlib.Decide.{decLt}
 use lib.Dec.{eqb}
-use lib.ListN.{length, drop, length-append}
-use borrow.Author.Tests.{eqb-true, eqb-false, le-leb}
+use lib.ListN.{length, drop}
+use borrow.Author.Tests.{eqb-true, eqb-false}
 use Rattle.base.specs.Choice.{pick, all}
-use Rattle.base.specs.Bytes.{same, empty}
+use Rattle.base.specs.Bytes.{same, empty, isIn}
 use Rattle.base.specs.Quoted.{bytes}
 use Rattle.base.specs.declared.Verdict.{Verdict}
 use Rattle.base.specs.declared.Verdict.the-variants.{Fine, Broken}
@@ -28,29 +29,34 @@ use Rattle.types.proofs.WalkLaws.{placeAt, Seated, Accepted, seated, walked-acc
 use Rattle.types.proofs.WordLaws.{Present}
 use Rattle.contents.specs.declared.Content.{Content}
 use Rattle.contents.specs.declared.Content.the-variants as holds
+use Rattle.contents.specs.Words.{Text, Line}
+use Rattle.contents.specs.Lines.{Payment}
 use Rattle.contents.specs.Fields.{IsPayment, One, Right}
 use Rattle.contents.specs.Tags.{tags103, tags202, heldIn, heldBy}
 use Rattle.contents.specs.Rule8.{rightField}
 use Rattle.contents.proofs.RuleLaws.{field-says}
 use Rattle.contents.proofs.TagLaws.{held-103, held-202}
-use Rattle.values.specs.Values.{valuesOf, valuesIn, part}
-use Rattle.values.specs.Judged.{firstBad, noDay}
-use Rattle.values.specs.Answers.{dayAt, dateOf, kopecksOf, faultOf, answered}
-use Rattle.values.specs.Day.{realDay, dated, year, month, day}
-use Rattle.values.specs.Money.{kopecks}
+use Rattle.values.specs.Values as values
+use Rattle.values.specs.Values.{Kind, tag, valuesOf, valuesIn}
+use Rattle.values.specs.Judged.{firstBad, noDay, foreign}
+use Rattle.values.specs.Answers.{dateOf, kopecksOf, faultOf, answered}
+use Rattle.values.specs.Day as days
+use Rattle.values.specs.Parts.{paidValues, inKopecks}
 use Rattle.values.specs.Sentences.{OfCalendar}
-use Rattle.values.proofs.DayLaws.{day-iff, day-within, date-long}
-use Rattle.values.proofs.FaultLaws.{paid-day, of-32A}
+use Rattle.values.proofs.DayLaws.{day-iff}
+use Rattle.values.proofs.FaultLaws.{of-32A}
+use Rattle.values.proofs.GrammarLaws.{paid-values, paid-kopecks, paid-date}
 use Rattle.values.proofs.StepLaws.{first-field}
 use Rattle.listing.specs.declared.Span.the-variants.{Part, Nothing}
 use Rattle.listing.specs.Lists.{partAt}
 use Rattle.message.specs.Calls.{spanBy, spanOf, partOf, contentOf, paid, amountBy, amountOf, daySplit, dayBy, dayOf}
 use Rattle.message.specs.declared.Amount.the-variants as amounts
+use Rattle.message.specs.declared.Day.the-variants as told
 use Rattle.message.proofs.PartLaws.{paid-103, paid-202}
 use Rattle.listing.proofs.SpanLaws.{part-listed}
 use Rattle.frame.proofs.CallLaws.{taken}
 use Rattle.judge.specs.Message.{verdictOf}
-use Rattle.judge.proofs.Theorems.{message-accepts, frame-clean, contents-right, days-right}
+use Rattle.judge.proofs.Theorems.{message-accepts, frame-clean, contents-right, days-right, roubles-only}
 
 -- ---- a mandatory place is present
 must-present : (ps : List Place) (next : ℕ) (fs : List Field) (i : ℕ) → Accepted ps next fs → next ≤ i → i < length ps → optional (placeAt ps i) ≡ false → Present ps fs i
@@ -70,22 +76,22 @@ must-present ps next (f ∷ fs) i a l h o =
     go s (no b) (yes c) r = further (r (omega arith))
     go s (no b) (no c) r = let z : q ≡ i = omega arith in record { number = 0; within = omega arith; place = z }
 
--- ---- 32A: one line of 9 to 24 bytes
-pub record PaidLine (ls : List (List ℕ)) : Type 0 where
-  pub line : List ℕ
-  pub is : ls ≡ line ∷ []
-  pub long : 9 ≤ length line
-  pub short : length line ≤ 24
+-- ---- 32A: one line, with its parts
+record PaidLine (ls : List Line) : Type 0 where
+  line : Line
+  date : Text
+  currency : Text
+  whole : Text
+  decimals : Text
+  is : ls ≡ line ∷ []
+  parts : Payment date currency whole decimals line
 
-paid-line : (ls : List (List ℕ)) → One IsPayment ls → PaidLine ls
+paid-line : (ls : List Line) → One IsPayment ls → PaidLine ls
 paid-line [] p = absurd p
-paid-line (l ∷ []) (date, currency, whole, decimals, p) =
-    let e = simp length-append at (ap length (p .line)) in
-    let a = simp length-append at (p .amount) in
-    record { line = l; is = refl; long = omega (arith, p .day .size, p .money .size); short = omega (arith, p .day .size, p .money .size) }
+paid-line (l ∷ []) (date, currency, whole, decimals, p) = record { line = l; date = date; currency = currency; whole = whole; decimals = decimals; is = refl; parts = p }
 paid-line (l ∷ k ∷ ks) p = absurd p
 
--- ---- the field of a place: its content is right, and no date of it is wrong
+-- ---- the field of a place: its content is right, and no date and no currency of it is wrong
 record Shown (m : List ℕ) (ps : List Place) (q o : ℕ) (fs : List Field) (kind : ℕ) (sign : Bool) : Type 0 where
   tag : List ℕ
   line : List ℕ
@@ -94,27 +100,37 @@ record Shown (m : List ℕ) (ps : List Place) (q o : ℕ) (fs : List Field) (kin
   content : partOf m (partAt ps q o fs) ≡ joined (line ∷ more)
   right-is : rightField kind sign (field tag (line ∷ more)) ≡ true
   days : faultOf noDay (valuesOf tag (joined (line ∷ more))) ≡ 0
+  roubles : faultOf foreign (valuesOf tag (joined (line ∷ more))) ≡ 0
 
 no-fault : (number s k : ℕ) → answered number s k ≡ Fine → k ≡ 0
 no-fault number s zero e = refl
 no-fault number s (suc k) e = absurd (fine-broken number (s + k) (sym e))
 
+-- a rule that no value of a field's breaks, and none of those behind it
+rest-fine : (number : ℕ) (bad : Kind → Bool) → ((t : List ℕ) → bad (tag t) ≡ false) → (o : ℕ) (f : Field) (fs : List Field) → firstBad number bad (valuesIn o (f ∷ fs)) ≡ Fine
+    → (faultOf bad (valuesOf (tagOf f) (values.contentOf f)) ≡ 0) × (firstBad number bad (valuesIn (nextOf o f) fs) ≡ Fine)
+rest-fine number bad h o f fs e =
+    let k : ℕ = faultOf bad (valuesOf (tagOf f) (values.contentOf f)) in
+    let c = then-clean (answered number (startOf o f) k) (firstBad number bad (valuesIn (nextOf o f) fs)) (sym (first-field number bad h o f fs) ∙ e) in
+    (no-fault number (startOf o f) k (c .0), c .1)
+
 shown : (m : List ℕ) (ps : List Place) (q o : ℕ) (fs : List Field) (kind : ℕ) (sign : Bool) → Standing m o fs → all (rightField kind sign) fs ≡ true → firstBad 9 noDay (valuesIn o fs) ≡ Fine
-    → (partAt ps q o fs ≡ Nothing → ⊥) → Shown m ps q o fs kind sign
+    → firstBad 10 foreign (valuesIn o fs) ≡ Fine → (partAt ps q o fs ≡ Nothing → ⊥) → Shown m ps q o fs kind sign
 unfolding partAt
-shown m ps q o [] kind sign w r d h = absurd (h refl)
-shown m ps q o (field t [] ∷ fs) kind sign w r d h = absurd (false≢true (w .able))
-shown m ps q o (field t (l ∷ ls) ∷ fs) kind sign w r d h =
+shown m ps q o [] kind sign w r d u h = absurd (h refl)
+shown m ps q o (field t [] ∷ fs) kind sign w r d u h = absurd (false≢true (w .able))
+shown m ps q o (field t (l ∷ ls) ∷ fs) kind sign w r d u h =
     let f = field t (l ∷ ls) in
-    let c = then-clean (answered 9 (startOf o f) (faultOf noDay (valuesOf t (joined (l ∷ ls))))) (firstBad 9 noDay (valuesIn (nextOf o f) fs)) (sym (first-field 9 noDay (λ u. refl) o f fs) ∙ d) in
-    go (eqb (find ps t) q) refl h (no-fault 9 (startOf o f) (faultOf noDay (valuesOf t (joined (l ∷ ls)))) (c .0))
-    (shown m ps q (nextOf o f) fs kind sign (next-standing m o t l ls fs w) (right (rightField kind sign f) (all (rightField kind sign) fs) r) (c .1))
+    let a = rest-fine 9 noDay (λ v. refl) o f fs d in
+    let b = rest-fine 10 foreign (λ v. refl) o f fs u in
+    go (eqb (find ps t) q) refl h (a .0) (b .0)
+    (shown m ps q (nextOf o f) fs kind sign (next-standing m o t l ls fs w) (right (rightField kind sign f) (all (rightField kind sign) fs) r) (a .1) (b .1))
   where
     go : (b : Bool) → eqb (find ps t) q ≡ b → (pick b (Part (startOf o (field t (l ∷ ls))) (endOf o (field t (l ∷ ls)))) (partAt ps q (nextOf o (field t (l ∷ ls))) fs) ≡ Nothing → ⊥)
-        → faultOf noDay (valuesOf t (joined (l ∷ ls))) ≡ 0
+        → faultOf noDay (valuesOf t (joined (l ∷ ls))) ≡ 0 → faultOf foreign (valuesOf t (joined (l ∷ ls))) ≡ 0
         → ((partAt ps q (nextOf o (field t (l ∷ ls))) fs ≡ Nothing → ⊥) → Shown m ps q (nextOf o (field t (l ∷ ls))) fs kind sign)
         → Shown m ps q o (field t (l ∷ ls) ∷ fs) kind sign
-    go true e g k i =
+    go true e g k n i =
         record {
           tag = t;
           line = l;
@@ -123,8 +139,9 @@ shown m ps q o (field t (l ∷ ls) ∷ fs) kind sign w r d h =
           content = ap (λ (b : Bool). partOf m (pick b (Part (startOf o (field t (l ∷ ls))) (endOf o (field t (l ∷ ls)))) (partAt ps q (nextOf o (field t (l ∷ ls))) fs))) e ∙ content-part m o t l ls fs w;
           right-is = left (rightField kind sign (field t (l ∷ ls))) (all (rightField kind sign) fs) r;
           days = k;
+          roubles = n;
         }
-    go false e g k i =
+    go false e g k n i =
         let s = i g in
         record {
           tag = s .tag;
@@ -134,6 +151,7 @@ shown m ps q o (field t (l ∷ ls) ∷ fs) kind sign w r d h =
           content = ap (λ (b : Bool). partOf m (pick b (Part (startOf o (field t (l ∷ ls))) (endOf o (field t (l ∷ ls)))) (partAt ps q (nextOf o (field t (l ∷ ls))) fs))) e ∙ s .content;
           right-is = s .right-is;
           days = s .days;
+          roubles = s .roubles;
         }
 
 -- ---- the place of 32A is mandatory, and its tag alone stands there
@@ -166,15 +184,61 @@ sits-202 = record { below = omega arith; mandatory = refl; alone = λ t e. secon
 
 -- ---- in an accepted message
 pub record PaidIn (kind : ℕ) (m : List ℕ) : Type 0 where
-  pub line : List ℕ
+  -- the content of 32A is a line with these parts
+  pub line : Line
+  pub date : Text
+  pub currency : Text
+  pub whole : Text
+  pub decimals : Text
   pub is : paid kind m ≡ line
-  pub long : 9 ≤ length line
-  pub short : length line ≤ 24
-  -- the kopecks are the value of the digits
-  pub amount : amountOf kind m ≡ amounts.Is (kopecks (drop 9 line))
-  -- the date is that of the first six digits, a day of the calendar
-  pub date : dayOf kind m ≡ daySplit (dated (part 0 6 line))
-  pub calendar : OfCalendar (year (part 0 6 line)) (month (part 0 6 line)) (day (part 0 6 line))
+  pub parts : Payment date currency whole decimals line
+  -- roubles
+  pub roubles : currency ≡ bytes "RUB"
+  -- the kopecks are the value of the digits before and behind the comma
+  pub amount : amountOf kind m ≡ amounts.Is (inKopecks whole decimals)
+  -- the date is a day of the calendar, and is told as year, month and day
+  pub calendar : OfCalendar (days.year date) (days.month date) (days.day date)
+  pub day : dayOf kind m ≡ told.On (days.year date) (days.month date) (days.day date)
+
+-- ---- what the rules say of the parts
+day-fine : (date currency whole decimals : Text) → faultOf noDay (paidValues date currency whole decimals) ≡ 0 → days.realDay date ≡ true
+unfolding faultOf
+day-fine date currency whole decimals e = go (days.realDay date) e
+  where
+    go : (b : Bool) → _≡_ {A = ℕ} (pick (not b) 1 0) 0 → b ≡ true
+    go true e = refl
+    go false e = absurd (omega arith)
+
+rub-fine : (date currency whole decimals : Text) → faultOf foreign (paidValues date currency whole decimals) ≡ 0 → currency ≡ bytes "RUB"
+unfolding faultOf
+rub-fine date currency whole decimals e = same-is currency (bytes "RUB") (go (same currency (bytes "RUB")) e)
+  where
+    go : (b : Bool) → pick (not b) (suc (length date)) 0 ≡ 0 → b ≡ true
+    go true e = refl
+    go false e = absurd (omega arith)
+
+-- a day of the calendar comes out of its number again
+month-long : (y m : ℕ) → days.daysIn y m ≤ 31
+unfolding days.daysIn
+month-long y m = go (eqb m 2) (days.leap y) (isIn m (4 ∷ 6 ∷ 9 ∷ 11 ∷ []))
+  where
+    go : (a b c : Bool) → pick a (pick b 29 28) (pick c 30 31) ≤ 31
+    go true true c = omega arith
+    go true false c = omega arith
+    go false b true = omega arith
+    go false b false = omega arith
+
+split-dated : (date : Text) → OfCalendar (days.year date) (days.month date) (days.day date) → daySplit (days.dated date) ≡ told.On (days.year date) (days.month date) (days.day date)
+unfolding days.dated
+split-dated date c = go (days.year date) (days.month date) (days.day date) (c .last-month) (omega (arith, c .last-day, month-long (days.year date) (days.month date)))
+  where
+    go : (y m d : ℕ) → m ≤ 12 → d ≤ 31 → daySplit (y * 10000 + m * 100 + d) ≡ told.On y m d
+    go y m d h k =
+        let n : ℕ = y * 10000 + m * 100 + d in
+        let a : n / 10000 ≡ y = omega arith in
+        let b : n / 100 % 100 ≡ m = omega arith in
+        let c : n % 100 ≡ d = omega arith in
+        rw (a, b, c)
 
 not-nothing : (s t : ℕ) → Part s t ≡ Nothing → ⊥
 not-nothing s t e = let z : _≡_ {A = ℕ} 0 1 = cc in omega arith
@@ -190,7 +254,7 @@ module _ (kind : ℕ) (m : List ℕ) (e : verdictOf kind m ≡ Fine) (q : ℕ) (
   the-field : Shown m (placesOf kind) q 5 (fields m) kind (signOf (fields m))
   the-field =
       let t = taken kind m (frame-clean kind m e) in
-      shown m (placesOf kind) q 5 (fields m) kind (signOf (fields m)) (fields-stand m (t .frame-fine) (t .bytes-fine) (t .lines-fine)) (contents-right kind m e) (days-right kind m e) is-there
+      shown m (placesOf kind) q 5 (fields m) kind (signOf (fields m)) (fields-stand m (t .frame-fine) (t .bytes-fine) (t .lines-fine)) (contents-right kind m e) (days-right kind m e) (roubles-only kind m e) is-there
 
   its-tag : the-field .tag ≡ bytes "32A"
   its-tag = same-is (the-field .tag) (bytes "32A") (s .alone (the-field .tag) (the-field .at-place))
@@ -207,31 +271,32 @@ module _ (kind : ℕ) (m : List ℕ) (e : verdictOf kind m ≡ Fine) (q : ℕ) (
       ap (λ (k : ℕ). partOf m (spanBy (verdictOf kind m) (partAt (placesOf kind) k 5 (fields m)))) (sym z)
       ∙ ap (λ (v : Verdict). partOf m (spanBy v (partAt (placesOf kind) q 5 (fields m)))) e ∙ the-field .content ∙ ap joined (its-line .is)
 
-  its-day : dayAt (its-line .line) 0 ≡ true
-  its-day =
-      let c = its-line .line in
-      let f = the-field in
-      go (dayAt c 0) (sym (paid-day c (its-line .long) (dayAt c 0) refl)
-      ∙ sym (ap (faultOf noDay) (of-32A 3355201 c refl)) ∙ ap₂ (λ (t u : List ℕ). faultOf noDay (valuesOf t u)) (sym its-tag) (sym (ap joined (its-line .is))) ∙ f .days)
-    where
-      go : (b : Bool) → _≡_ {A = ℕ} (pick b 0 1) 0 → b ≡ true
-      go true h = refl
-      go false h = absurd (omega arith)
+  -- the values of the field are the parts of its line
+  its-values : valuesOf (the-field .tag) (joined (the-field .line ∷ the-field .more)) ≡ paidValues (its-line .date) (its-line .currency) (its-line .whole) (its-line .decimals)
+  its-values = ap₂ valuesOf its-tag (ap joined (its-line .is)) ∙ of-32A 3355201 (its-line .line) refl ∙ paid-values (its-line .parts)
+
+  its-calendar : OfCalendar (days.year (its-line .date)) (days.month (its-line .date)) (days.day (its-line .date))
+  unfolding days.realDay
+  its-calendar =
+      let d = its-line .date in
+      day-iff (days.year d) (days.month d) (days.day d) .0 (day-fine d (its-line .currency) (its-line .whole) (its-line .decimals) (ap (faultOf noDay) (sym its-values) ∙ the-field .days))
 
   paid-in : PaidIn kind m
-  unfolding amountOf dayOf kopecksOf realDay
+  unfolding amountOf dayOf
   paid-in =
-      let c = its-line .line in
-      let g = its-line .long in
-      let w : 0 + 6 ≤ length c = omega arith in
+      let p = its-line in
       record {
-        line = c;
+        line = p .line;
+        date = p .date;
+        currency = p .currency;
+        whole = p .whole;
+        decimals = p .decimals;
         is = its-content;
-        long = its-line .long;
-        short = its-line .short;
-        amount = ap (λ (v : Verdict). amountBy v (kopecksOf (paid kind m))) e ∙ ap (λ (u : List ℕ). amounts.Is (kopecksOf u)) its-content ∙ ap (λ (b : Bool). amounts.Is (pick b (kopecks (drop 9 c)) 0)) (le-leb (length c) 24 (its-line .short));
-        date = ap (λ (v : Verdict). dayBy v (dateOf (paid kind m))) e ∙ ap (λ (u : List ℕ). daySplit (dateOf u)) its-content ∙ ap daySplit (date-long c (omega arith));
-        calendar = day-iff (year (part 0 6 c)) (month (part 0 6 c)) (day (part 0 6 c)) .0 (sym (day-within c 0 w) ∙ its-day);
+        parts = p .parts;
+        roubles = rub-fine (p .date) (p .currency) (p .whole) (p .decimals) (ap (faultOf foreign) (sym its-values) ∙ the-field .roubles);
+        amount = ap (λ (v : Verdict). amountBy v (kopecksOf (paid kind m))) e ∙ ap (λ (u : List ℕ). amounts.Is (kopecksOf u)) its-content ∙ ap amounts.Is (paid-kopecks (p .parts));
+        calendar = its-calendar;
+        day = ap (λ (v : Verdict). dayBy v (dateOf (paid kind m))) e ∙ ap (λ (u : List ℕ). daySplit (dateOf u)) its-content ∙ ap daySplit (paid-date (p .parts)) ∙ split-dated (p .date) its-calendar;
       }
 
 paid-held-103 : heldIn tags103 (bytes "32A") ≡ holds.Payment
