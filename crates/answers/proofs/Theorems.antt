@@ -12,19 +12,20 @@ use lib.ListN.{length, take, drop, length-append}
 use lib.Seq.{take-all, length-take-le}
 use borrow.Author.Tests.{ne-eqb}
 use Rattle.base.specs.Bytes.{digit, other, without, begins}
+use Rattle.base.specs.Rules.{first}
 use Rattle.base.specs.Calls.{over, outcome, Gives}
 use Rattle.base.specs.declared.Verdict.{Verdict}
 use Rattle.base.specs.declared.Verdict.the-variants.{Fine, Broken}
 use Rattle.base.specs.declared.Outcome.{Outcome}
 use Rattle.base.specs.declared.Outcome.the-variants.{Done, Refused}
-use Rattle.base.proofs.RuleLaws.{Clean, first-clean}
+use Rattle.base.proofs.RuleLaws.{then-clean, first-clean}
 use Rattle.base.proofs.Bools.{all-imp}
 use Rattle.base.proofs.ByteLaws.{digit-range}
 use Rattle.base.proofs.CallLaws.{gives-one, accepted, refused, within-limit}
 use Rattle.fields.specs.Field.{upto, past, message}
 use Rattle.fields.specs.Frame.{limit, rule1}
 use Rattle.fields.proofs.TagLaws.{upto-at, past-at}
-use Rattle.judge.specs.Message.{messageRules, verdictOf}
+use Rattle.judge.proofs.RuleLaws.{accepted-rules}
 use Rattle.records.specs.Rule19.{sheetType}
 use Rattle.values.specs.Number.{number}
 use Rattle.writer.specs.Sheet.{sheetRules, messageFor, ownRule, writeRules, MessageTo}
@@ -32,7 +33,7 @@ use Rattle.written.proofs.OwnLaws.{own-fine}
 use Rattle.refusals.specs.Line.{decimal, refusalLine, shown}
 use Rattle.answers.specs.Programs.{messageVerdict, messageAnswer, MessageAnswered, sheetRead}
 use Rattle.refusals.proofs.DigitLaws.{decimal-value, decimal-digits, size-most}
-use Rattle.answers.proofs.VerdictLaws.{over-limit, room-verdict, fine-verdict}
+use Rattle.answers.proofs.VerdictLaws.{verdict-by, over-limit, room-verdict, fine-verdict}
 use Rattle.answers.proofs.PlaceLaws.{refusal-within}
 use Rattle.answers.proofs.CallLaws.{done-held, shows-done, shows-front}
 
@@ -117,11 +118,10 @@ line-fits n p a b =
 
 module _ (s : List ℕ) where
   message-fits : messageVerdict s ≡ Fine → length (messageFor s) ≤ limit
-  unfolding verdictOf rule1
+  unfolding rule1
   message-fits e =
-      let c = first-clean (sheetRules s ++ ownRule s ∷ []) e in
-      let k : Clean (sheetRules s) = (c .0, (c .1 .0, (c .1 .1 .0, (c .1 .1 .1 .0, (c .1 .1 .1 .1 .0, tt))))) in
-      within-limit limit (messageFor s) (first-clean (messageRules (sheetType s) (messageFor s)) (own-fine s k (c .1 .1 .1 .1 .1 .0)) .1 .0)
+      let c = then-clean (first (sheetRules s)) (ownRule s) (sym (verdict-by s) ∙ e) in
+      within-limit limit (messageFor s) (accepted-rules (sheetType s) (messageFor s) (own-fine s (first-clean (sheetRules s) (c .0)) (c .1)) .pass .size)
 
   pub answer-fits : length (messageAnswer s) ≤ limit
   unfolding messageAnswer

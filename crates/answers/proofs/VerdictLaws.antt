@@ -2,7 +2,7 @@
 -- message's own 1 (O2, N1, N17). Assumes nothing.
 use Prim.Native.Nat.{ℕ, _<_, _≤_}
 use mathlib.Core.Path.{_≡_, refl, sym, ap, _∙_}
-use mathlib.Core.List.{List, [], _∷_}
+use mathlib.Core.List.{List}
 use mathlib.Core.Logic.{inl, inr}
 use native.Mathlib.Omega.{arith}
 use native.Mathlib.Decide.{decLt}
@@ -11,7 +11,7 @@ use Rattle.base.specs.Rules.{then, first}
 use Rattle.base.specs.Calls.{short}
 use Rattle.base.specs.declared.Verdict.{Verdict}
 use Rattle.base.specs.declared.Verdict.the-variants.{Fine, Broken}
-use Rattle.base.proofs.RuleLaws.{same-broken, first-append, then-fine, first-last, first-clean}
+use Rattle.base.proofs.RuleLaws.{same-broken, first-last, first-clean}
 use Rattle.base.proofs.CallLaws.{is-long, is-short, not-short, short-within}
 use Rattle.fields.specs.Frame.{limit}
 use Rattle.types.specs.Walk.{rule18}
@@ -21,6 +21,7 @@ use Rattle.writer.specs.Sheet.{messageFor, sheetRules, ownRule, writeRules}
 use Rattle.written.specs.Sentences as why
 use Rattle.written.specs.Sentences.{Reason}
 use Rattle.writer.proofs.CallLaws.{long-verdict}
+use Rattle.writer.proofs.RuleLaws.{sheet-rules, write-by, write-rules}
 use Rattle.written.proofs.Theorems.{refusal-reason}
 use Rattle.answers.specs.Programs.{messageVerdict}
 
@@ -37,7 +38,7 @@ no-room (why.own q (inr a) f z) e h = omega arith
 
 module _ (s : List ℕ) where
   -- what stands before the room is looked at, and then the message's own refusal
-  verdict-by : messageVerdict s ≡ then (first (sheetRules s)) (ownRule s)
+  pub verdict-by : messageVerdict s ≡ then (first (sheetRules s)) (ownRule s)
   verdict-by = first-last (sheetRules s) (ownRule s)
 
   pub over-limit : limit < length s → messageVerdict s ≡ Broken 1 limit
@@ -45,10 +46,7 @@ module _ (s : List ℕ) where
 
   module _ (out : List ℕ) where
     with-room : (v : Verdict) → short (messageFor s) out ≡ v → first (writeRules s out) ≡ then (first (sheetRules s)) (then v (ownRule s))
-    with-room v e =
-        first-append (sheetRules s) (short (messageFor s) out ∷ ownRule s ∷ [])
-        ∙ ap (λ (u : Verdict). then (first (sheetRules s)) (then u (then (ownRule s) Fine))) e
-        ∙ ap (λ (u : Verdict). then (first (sheetRules s)) (then v u)) (then-fine (ownRule s))
+    with-room v e = write-by s out ∙ ap (λ (u : Verdict). then (first (sheetRules s)) (then u (ownRule s))) e
 
     pub room-verdict : length (messageFor s) ≤ length out → first (writeRules s out) ≡ messageVerdict s
     room-verdict h = with-room Fine (not-short (messageFor s) out h) ∙ sym verdict-by
@@ -64,7 +62,7 @@ module _ (s : List ℕ) where
 
   module _ (out : List ℕ) where
     pub fine-verdict : first (writeRules s out) ≡ Fine → messageVerdict s ≡ Fine
-    fine-verdict e = let c = first-clean (writeRules s out) e in sym (room-verdict out (short-within (messageFor s) out (c .1 .1 .1 .1 .1 .0))) ∙ e
+    fine-verdict e = sym (room-verdict out (short-within (messageFor s) out (write-rules s out e .room))) ∙ e
 
     -- too little room: an earlier refusal, or 17
     crowded : length out < length (messageFor s) → (v : Verdict) → first (sheetRules s) ≡ v → first (writeRules s out) ≡ then v (Broken 17 (length (messageFor s)))
@@ -85,7 +83,7 @@ module _ (s : List ℕ) where
     short-verdict p l e = go (decLt (length out) (length (messageFor s)))
       where
         at : length out < length (messageFor s) → (v : Verdict) → first (sheetRules s) ≡ v → messageVerdict s ≡ Broken 1 0
-        at h Fine f = verdict-by ∙ ap (λ (u : Verdict). then u (ownRule s)) f ∙ long-own (first-clean (sheetRules s) f .1 .1 .0) (omega arith)
+        at h Fine f = verdict-by ∙ ap (λ (u : Verdict). then u (ownRule s)) f ∙ long-own (sheet-rules s (first-clean (sheetRules s) f) .type) (omega arith)
         at h (Broken m q) f = absurd (never-17 p (verdict-by ∙ ap (λ (u : Verdict). then u (ownRule s)) f ∙ sym (crowded h (Broken m q) f) ∙ e))
 
         go : Dec (length out < length (messageFor s)) → messageVerdict s ≡ Broken 1 0

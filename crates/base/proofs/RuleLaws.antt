@@ -4,6 +4,7 @@ use mathlib.Core.List.{List, [], _∷_, _++_}
 use mathlib.Core.Logic.{_↔_}
 use Prim.Native.Nat.{ℕ}
 use native.Mathlib.Omega.{arith}
+use Rattle.base.specs.Examples.{AllHold}
 use Rattle.base.specs.Rules.{then, first}
 use Rattle.base.specs.declared.Verdict.{Verdict}
 use Rattle.base.specs.declared.Verdict.the-variants.{Fine, Broken}
@@ -36,6 +37,12 @@ first-append (Broken n p ∷ us) vs = refl
 -- one entry more, behind the others
 pub first-last : (us : List Verdict) (v : Verdict) → first (us ++ v ∷ []) ≡ then (first us) v
 first-last us v = first-append us (v ∷ []) ∙ ap (then (first us)) (then-fine v)
+
+-- what holds of each entry, and of an entry that says nothing, holds of the first that is broken
+pub first-holds : (P : Verdict → Type 0) → P Fine → (vs : List Verdict) → AllHold P vs → P (first vs)
+first-holds P f [] h = f
+first-holds P f (Fine ∷ vs) h = first-holds P f vs (h .1)
+first-holds P f (Broken n p ∷ vs) h = h .0
 
 -- no entry is broken
 abbrev pub Clean : List Verdict → Type 0

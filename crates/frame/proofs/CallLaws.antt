@@ -1,15 +1,14 @@
 -- The ways out of the call `frame`, and what a message that is not refused has. Assumes nothing.
 use Prim.Native.Nat.{ℕ, _≤_, _<_}
-use mathlib.Core.Path.{_≡_, refl, sym, ap, ap₂, _∙_}
+use mathlib.Core.Path.{_≡_, refl, sym, ap, _∙_}
 use mathlib.Core.Bool.{Bool, true, false}
 use mathlib.Core.List.{List}
 use native.Mathlib.Omega.{arith}
 use lib.ListN.{length}
 use Rattle.base.specs.Choice.{pick}
-use Rattle.base.specs.Rules.{then}
 use Rattle.base.specs.declared.Verdict.{Verdict}
 use Rattle.base.specs.declared.Verdict.the-variants.{Fine, Broken}
-use Rattle.base.proofs.RuleLaws.{then-fine, first-clean}
+use Rattle.base.proofs.RuleLaws.{then-fine}
 use Rattle.base.proofs.CallLaws.{is-long, not-long, within-limit}
 use Rattle.fields.specs.Field.{fields}
 use Rattle.fields.specs.Frame.{limit, framed, rule1, rule2, rule3, rule4}
@@ -21,8 +20,9 @@ use Rattle.types.proofs.TableLaws.{few-places, no-places, some-places}
 use Rattle.types.proofs.WalkLaws.{AllRight, walked-accepted}
 use Rattle.types.proofs.WordLaws.{Sound, walked-sound}
 use Rattle.frame.specs.declared.Frame.{Frame}
-use Rattle.frame.specs.Frame.{frameRules, refusal, wordOf, capacity, spotsOf, bare, frameBy, frameOf}
+use Rattle.frame.specs.Frame.{refusal, wordOf, capacity, spotsOf, bare, frameBy, frameOf}
 use Rattle.frame.proofs.PassLaws.{body567, bare-broken}
+use Rattle.frame.proofs.RuleLaws.{frame-rules}
 
 -- ---- a message that is not refused
 pub record Taken (kind : ℕ) (m : List ℕ) : Type 0 where
@@ -37,19 +37,18 @@ pub record Taken (kind : ℕ) (m : List ℕ) : Type 0 where
   pub few : length (fields m) ≤ most
 
 pub taken : (kind : ℕ) (m : List ℕ) → refusal kind m ≡ Fine → Taken kind m
-unfolding refusal rule1
+unfolding rule1
 taken kind m e =
-    let c = first-clean (frameRules kind m) e in
-    let w = c .1 .1 .1 .1 .1 .0 in
-    let s = walked-sound kind m w in
+    let c = frame-rules kind m e in
+    let s = walked-sound kind m (c .walk) in
     record {
-      within = within-limit limit m (c .1 .0);
-      frame-fine = c .1 .1 .0;
-      bytes-fine = c .1 .1 .1 .0;
-      lines-fine = c .1 .1 .1 .1 .0;
-      walk-fine = w;
-      long = framed-long m (rule2-fine m .0 (c .1 .1 .0));
-      right = walked-accepted kind m .0 w .fine;
+      within = within-limit limit m (c .size);
+      frame-fine = c .frame;
+      bytes-fine = c .bytes;
+      lines-fine = c .lines;
+      walk-fine = c .walk;
+      long = framed-long m (rule2-fine m .0 (c .frame));
+      right = walked-accepted kind m .0 (c .walk) .fine;
       sound = s;
       few = omega (arith, s .few-fields, few-places kind);
     }
@@ -65,31 +64,21 @@ framed-fine m e = by-frame m true e
 module _ (kind : ℕ) (m : List ℕ) where
   pub is-18 : length (placesOf kind) ≡ 0 → bare (Broken 18 0) ≡ frameOf kind m
   unfolding frameOf refusal
-  is-18 h = bare-broken kind m (ap (λ (v : Verdict). then v (then (rule1 m) (then (rule2 m) (then (rule3 m) (then (rule4 m) (then (walked kind m) Fine)))))) (no-places kind h))
+  is-18 h = bare-broken kind m (rw (no-places kind h))
 
   module _ (h : length (placesOf kind) ≡ 0 → ⊥) where
-    from-1 : refusal kind m ≡ then (rule1 m) (then (rule2 m) (then (rule3 m) (then (rule4 m) (then (walked kind m) Fine))))
-    unfolding refusal
-    from-1 = ap (λ (v : Verdict). then v (then (rule1 m) (then (rule2 m) (then (rule3 m) (then (rule4 m) (then (walked kind m) Fine)))))) (some-places kind h)
-
     pub is-1 : limit < length m → bare (Broken 1 limit) ≡ frameOf kind m
-    unfolding frameOf rule1
-    is-1 l = bare-broken kind m (from-1 ∙ ap (λ (v : Verdict). then v (then (rule2 m) (then (rule3 m) (then (rule4 m) (then (walked kind m) Fine))))) (is-long limit m l))
+    unfolding frameOf refusal rule1
+    is-1 l = bare-broken kind m (rw (some-places kind h, is-long limit m l))
 
     module _ (l : length m ≤ limit) where
-      from-2 : refusal kind m ≡ then (rule2 m) (then (rule3 m) (then (rule4 m) (then (walked kind m) Fine)))
-      unfolding rule1
-      from-2 = from-1 ∙ ap (λ (v : Verdict). then v (then (rule2 m) (then (rule3 m) (then (rule4 m) (then (walked kind m) Fine))))) (not-long limit m l)
-
       pub is-2 : framed m ≡ false → bare (Broken 2 0) ≡ frameOf kind m
-      unfolding frameOf
-      is-2 e = bare-broken kind m (from-2 ∙ ap (λ (v : Verdict). then v (then (rule3 m) (then (rule4 m) (then (walked kind m) Fine)))) (by-frame m false e))
+      unfolding frameOf refusal rule1
+      is-2 e = bare-broken kind m (rw (some-places kind h, not-long limit m l, by-frame m false e))
 
       pub is-rest : framed m ≡ true → frameBy (body567 kind m) kind m ≡ frameOf kind m
-      unfolding frameOf
-      is-rest e =
-          sym (ap (λ (v : Verdict). frameBy v kind m)
-          (from-2 ∙ ap₂ (λ (v w : Verdict). then v (then (rule3 m) (then (rule4 m) w))) (by-frame m true e) (then-fine (walked kind m))))
+      unfolding frameOf refusal rule1
+      is-rest e = rw (some-places kind h, not-long limit m l, by-frame m true e, then-fine (walked kind m))
 
 -- ---- what a caller learns of the struct
 -- what is handed on of a message that is not refused

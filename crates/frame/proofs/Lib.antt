@@ -1,5 +1,6 @@
 pub mod RunLaws
 pub mod PassLaws
+pub mod RuleLaws
 pub mod LateLaws
 pub mod CallLaws
 pub mod Theorems

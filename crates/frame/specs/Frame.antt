@@ -17,6 +17,15 @@ use Rattle.frame.specs.declared.Frame.{Frame}
 abbrev pub frameRules : ℕ → List ℕ → List Verdict
 frameRules kind m = rule18 kind ∷ rule1 m ∷ rule2 m ∷ rule3 m ∷ rule4 m ∷ walked kind m ∷ []
 
+-- the same by name: what is said of each of them
+pub record EachFrameRule (P : Verdict → Type 0) (kind : ℕ) (m : List ℕ) : Type 0 where
+  pub type : P (rule18 kind)
+  pub size : P (rule1 m)
+  pub frame : P (rule2 m)
+  pub bytes : P (rule3 m)
+  pub lines : P (rule4 m)
+  pub walk : P (walked kind m)
+
 unfoldable pub refusal : ℕ → List ℕ → Verdict
 refusal kind m = first (frameRules kind m)
 

@@ -29,16 +29,7 @@ use Rattle.roles.specs.Rule14.{unheard, spoken, rule14}
 use Rattle.roles.proofs.BreachLaws.{unheard-within, unheard-number, spoken-within}
 use Rattle.judge.specs.Message.{contentRules, verdictOf}
 use Rattle.judge.proofs.CallLaws.{verdict-by}
-
--- each rule of a list is small, and so is the first that is broken
-abbrev AllSmall : ℕ → List Verdict → Type 0
-AllSmall b [] = Unit {0}
-AllSmall b (v ∷ vs) = Small b v × AllSmall b vs
-
-first-small : (b : ℕ) (vs : List Verdict) → AllSmall b vs → Small b (first vs)
-first-small b [] s = tt
-first-small b (Fine ∷ vs) s = first-small b vs (s .1)
-first-small b (Broken n p ∷ vs) s = s .0
+use Rattle.judge.proofs.RuleLaws.{content-holds}
 
 -- ---- 8: a content starts within its field
 wrong-small : (b : ℕ) (test : Field → Bool) (o : ℕ) (fs : List Field) → all lineable fs ≡ true → o + sizeOf (linesOf fs) ≤ b → Small b (firstWrong 8 test startOf o fs)
@@ -99,10 +90,15 @@ content-small kind m t =
     let e : after 5 fs ≤ 10000 = omega (arith, after-size 5 fs) in
     let value : (number : ℕ) (bad : Kind → Bool) → number ≤ 18 → Small 10000 (firstBad number bad (valuesIn 5 fs)) =
     λ number bad k. widened (after 5 fs) 10000 (firstBad number bad (valuesIn 5 fs)) e (bad-small number bad k (in-order 5 fs)) in
-    first-small 10000 (contentRules kind m) (
-      wrong-small 10000 (rightField kind (signOf fs)) 5 fs (fields-lineable m (t .lines-fine)) (omega arith),
-      (value 9 _ (omega arith), (value 10 _ (omega arith), (value 11 _ (omega arith), (value 12 _ (omega arith), (value 13 _ (omega arith), (texts-small 10000 kind fs (omega arith), tt)))))),
-    )
+    content-holds (Small 10000) kind m tt (record {
+      contents = wrong-small 10000 (rightField kind (signOf fs)) 5 fs (fields-lineable m (t .lines-fine)) (omega arith);
+      days = value 9 _ (omega arith);
+      currency = value 10 _ (omega arith);
+      banks = value 11 _ (omega arith);
+      parties = value 12 _ (omega arith);
+      taxes = value 13 _ (omega arith);
+      texts = texts-small 10000 kind fs (omega arith);
+    })
 
 -- a message's refusal has a number up to 18 and a place up to 10,000
 pub verdict-small : (kind : ℕ) (m : List ℕ) → Small 10000 (verdictOf kind m)

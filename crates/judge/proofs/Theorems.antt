@@ -1,11 +1,11 @@
 -- What a judged message is, said of the definitions that the call's contract cites (O1, D2a, D2b). Assumes nothing.
 use Prim.Native.Nat.{ℕ}
-use mathlib.Core.Path.{_≡_, refl, sym, ap, _∙_}
+use mathlib.Core.Path.{_≡_, refl, sym, ap, ap₂, _∙_}
 use mathlib.Core.Bool.{true}
 use mathlib.Core.List.{List}
 use mathlib.Core.Logic.{_↔_}
 use Rattle.base.specs.Choice.{all}
-use Rattle.base.specs.Rules.{first}
+use Rattle.base.specs.Rules.{then, first}
 use Rattle.base.specs.declared.Verdict.{Verdict}
 use Rattle.base.specs.declared.Verdict.the-variants.{Fine, Broken}
 use Rattle.base.proofs.RuleLaws.{then-clean, Clean, FirstOf, accepted-iff, refused-iff}
@@ -15,12 +15,13 @@ use Rattle.types.specs.Sign.{signOf}
 use Rattle.frame.specs.declared.Frame.{Frame}
 use Rattle.frame.specs.Frame.{refusal, frameBy}
 use Rattle.frame.proofs.CallLaws.{Found}
-use Rattle.contents.specs.Rule8.{rightField, rule8}
-use Rattle.contents.proofs.RuleLaws.{rule8-fine}
+use Rattle.contents.specs.Rule8.{rightField, EachRight, FirstWrong}
+use Rattle.contents.proofs.RuleLaws.{rule8-fine, rule8-right, rule8-broken}
 use Rattle.values.specs.Values.{valuesIn}
 use Rattle.values.specs.Judged.{firstBad, noDay, foreign, rule9, rule10}
 use Rattle.judge.specs.Message.{innerRules, contentRules, messageRules, verdictOf, judgedOf}
 use Rattle.judge.proofs.CallLaws.{verdict-by}
+use Rattle.judge.proofs.RuleLaws.{accepted-rules}
 
 -- any two outcomes are equal
 pub judge-one : (kind : ℕ) (m : List ℕ) {f g : Frame} → f ≡ judgedOf kind m → g ≡ judgedOf kind m → f ≡ g
@@ -36,28 +37,30 @@ module _ (kind : ℕ) (m : List ℕ) where
   unfolding verdictOf
   message-refuses n p = refused-iff (messageRules kind m) n p
 
-  halves : verdictOf kind m ≡ Fine → (refusal kind m ≡ Fine) × (first (contentRules kind m) ≡ Fine)
-  halves e = then-clean (refusal kind m) (first (contentRules kind m)) (sym (verdict-by kind m) ∙ e)
-
   pub frame-clean : verdictOf kind m ≡ Fine → refusal kind m ≡ Fine
-  frame-clean e = halves e .0
+  frame-clean e = then-clean (refusal kind m) (first (contentRules kind m)) (sym (verdict-by kind m) ∙ e) .0
 
   -- each content is right
   pub contents-right : verdictOf kind m ≡ Fine → all (rightField kind (signOf (fields m))) (fields m) ≡ true
-  contents-right e = rule8-fine kind m .0 (then-clean (rule8 kind m) _ (halves e .1) .0)
+  contents-right e = rule8-fine kind m .0 (accepted-rules kind m e .inside .contents)
 
-  behind-8 : verdictOf kind m ≡ Fine → first (innerRules kind (fields m)) ≡ Fine
-  behind-8 e = then-clean (rule8 kind m) _ (halves e .1) .1
+  -- and so it is as the grammar says
+  pub accepted-right : verdictOf kind m ≡ Fine → EachRight kind (signOf (fields m)) (fields m)
+  accepted-right e = rule8-right kind m .0 (accepted-rules kind m e .inside .contents)
+
+  -- where 18 and 1 to 7 leave it alone, a message with a field that isn't right is refused by 8, where the content of the first such field starts
+  pub wrong-refused : (p : ℕ) → refusal kind m ≡ Fine → FirstWrong kind (signOf (fields m)) 5 (fields m) p → verdictOf kind m ≡ Broken 8 p
+  wrong-refused p e w = verdict-by kind m ∙ ap₂ (λ (u v : Verdict). then u (then v (first (innerRules kind (fields m))))) e (rule8-broken kind m p .1 w)
 
   -- no date is wrong
   pub days-right : verdictOf kind m ≡ Fine → firstBad 9 noDay (valuesIn 5 (fields m)) ≡ Fine
   unfolding rule9
-  days-right e = then-clean (rule9 (fields m)) _ (behind-8 e) .0
+  days-right e = accepted-rules kind m e .inside .days
 
   -- and no currency
   pub roubles-only : verdictOf kind m ≡ Fine → firstBad 10 foreign (valuesIn 5 (fields m)) ≡ Fine
   unfolding rule10
-  roubles-only e = then-clean (rule10 (fields m)) _ (then-clean (rule9 (fields m)) _ (behind-8 e) .1) .0
+  roubles-only e = accepted-rules kind m e .inside .currency
 
   -- ---- what a caller learns of the struct
   by-verdict : (v : Verdict) → frameBy v kind m .verdict ≡ v

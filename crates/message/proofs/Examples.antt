@@ -6,10 +6,9 @@ use mathlib.Core.List.{List, [], _∷_, _++_}
 use lib.ListN.{length}
 use Rattle.base.specs.Examples.{AllHold, _also_}
 use Rattle.base.specs.Quoted.{bytes}
-use Rattle.base.specs.Rules.{then, first}
+use Rattle.base.specs.Rules.{then}
 use Rattle.base.specs.declared.Verdict.{Verdict}
 use Rattle.base.specs.declared.Verdict.the-variants.{Fine, Broken}
-use Rattle.base.proofs.RuleLaws.{first-last}
 use Rattle.base.specs.Calls.{long, short, over, room}
 use Rattle.base.specs.Bytes.{isIn, digit, capital, letter, marks, shared, xset, same}
 use Rattle.fields.specs.Field.{Field, message, body, cut, upto, past, grouped, fields}
@@ -17,12 +16,13 @@ use Rattle.fields.specs.Frame.{rule1, framed, rule2, scan, rule3, tagged, lineB
 use Rattle.fields.specs.Places.{listed}
 use Rattle.types.specs.Form.{form103, form202, forms, placesOf}
 use Rattle.types.specs.Walk.{find, wrong, walk, rule18, walked, word}
-use Rattle.frame.specs.Frame.{frameRules, wordOf}
+use Rattle.frame.specs.Frame.{wordOf}
 use Rattle.frame.specs.Cases.{sample}
 use Rattle.types.specs.Sign.{signOf}
 use Rattle.listing.specs.declared.Span.{Span}
 use Rattle.listing.specs.Lists.{partAt}
-use Rattle.judge.specs.Message.{verdictOf}
+use Rattle.judge.specs.Message.{NoneBroken, verdictOf}
+use Rattle.judge.proofs.RuleLaws.{rules-accepted}
 use Rattle.contents.specs.Words.{capitalOrDigit}
 use Rattle.contents.specs.Tests as tests
 use Rattle.contents.specs.Rule8.{firstWrong, rightField, rule8, rightContent}
@@ -118,13 +118,13 @@ all-hold [] h = tt
 all-hold (c ∷ cs) h = (case-holds c (h .0), all-hold cs (h .1))
 
 -- ---- the signed 202: its details are spelt as they would be written
-abbrev before-14 : ℕ → List ℕ → List Verdict
-before-14 kind m =
-    frameRules kind m ++ rule8 kind m ∷ rule9 (fields m) ∷ rule10 (fields m) ∷ rule11 (fields m) ∷ rule12 (fields m) ∷ rule13 (fields m) ∷ []
-
-signed-easy : first (before-14 202 (bytes signed202)) ≡ Fine
+signed-easy : rule14 202 (fields (bytes signed202)) ≡ Fine → NoneBroken 202 (bytes signed202)
 unfolding rule18 form103 form202 forms placesOf long rule1 framed body same rule2 scan xset isIn digit capital letter marks shared rule3 cut tagged lineBad badLine rule4 upto past grouped fields find wrong walk walked signOf firstWrong rightField rule8 rightContent onward leap daysIn isDay yearOf realDay dated behindDigits payment pointIn datesBehind rpp bothParts parties taxPlace isTax withKpp taxes valuesOf firstBad rule9 rule10 rule11 rule12 rule13 capitalOrDigit tests.lead tests.ends tests.pair tests.isReference tests.isPurpose tests.isPayment tests.isOwnAccount tests.isPartyByBik tests.isParty tests.isBic tests.isAccount tests.isTax tests.looksTax tests.isRpp tests.details tests.right tags103 tags202 heldBy
-signed-easy = refl
+signed-easy e =
+    record {
+      pass = record { type = refl; size = refl; frame = refl; bytes = refl; lines = refl; walk = refl };
+      inside = record { contents = refl; days = refl; currency = refl; banks = refl; parties = refl; taxes = refl; texts = e };
+    }
 
 signed-texts : spoken 202 5 (fields (bytes signed202)) ≡ speech named 120 (bytes "'OOO' SBERBANK") ∷ speech told 185 (bytes "PEREVOD SREDSTVPO DOGOVORU 'A'") ∷ []
 unfolding spoken speeches names details noted roles-speech.behind shapeOf heldBy tags103 tags202 cast isTax same digit body cut upto past grouped fields isIn
@@ -143,10 +143,8 @@ unfolding breaks best bad latinNext kind grid marks isIn digit capital letter sh
 details-heard = ap mute (reads-best false details-read refl)
 
 signed-fine : verdictOf 202 (bytes signed202) ≡ Fine
-unfolding verdictOf
 signed-fine =
-    first-last (before-14 202 (bytes signed202)) (rule14 202 (fields (bytes signed202)))
-    ∙ ap₂ then signed-easy (rule14-fine 202 (fields (bytes signed202)) .1 (λ e. subst Heard (sym signed-texts) (name-heard, (details-heard, tt))))
+    rules-accepted 202 (bytes signed202) (signed-easy (rule14-fine 202 (fields (bytes signed202)) .1 (λ e. subst Heard (sym signed-texts) (name-heard, (details-heard, tt)))))
 
 -- ---- the example of the rules, as a 103 and as a 202
 sample-verdicts : (verdictOf 103 (bytes sample) ≡ Fine) × (verdictOf 202 (bytes sample) ≡ Broken 5 15)

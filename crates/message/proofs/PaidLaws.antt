@@ -56,7 +56,8 @@ use Rattle.message.proofs.PartLaws.{paid-103, paid-202}
 use Rattle.listing.proofs.SpanLaws.{part-listed}
 use Rattle.frame.proofs.CallLaws.{taken}
 use Rattle.judge.specs.Message.{verdictOf}
-use Rattle.judge.proofs.Theorems.{message-accepts, frame-clean, contents-right, days-right, roubles-only}
+use Rattle.judge.proofs.RuleLaws.{accepted-rules}
+use Rattle.judge.proofs.Theorems.{frame-clean, contents-right, days-right, roubles-only}
 
 -- ---- a mandatory place is present
 must-present : (ps : List Place) (next : ℕ) (fs : List Field) (i : ℕ) → Accepted ps next fs → next ≤ i → i < length ps → optional (placeAt ps i) ≡ false → Present ps fs i
@@ -319,4 +320,4 @@ paid-whole kind m e = go (eqb kind 103) (eqb kind 202) refl refl
         let k = eqb-true kind 202 y in
         paid-in kind m e 2 (subst (λ (n : ℕ). Sits (placesOf n) 2) (sym k) sits-202) (paid-202 ∙ ap (λ (n : ℕ). find (placesOf n) (bytes "32A")) (sym k)) (held-202 kind (bytes "32A") k ∙ paid-held-202)
     go false false x y =
-        absurd (fine-broken 18 0 (sym (message-accepts kind m .0 e .0) ∙ ap (λ (ps : List Place). pick (empty ps) (Broken 18 0) Fine) (no-form kind (eqb-false kind 103 x) (eqb-false kind 202 y))))
+        absurd (fine-broken 18 0 (sym (accepted-rules kind m e .pass .type) ∙ ap (λ (ps : List Place). pick (empty ps) (Broken 18 0) Fine) (no-form kind (eqb-false kind 103 x) (eqb-false kind 202 y))))

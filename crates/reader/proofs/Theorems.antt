@@ -10,7 +10,7 @@ use denote.Ref.{RefT}
 use Rattle.base.specs.Choice.{pick}
 use Rattle.base.specs.Bytes.{empty}
 use Rattle.base.specs.declared.Verdict.the-variants.{Fine, Broken}
-use Rattle.base.proofs.RuleLaws.{fine-broken, first-clean}
+use Rattle.base.proofs.RuleLaws.{fine-broken}
 use Rattle.fields.specs.Field.{fields}
 use Rattle.fields.specs.Places.{listed}
 use Rattle.types.specs.Form.{Place, placesOf, forms, form103, form202}
@@ -18,10 +18,10 @@ use Rattle.types.specs.Walk.{optional}
 use Rattle.types.proofs.WalkLaws.{placeAt}
 use Rattle.types.proofs.WordLaws.{placeOfField, Present, placed, Sound}
 use Rattle.types.proofs.TableLaws.{few-places, each-form, no-places}
-use Rattle.frame.specs.Frame.{frameRules, refusal}
 use Rattle.frame.proofs.CallLaws.{taken}
 use Rattle.listing.proofs.SpanLaws as spans
 use Rattle.judge.specs.Message.{verdictOf}
+use Rattle.judge.proofs.RuleLaws.{accepted-rules}
 use Rattle.judge.proofs.Theorems.{frame-clean}
 use Rattle.message.specs.Calls.{partOf, contentOf}
 use Rattle.message.proofs.Theorems.{Without, refused, absent, content-empty, span-listed}
@@ -161,12 +161,11 @@ module _ (kind : ℕ) (m : List ℕ) (e : verdictOf kind m ≡ Fine) where
       go (no a) r = ap (placeBehind kind m) (r a) ∙ sym (place-far kind m 32 (omega arith))
 
   some-places : 0 < length (placesOf kind)
-  unfolding refusal
   some-places = go (decLt 0 (length (placesOf kind)))
     where
       go : Dec (0 < length (placesOf kind)) → 0 < length (placesOf kind)
       go (yes h) = h
-      go (no h) = absurd (fine-broken 18 0 (sym (first-clean (frameRules kind m) (frame-clean kind m e) .0) ∙ no-places kind (omega arith)))
+      go (no h) = absurd (fine-broken 18 0 (sym (accepted-rules kind m e .pass .type) ∙ no-places kind (omega arith)))
 
   some-field : 0 < length (fields m)
   some-field = omega (arith, sound .all-needed 0 (opens kind some-places) .within)

@@ -25,7 +25,8 @@ use Rattle.contents.proofs.RuleLaws.{firstOf}
 use Rattle.judge.specs.Message.{messageRules, verdictOf, judgedOf}
 use Rattle.judge.proofs.CallLaws.{sign-is}
 use Rattle.judge.proofs.PartLaws.{settled}
-use Rattle.judge.proofs.Theorems.{message-accepts, frame-clean, judged-by, judged-found}
+use Rattle.judge.proofs.RuleLaws.{accepted-rules}
+use Rattle.judge.proofs.Theorems.{frame-clean, judged-by, judged-found}
 use Rattle.records.specs.Record.{line}
 use Rattle.sheets.specs.Gather.{typeRecord, sheetOf}
 use Rattle.sheets.specs.Calls.{readRules, SheetTo}
@@ -72,7 +73,7 @@ sheet-put kind m v k i p =
 -- ---- what a judged message says
 module _ (kind : ℕ) (m : List ℕ) where
   pub type-fine : verdictOf kind m ≡ Fine → rule18 kind ≡ Fine
-  type-fine v = message-accepts kind m .0 v .0
+  type-fine v = accepted-rules kind m v .pass .type
 
   module _ {f : Frame} (e : f ≡ judgedOf kind m) (q : f .verdict ≡ Fine) where
     judged-count : f .fields ≡ length (fields m)

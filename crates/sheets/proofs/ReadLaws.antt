@@ -40,7 +40,8 @@ use Rattle.roles.specs.declared.Role.the-variants.{Copies, OfPayer, OfPayee, Of
 use Rattle.roles.proofs.PartLaws.{firstPart, cast-none, cast-cons}
 use Rattle.roles.proofs.BreachLaws.{first-clause, same-lines, rule14-fine}
 use Rattle.judge.specs.Message.{verdictOf}
-use Rattle.judge.proofs.Theorems.{message-accepts, frame-clean}
+use Rattle.judge.proofs.RuleLaws.{accepted-rules}
+use Rattle.judge.proofs.Theorems.{frame-clean}
 use Rattle.records.specs.Record.{Record, line, sheet}
 use Rattle.sheets.specs.Gather.{partFor, codeDigits, toldParts, noteParts, contentParts, recordFor, gather, typeRecord, recordsOf, sheetOf}
 use Rattle.sheets.specs.Steps.{saidBy, sideOf, sideBy, partsBy, cutBy, overBy, toldBy, noteBy, contentBy, recordBy, sheetBy}
@@ -312,9 +313,7 @@ records-same kind s (field t ls ∷ fs) w = ap₂ (λ (r : Record) (rs : List Re
 -- ---- a message that no rule refuses
 module _ (kind : ℕ) (m : List ℕ) (v : verdictOf kind m ≡ Fine) where
   pub readable : (s : Bool) → signOf (fields m) ≡ s → AllReadable kind s (fields m)
-  readable true e =
-      let c = message-accepts kind m .0 v in
-      fields-heard kind 5 (fields m) (rule14-fine kind (fields m) .0 (c .1 .1 .1 .1 .1 .1 .1 .1 .1 .1 .1 .1 .0) e)
+  readable true e = fields-heard kind 5 (fields m) (rule14-fine kind (fields m) .0 (accepted-rules kind m v .inside .texts) e)
   readable false e = let t = taken kind m (frame-clean kind m v) in fields-plain kind (fields m) (fields-in m (t .frame-fine) (t .bytes-fine) (t .lines-fine))
 
   pub sheet-same : line (typeRecord kind) ++ 10 ∷ sheetBy codes kind (signOf (fields m)) (fields m) ≡ sheetOf kind m

@@ -47,6 +47,7 @@ use Rattle.details.specs.declared.Place.the-variants.{In70, In72, BehindRpp}
 use Rattle.lines.specs.Spread.{castParts, lineFor, code, told, notePlace, noteLines, contentLines, spread}
 use Rattle.lines.specs.Steps.{isUnfit}
 use Rattle.writer.specs.Sheet.{crowded, fieldsOf, messageFor, sheetRules, MessageTo}
+use Rattle.writer.proofs.RuleLaws.{sheet-rules}
 use Rattle.written.proofs.SpeltLaws.{said-is}
 use Rattle.written.proofs.ReadyLaws.{speaks, Laid, laid, Ready}
 use Rattle.written.proofs.CastLaws.{turned, cast-again, frontOf, nextOf, told-again}
@@ -193,7 +194,7 @@ digits-number (a ∷ b ∷ c ∷ []) d =
 -- ---- a sheet that no rule before 17 refuses
 module _ (s : List ℕ) (c : Clean (sheetRules s)) where
   is-sound : Sound s
-  is-sound = fine-sound s (c .1 .0)
+  is-sound = fine-sound s (sheet-rules s c .sound)
 
   type-back : typeRecord (sheetType s) ≡ is-sound .head
   type-back =

@@ -14,7 +14,7 @@ use Rattle.base.specs.Quoted.{bytes}
 use Rattle.base.specs.Rules.{then, first}
 use Rattle.base.specs.declared.Verdict.{Verdict}
 use Rattle.base.specs.declared.Verdict.the-variants.{Fine, Broken}
-use Rattle.base.proofs.RuleLaws.{first-last, clean-first, first-clean}
+use Rattle.base.proofs.RuleLaws.{first-last, first-clean}
 use Rattle.frame.specs.Cases.{sample}
 use Rattle.fields.specs.Field.{Field, field, message, body, cut, upto, past, grouped, fields}
 use Rattle.fields.specs.Frame.{rule1, framed, rule2, scan, rule3, tagged, lineBad, badLine, rule4}
@@ -22,7 +22,8 @@ use Rattle.fields.specs.Shapes.{shaped}
 use Rattle.types.specs.Form.{form103, form202, forms, placesOf}
 use Rattle.types.specs.Walk.{find, wrong, walk, rule18, walked}
 use Rattle.types.specs.Sign.{signOf}
-use Rattle.judge.specs.Message.{messageRules, verdictOf}
+use Rattle.judge.specs.Message.{messageRules, NoneBroken, verdictOf}
+use Rattle.judge.proofs.RuleLaws.{rules-accepted}
 use Rattle.contents.specs.Words.{capitalOrDigit}
 use Rattle.contents.specs.Tests as tests
 use Rattle.contents.specs.Rule8.{firstWrong, rightField, rule8}
@@ -53,6 +54,7 @@ use Rattle.details.specs.Layouts.{linesFor, sizeFor}
 use Rattle.lines.specs.Spread.{contentLines, spread}
 use Rattle.message.specs.Handed.{atStart}
 use Rattle.writer.specs.Sheet.{sheetRules, unsaid, rule15, crowded, rule16, fieldsOf, messageFor, writeRules}
+use Rattle.writer.proofs.RuleLaws.{sheet-rules, rules-write}
 use Rattle.written.specs.Cases.{sheet103}
 use Rattle.sheets.specs.Calls.{readRules}
 use Rattle.sheets.specs.Gather.{codeDigits, contentParts, recordFor, gather, typeRecord, recordsOf, sheetOf}
@@ -60,14 +62,7 @@ use Rattle.trips.specs.Cases.{Holds, plain202, plainSheet, signed202, si
 
 -- ---- a message's refusal, 14 apart from the rest
 abbrev Easy : ℕ → List ℕ → Type 0
-Easy kind m =
-    (rule18 kind ≡ Fine) × (rule1 m ≡ Fine) × (rule2 m ≡ Fine) × (rule3 m ≡ Fine) × (rule4 m ≡ Fine) × (walked kind m ≡ Fine) × (rule8 kind m ≡ Fine)
-    × (rule9 (fields m) ≡ Fine) × (rule10 (fields m) ≡ Fine) × (rule11 (fields m) ≡ Fine) × (rule12 (fields m) ≡ Fine) × (rule13 (fields m) ≡ Fine)
-
-fine-by : (kind : ℕ) (m : List ℕ) → Easy kind m → rule14 kind (fields m) ≡ Fine → verdictOf kind m ≡ Fine
-unfolding verdictOf
-fine-by kind m (a, b, c, d, e, f, g, h, i, j, k, l) n =
-    clean-first (messageRules kind m) (a also b also c also d also e also f also g also h also i also j also k also l also n also tt)
+Easy kind m = rule14 kind (fields m) ≡ Fine → NoneBroken kind m
 
 -- a text with this reading breaks no clause of 14
 heard-by : (m : Manner) (b d : List ℕ) → reads false b ≡ said d → clauses m (empty d) b d ≡ false → breaks m b ≡ false
@@ -89,15 +84,12 @@ Written kind s n = (first (sheetRules s) ≡ Fine) × (sheetType s ≡ kind) × 
 
 there-and-back : (kind : ℕ) (m s n : List ℕ) → verdictOf kind m ≡ Fine → sheetOf kind m ≡ s → Written kind s n → verdictOf kind n ≡ Fine
     → (first (readRules kind m s) ≡ Fine) × (sheetOf kind m ≡ s) × (first (writeRules s n) ≡ Fine) × (messageFor s ≡ n)
-there-and-back kind m s n e h (r, t, w) v =
-    let c = first-clean (sheetRules s) r in (
-      read-fine kind m s s e h ∙ room s,
-      h,
-      clean-first (writeRules s n)
-          (c .0 also c .1 .0 also c .1 .1 .0 also c .1 .1 .1 .0 also c .1 .1 .1 .1 .0 also (ap (λ (x : List ℕ). short x n) w ∙ room n)
-          also ap atStart (ap₂ verdictOf t w ∙ v) also tt),
-      w,
-    )
+there-and-back kind m s n e h (r, t, w) v = (
+  read-fine kind m s s e h ∙ room s,
+  h,
+  rules-write s n (record { sheet = sheet-rules s (first-clean (sheetRules s) r); room = ap (λ (x : List ℕ). short x n) w ∙ room n; own = ap atStart (ap₂ verdictOf t w ∙ v) }),
+  w,
+)
 
 -- ---- the trips with short texts
 all-fine : (verdictOf 103 (bytes sample) ≡ Fine) × (verdictOf 202 (bytes plain202) ≡ Fine) × (verdictOf 103 (bytes otherwise103) ≡ Fine) × (verdictOf 103 (bytes best103) ≡ Fine)
@@ -125,7 +117,11 @@ signed-reads = (reads-best false (desk "СБЕРБАНК OOO") refl, reads-best 
 
 signed-easy : Easy 202 (bytes signed202)
 unfolding rule18 form103 form202 forms placesOf long rule1 framed body same rule2 scan xset isIn digit capital letter marks shared rule3 cut tagged lineBad badLine rule4 upto past grouped fields find wrong walk walked signOf firstWrong rightField rule8 onward leap daysIn isDay yearOf realDay dated behindDigits payment pointIn datesBehind rpp bothParts parties taxPlace isTax withKpp taxes valuesOf firstBad rule9 rule10 rule11 rule12 rule13 capitalOrDigit tests.lead tests.ends tests.pair tests.isReference tests.isPurpose tests.isPayment tests.isOwnAccount tests.isPartyByBik tests.isParty tests.isBic tests.isAccount tests.isTax tests.looksTax tests.isRpp tests.details tests.right tags103 tags202 heldBy
-signed-easy = (refl, refl, refl, refl, refl, refl, refl, refl, refl, refl, refl, refl)
+signed-easy e =
+    record {
+      pass = record { type = refl; size = refl; frame = refl; bytes = refl; lines = refl; walk = refl };
+      inside = record { contents = refl; days = refl; currency = refl; banks = refl; parties = refl; taxes = refl; texts = e };
+    }
 
 signed-texts : spoken 202 5 (fields (bytes signed202)) ≡ speech named 120 (bytes "SBERBANK 'OOO'") ∷ speech told 185 (bytes "PEREVOD SREDSTV PO DOGOVORU 'A'") ∷ []
 unfolding spoken speeches names details noted speeches-of.behind shapeOf heldBy tags103 tags202 cast isTax same digit body cut upto past grouped fields isIn
@@ -150,7 +146,7 @@ unfolding sheetOf recordsOf gather contentParts body cut upto past grouped field
 signed-sheet = ap₂ signed-with (signed-reads .0) (signed-reads .1)
 
 signed-fine : verdictOf 202 (bytes signed202) ≡ Fine
-signed-fine = fine-by 202 (bytes signed202) signed-easy signed-14
+signed-fine = rules-accepted 202 (bytes signed202) (signed-easy signed-14)
 
 pub worked : AllHold Holds trips
 unfolding trips
@@ -206,10 +202,14 @@ idle-14 =
 
 idle-easy : Easy 103 (bytes idle)
 unfolding rule18 form103 form202 forms placesOf long rule1 framed body same rule2 scan xset isIn digit capital letter marks shared rule3 cut tagged lineBad badLine rule4 upto past grouped fields find wrong walk walked signOf firstWrong rightField rule8 onward leap daysIn isDay yearOf realDay dated behindDigits payment pointIn datesBehind rpp bothParts parties taxPlace isTax withKpp taxes valuesOf firstBad rule9 rule10 rule11 rule12 rule13 capitalOrDigit tests.lead tests.ends tests.pair tests.isReference tests.isPurpose tests.isPayment tests.isOwnAccount tests.isPartyByBik tests.isParty tests.isBic tests.isAccount tests.isTax tests.looksTax tests.isRpp tests.details tests.right tags103 tags202 heldBy
-idle-easy = (refl, refl, refl, refl, refl, refl, refl, refl, refl, refl, refl, refl)
+idle-easy e =
+    record {
+      pass = record { type = refl; size = refl; frame = refl; bytes = refl; lines = refl; walk = refl };
+      inside = record { contents = refl; days = refl; currency = refl; banks = refl; parties = refl; taxes = refl; texts = e };
+    }
 
 idle-fine : verdictOf 103 (bytes idle) ≡ Fine
-idle-fine = fine-by 103 (bytes idle) idle-easy idle-14
+idle-fine = rules-accepted 103 (bytes idle) (idle-easy idle-14)
 
 -- ---- its sheet
 details-record : (kind : ℕ) (t l : List ℕ) (ls : List (List ℕ)) (b d : List ℕ) → shapeOf kind t ≡ Details → drop 11 l ++ speeches-of.behind 0 ls ≡ b → reads false b ≡ said d

@@ -9,7 +9,6 @@ use Rattle.base.specs.Choice.{all}
 use Rattle.base.specs.Bytes.{xset}
 use Rattle.base.specs.declared.Verdict.the-variants.{Fine}
 use Rattle.base.proofs.Bools.{left, right, both, all-front, all-behind}
-use Rattle.base.proofs.RuleLaws.{Clean}
 use Rattle.fields.specs.Field.{Field, field, linesOf, fields}
 use Rattle.fields.specs.Places.{startOf, nextOf}
 use Rattle.fields.specs.Shapes.{shaped, goesOn, proper}
@@ -24,8 +23,8 @@ use Rattle.roles.specs.Sentences.{Heard}
 use Rattle.roles.specs.declared.Shape.{Shape}
 use Rattle.roles.proofs.BreachLaws.{rule14-fine}
 use Rattle.roles.proofs.CodeLaws.{speeches-moved}
-use Rattle.judge.specs.Message.{messageRules, verdictOf}
-use Rattle.judge.proofs.Theorems.{message-accepts}
+use Rattle.judge.specs.Message.{verdictOf}
+use Rattle.judge.proofs.RuleLaws.{accepted-rules}
 use Rattle.written.specs.Sentences.{Every}
 use Rattle.written.proofs.ReadyLaws.{Fair}
 use Rattle.trips.proofs.Held.{HeldField}
@@ -76,10 +75,7 @@ module _ (kind : ℕ) (s : Bool) where
 
 pub all-held : (kind : ℕ) (m : List ℕ) → verdictOf kind m ≡ Fine → Every (HeldField kind (signOf (fields m))) (fields m)
 all-held kind m e =
-    let c : Clean (messageRules kind m) = message-accepts kind m .0 e in
-    let r2 = c .1 .1 .0 in
-    let r3 = c .1 .1 .1 .0 in
-    let r4 = c .1 .1 .1 .1 .0 in
-    let r8 = c .1 .1 .1 .1 .1 .1 .0 in
-    let r14 = c .1 .1 .1 .1 .1 .1 .1 .1 .1 .1 .1 .1 .0 in
-    each-held kind (signOf (fields m)) 5 (fields m) (fields-proper m r4) (fields-in m r2 r3 r4) (rule8-fine kind m .0 r8) (rule14-fine kind (fields m) .0 r14)
+    let c = accepted-rules kind m e in
+    let p = c .pass in
+    each-held kind (signOf (fields m)) 5 (fields m) (fields-proper m (p .lines)) (fields-in m (p .frame) (p .bytes) (p .lines)) (rule8-fine kind m .0 (c .inside .contents))
+    (rule14-fine kind (fields m) .0 (c .inside .texts))

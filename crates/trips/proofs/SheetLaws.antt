@@ -18,7 +18,7 @@ use Rattle.base.specs.declared.Verdict.{Verdict}
 use Rattle.base.specs.declared.Verdict.the-variants.{Fine, Broken}
 use Rattle.base.proofs.Bools.{left, right, both}
 use Rattle.base.proofs.ByteLaws.{same-is}
-use Rattle.base.proofs.RuleLaws.{fine-broken, Clean, broken-first}
+use Rattle.base.proofs.RuleLaws.{fine-broken, Clean}
 use Rattle.base.proofs.CallLaws.{not-long, within-limit}
 use Rattle.alphabets.specs.Bank.{plainly}
 use Rattle.fields.specs.Field.{Field, field, laid, lined, linesOf, message, closing, fields}
@@ -33,8 +33,9 @@ use Rattle.contents.specs.Tags.{tags103, tags202, heldBy}
 use Rattle.roles.specs.Role.{shapeOf, copy, cast}
 use Rattle.roles.specs.declared.Shape.{Shape}
 use Rattle.roles.specs.declared.Shape.the-variants.{Plain, Details}
-use Rattle.judge.specs.Message.{messageRules, verdictOf}
-use Rattle.judge.proofs.Theorems.{message-accepts}
+use Rattle.frame.specs.Frame.{EachFrameRule}
+use Rattle.judge.specs.Message.{verdictOf}
+use Rattle.judge.proofs.RuleLaws.{accepted-rules}
 use Rattle.records.specs.Record.{Record, sheet, pieces, front, final, recordOf, records, rest, begun, plainText, writable}
 use Rattle.records.specs.Places.{sizeOf}
 use Rattle.records.specs.Rule19.{digits, good, typed, typeIn, typeOf, sheetType, sheetSign, rule19}
@@ -44,6 +45,7 @@ use Rattle.records.proofs.PlaceLaws.{size-sheet}
 use Rattle.records.proofs.SheetLaws.{records-sheet, rest-sheet}
 use Rattle.records.proofs.RuleLaws.{sound-fine, named-size}
 use Rattle.writer.specs.Sheet.{crowded, someCrowded, rule15, rule16, sheetRules}
+use Rattle.writer.proofs.RuleLaws.{rules-sheet}
 use Rattle.written.specs.Sentences.{Every}
 use Rattle.written.proofs.BuiltLaws.{shape-20}
 use Rattle.written.proofs.ReadyLaws.{speaking, rule15-fine}
@@ -259,47 +261,42 @@ module _ (kind : ℕ) (s : Bool) (fs : List Field) (eighteen : rule18 kind ≡ F
     sheet-passes = go fits-or-not
       where
         go : (sixteen ≡ Fine) ⊎ ((sixteen ≡ Broken 16 0) × Crowded70 kind s fs) → Clean (sheetRules sheetFor) ⊎ ((first (sheetRules sheetFor) ≡ Broken 16 0) × Crowded70 kind s fs)
-        go (inl e) = inl (its-1, (its-19, (its-18, (its-15, (e, tt)))))
+        go (inl e) = inl (rules-sheet sheetFor (record { size = its-1; sound = its-19; type = its-18; texts = its-15; details = e }))
         go (inr e) = inr (
-          broken-first (sheetRules sheetFor) 16 0 (record {
-            before = long limit sheetFor ∷ rule19 sheetFor ∷ rule18 (sheetType sheetFor) ∷ rule15 (sheetType sheetFor) (sheetSign sheetFor) 0 (records sheetFor) ∷ [];
-            behind = [];
-            list = ap (λ (v : Verdict). long limit sheetFor ∷ rule19 sheetFor ∷ rule18 (sheetType sheetFor) ∷ rule15 (sheetType sheetFor) (sheetSign sheetFor) 0 (records sheetFor) ∷ v ∷ []) (e .0);
-            clean = (its-1, (its-19, (its-18, (its-15, tt))));
-          }),
+          rw (its-1, its-19, its-18, its-15, e .0),
           e .1,
         )
 
 -- ---- the sheet of an accepted message whose fields all have their records
 module _ (kind : ℕ) (m : List ℕ) (fine : verdictOf kind m ≡ Fine) (each : Every (SheetedField kind (signOf (fields m))) (fields m)) where
-  clean : Clean (messageRules kind m)
-  clean = message-accepts kind m .0 fine
+  clean : EachFrameRule (λ v. v ≡ Fine) kind m
+  clean = accepted-rules kind m fine .pass
 
   tags : all shapedTag (fields m) ≡ true
-  tags = fields-shaped m (clean .1 .1 .1 .1 .0)
+  tags = fields-shaped m (clean .lines)
 
   within : length (message (fields m)) ≤ limit
   unfolding rule1
   within =
-      subst (λ (k : List ℕ). length k ≤ limit) (sym (message-fields m (clean .1 .1 .0) (clean .1 .1 .1 .0) (clean .1 .1 .1 .1 .0))) (within-limit limit m (clean .1 .0))
+      subst (λ (k : List ℕ). length k ≤ limit) (sym (message-fields m (clean .frame) (clean .bytes) (clean .lines))) (within-limit limit m (clean .size))
 
   pub accepted-type : sheetType (sheetOf kind m) ≡ kind
   unfolding sheetOf recordsOf
-  accepted-type = its-type kind (signOf (fields m)) (fields m) (clean .0) refl tags each
+  accepted-type = its-type kind (signOf (fields m)) (fields m) (clean .type) refl tags each
 
   pub accepted-sign : sheetSign (sheetOf kind m) ≡ signOf (fields m)
   unfolding sheetOf recordsOf
-  accepted-sign = its-sign kind (signOf (fields m)) (fields m) (clean .0) refl tags each
+  accepted-sign = its-sign kind (signOf (fields m)) (fields m) (clean .type) refl tags each
 
   pub accepted-passes : Clean (sheetRules (sheetOf kind m)) ⊎ ((first (sheetRules (sheetOf kind m)) ≡ Broken 16 0) × Crowded70 kind (signOf (fields m)) (fields m))
   unfolding sheetOf recordsOf
-  accepted-passes = sheet-passes kind (signOf (fields m)) (fields m) (clean .0) refl tags each within
+  accepted-passes = sheet-passes kind (signOf (fields m)) (fields m) (clean .type) refl tags each within
 
   -- it is no longer than a message may be
   pub accepted-size : length (sheetOf kind m) ≤ limit
   unfolding sheetOf recordsOf
-  accepted-size = its-size kind (signOf (fields m)) (fields m) (clean .0) refl tags each within
+  accepted-size = its-size kind (signOf (fields m)) (fields m) (clean .type) refl tags each within
 
   pub accepted-records : tail (records (sheetOf kind m)) ≡ gather kind (signOf (fields m)) (fields m)
   unfolding sheetOf recordsOf
-  accepted-records = ap tail (its-records kind (signOf (fields m)) (fields m) (clean .0) refl tags each)
+  accepted-records = ap tail (its-records kind (signOf (fields m)) (fields m) (clean .type) refl tags each)

@@ -15,7 +15,7 @@ use Rattle.base.specs.declared.Verdict.{Verdict}
 use Rattle.base.specs.declared.Verdict.the-variants.{Fine, Broken}
 use Rattle.base.specs.declared.Outcome.{Outcome}
 use Rattle.base.specs.declared.Outcome.the-variants.{Done, Refused}
-use Rattle.base.proofs.RuleLaws.{Clean, clean-first, first-append, first-last, then-clean}
+use Rattle.base.proofs.RuleLaws.{Clean, first-append, first-last, then-clean}
 use Rattle.base.proofs.CallLaws.{accepted, not-short}
 use Rattle.fields.specs.Field.{Field, field, fields}
 use Rattle.fields.specs.Frame.{limit}
@@ -26,6 +26,7 @@ use Rattle.roles.specs.declared.Shape.the-variants.{Plain, Payer, Payee, Agent,
 use Rattle.judge.specs.Message.{messageRules, verdictOf}
 use Rattle.message.specs.Handed.{atStart}
 use Rattle.writer.specs.Sheet.{messageFor, sheetRules, ownRule, writeRules, MessageTo}
+use Rattle.writer.proofs.RuleLaws.{sheet-rules, rules-write}
 use Rattle.written.specs.Sentences.{Every}
 use Rattle.sheets.specs.Gather.{sheetOf}
 use Rattle.sheets.specs.Calls.{readRules, SheetTo}
@@ -110,7 +111,7 @@ module _ (kind : ℕ) (m room : List ℕ) (e : verdictOf kind m ≡ Fine) (r : O
   unfolding MessageTo
   passes g c =
       let f : first (writeRules sheet room) ≡ Fine =
-      clean-first (writeRules sheet room) (c .0, (c .1 .0, (c .1 .1 .0, (c .1 .1 .1 .0, (c .1 .1 .1 .1 .0, (not-short built room enough, (own-again kind m e c, tt))))))) in
+      rules-write sheet room (record { sheet = sheet-rules sheet c; room = not-short built room enough; own = own-again kind m e c }) in
       let q : b ≡ over built room = g .leaves ∙ ap (λ (v : Verdict). left v built room) f in
       let t : take (length built) b ≡ built = ap (take (length built)) q ∙ take-append-seam built (drop (length built) room) in
       again (length built) (g .answers ∙ ap (λ (v : Verdict). outcome v (length built)) f) (ap (verdictOf kind) t ∙ accepted-again kind m e c) (ap (sheetOf kind) t ∙ same-sheet kind m e c)

@@ -27,8 +27,9 @@ use Rattle.contents.proofs.RuleLaws.{rule8-fine}
 use Rattle.values.specs.Values.{kindOf, valuesIn}
 use Rattle.roles.specs.Role.{shapeOf}
 use Rattle.roles.specs.Rule14.{rule14}
-use Rattle.judge.specs.Message.{messageRules, verdictOf}
-use Rattle.judge.proofs.Theorems.{message-accepts, frame-clean}
+use Rattle.judge.specs.Message.{NoneBroken, verdictOf}
+use Rattle.judge.proofs.RuleLaws.{accepted-rules, rules-accepted}
+use Rattle.judge.proofs.Theorems.{frame-clean}
 use Rattle.records.specs.Record.{records}
 use Rattle.records.specs.Rule19.{sheetType, sheetSign}
 use Rattle.written.specs.Sentences.{Every}
@@ -107,8 +108,8 @@ module _ (kind : ℕ) (m : List ℕ) (e : verdictOf kind m ≡ Fine) (s : List �
   held : Every (HeldField kind (signOf (fields m))) (fields m)
   held = all-held kind m e
 
-  clean : Clean (messageRules kind m)
-  clean = message-accepts kind m .0 e
+  clean : NoneBroken kind m
+  clean = accepted-rules kind m e
 
   ready : Every (ReadyField kind (signOf (fields m))) (fields m)
   unfolding gather
@@ -141,7 +142,7 @@ module _ (kind : ℕ) (m : List ℕ) (e : verdictOf kind m ≡ Fine) (s : List �
   unfolding walked
   walked-again =
       ap (walk (placesOf kind) 0 5) fields-are
-      ∙ walk-tags (placesOf kind) 0 5 5 (map (fieldAgain kind (signOf (fields m))) (fields m)) (fields m) (tags-again kind (signOf (fields m)) (fields m)) (clean .1 .1 .1 .1 .1 .0)
+      ∙ walk-tags (placesOf kind) 0 5 5 (map (fieldAgain kind (signOf (fields m))) (fields m)) (fields m) (tags-again kind (signOf (fields m)) (fields m)) (clean .pass .walk)
 
   rule8-again : rule8 kind (messageFor s) ≡ Fine
   rule8-again =
@@ -156,12 +157,16 @@ module _ (kind : ℕ) (m : List ℕ) (e : verdictOf kind m ≡ Fine) (s : List �
 
   pub verdict-again : verdictOf kind (messageFor s) ≡ Fine
   verdict-again =
-      let inner = clean .1 .1 .1 .1 .1 .1 .1 in
-      message-accepts kind (messageFor s) .1
-      (clean .0 also rule1-again also built-rule2 s c also built-rule3 s c also built-rule4 s c also walked-again also rule8-again
-      also rule9-again (fields (messageFor s)) (fields m) kinds-are (inner .0)
-      also rule10-again (fields (messageFor s)) (fields m) kinds-are (inner .1 .0)
-      also rule11-again (fields (messageFor s)) (fields m) kinds-are (inner .1 .1 .0)
-      also rule12-again (fields (messageFor s)) (fields m) kinds-are (inner .1 .1 .1 .0)
-      also rule13-again (fields (messageFor s)) (fields m) kinds-are (inner .1 .1 .1 .1 .0)
-      also rule14-again also tt)
+      let inner = clean .inside in
+      rules-accepted kind (messageFor s) (record {
+        pass = record { type = clean .pass .type; size = rule1-again; frame = built-rule2 s c; bytes = built-rule3 s c; lines = built-rule4 s c; walk = walked-again };
+        inside = record {
+          contents = rule8-again;
+          days = rule9-again (fields (messageFor s)) (fields m) kinds-are (inner .days);
+          currency = rule10-again (fields (messageFor s)) (fields m) kinds-are (inner .currency);
+          banks = rule11-again (fields (messageFor s)) (fields m) kinds-are (inner .banks);
+          parties = rule12-again (fields (messageFor s)) (fields m) kinds-are (inner .parties);
+          taxes = rule13-again (fields (messageFor s)) (fields m) kinds-are (inner .taxes);
+          texts = rule14-again;
+        };
+      })

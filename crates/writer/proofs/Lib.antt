@@ -1,4 +1,5 @@
 pub mod PartLaws
 pub mod NoteLaws
 pub mod PutLaws
+pub mod RuleLaws
 pub mod CallLaws

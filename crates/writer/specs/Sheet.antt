@@ -1,11 +1,12 @@
 -- What a sheet is written as: 15, 16, the message, then 17 and the message's own refusal (N15-N17, O2, D2d, D3e). Assumes nothing.
 use Prim.Native.Nat.{ℕ, _+_}
+use mathlib.Core.Path.{_≡_}
 use mathlib.Core.Bool.{Bool, false, _||_}
 use mathlib.Core.List.{List, [], _∷_, _++_, tail}
 use lib.ListN.{length}
 use Rattle.base.specs.Choice.{pick}
 use Rattle.base.specs.Rules.{then}
-use Rattle.base.specs.Calls.{long, Gives}
+use Rattle.base.specs.Calls.{long, short, Gives}
 use Rattle.base.specs.declared.Verdict.{Verdict}
 use Rattle.base.specs.declared.Verdict.the-variants.{Fine, Broken}
 use Rattle.base.specs.declared.Outcome.{Outcome}
@@ -70,12 +71,26 @@ abbrev pub sheetRules : List ℕ → List Verdict
 sheetRules s =
     long limit s ∷ rule19 s ∷ rule18 (sheetType s) ∷ rule15 (sheetType s) (sheetSign s) 0 (records s) ∷ rule16 (sheetType s) (sheetSign s) (tail (records s)) ∷ []
 
+-- the same by name: what is said of each of them
+pub record EachSheetRule (P : Verdict → Type 0) (s : List ℕ) : Type 0 where
+  pub size : P (long limit s)
+  pub sound : P (rule19 s)
+  pub type : P (rule18 (sheetType s))
+  pub texts : P (rule15 (sheetType s) (sheetSign s) 0 (records s))
+  pub details : P (rule16 (sheetType s) (sheetSign s) (tail (records s)))
+
 -- ---- the call: what is known before the room is looked at, then 17, then the message's own refusal
 abbrev pub ownRule : List ℕ → Verdict
 ownRule s = atStart (verdictOf (sheetType s) (messageFor s))
 
 abbrev pub writeRules : List ℕ → List ℕ → List Verdict
 writeRules s out = sheetRules s ++ handRules (sheetType s) (messageFor s) out
+
+-- no rule of the call is broken
+pub record NoRefusal (s out : List ℕ) : Type 0 where
+  pub sheet : EachSheetRule (λ v. v ≡ Fine) s
+  pub room : short (messageFor s) out ≡ Fine
+  pub own : ownRule s ≡ Fine
 
 unfoldable pub MessageTo : List ℕ → List ℕ → Outcome → List ℕ → Type 0
 MessageTo s out r after = Gives (writeRules s out) (messageFor s) out r after

@@ -30,6 +30,7 @@ use Rattle.records.proofs.RuleLaws.{fine-sound, sound-right}
 use Rattle.records.proofs.SoundLaws.{sound-each, sound-sign}
 use Rattle.lines.specs.Spread.{lineFor, contentLines, fieldFor, spread}
 use Rattle.writer.specs.Sheet.{crowded, fieldsOf, messageFor, sheetRules}
+use Rattle.writer.proofs.RuleLaws.{sheet-rules}
 use Rattle.written.proofs.ReadyLaws.{speaking, roomy, rule15-fine, rule16-fine, Ready, fair-proper, ready-fair}
 
 -- ---- a tag's bytes are of the set
@@ -115,13 +116,13 @@ module _ (kind : ℕ) (s : Bool) where
 -- ---- a sheet that no rule before 17 refuses
 module _ (s : List ℕ) (c : Clean (sheetRules s)) where
   is-sound : Sound s
-  is-sound = fine-sound s (c .1 .0)
+  is-sound = fine-sound s (sheet-rules s c .sound)
 
   behind-is : tail (records s) ≡ is-sound .behind
   behind-is = ap tail (is-sound .list)
 
   spoken-all : all (speaking (sheetType s) (sheetSign s)) (tail (records s)) ≡ true
-  spoken-all = go (records s) (rule15-fine (sheetSign s) (sheetType s) 0 (records s) .0 (c .1 .1 .1 .0))
+  spoken-all = go (records s) (rule15-fine (sheetSign s) (sheetType s) 0 (records s) .0 (sheet-rules s c .texts))
     where
       go : (rs : List Record) → all (speaking (sheetType s) (sheetSign s)) rs ≡ true → all (speaking (sheetType s) (sheetSign s)) (tail rs) ≡ true
       go [] e = refl
@@ -131,7 +132,7 @@ module _ (s : List ℕ) (c : Clean (sheetRules s)) where
   pub records-pass : AllPass (sheetType s) (sheetSign s) (tail (records s))
   records-pass =
       all-pass (sheetType s) (sheetSign s) (tail (records s)) (ap (all (good (sheetType s) (sheetSign s))) behind-is ∙ sound-each s is-sound) spoken-all
-      (rule16-fine (sheetType s) (sheetSign s) (tail (records s)) (c .1 .1 .1 .1 .0))
+      (rule16-fine (sheetType s) (sheetSign s) (tail (records s)) (sheet-rules s c .details))
 
   pub fields-proper : all proper (fieldsOf s) ≡ true
   unfolding fieldsOf spread

@@ -2,14 +2,12 @@
 use Prim.Native.Nat.{ℕ, _≤_}
 use mathlib.Core.Path.{_≡_, refl, sym, ap, _∙_}
 use mathlib.Core.Bool.{Bool, true, false}
-use mathlib.Core.List.{List, [], _∷_}
+use mathlib.Core.List.{List}
 use mathlib.Core.Logic.{inl, inr}
 use native.Mathlib.Omega.{arith}
 use lib.Dec.{ltb}
 use lib.ListN.{length}
-use Rattle.base.specs.Examples.{AllHold, _also_}
 use Rattle.base.specs.Choice.{pick}
-use Rattle.base.specs.Rules.{first}
 use Rattle.base.specs.Calls.{long}
 use Rattle.base.specs.declared.Verdict.{Verdict}
 use Rattle.base.specs.declared.Verdict.the-variants.{Fine, Broken}
@@ -25,22 +23,19 @@ use Rattle.contents.specs.Rule8.{rightField, rule8}
 use Rattle.contents.proofs.RuleLaws.{own-number}
 use Rattle.values.proofs.RuleLaws.{broken9, broken10, broken11, broken12, broken13}
 use Rattle.roles.specs.Rule14.{rule14}
-use Rattle.judge.specs.Message.{messageRules, verdictOf}
+use Rattle.judge.specs.Message.{EachRule, verdictOf}
+use Rattle.judge.proofs.RuleLaws.{verdict-holds}
 use Rattle.records.specs.Rule19.{sheetType}
 use Rattle.written.specs.Sentences.{Own}
 use Rattle.message.specs.Handed.{atStart}
 use Rattle.writer.specs.Sheet.{messageFor, sheetRules, ownRule}
+use Rattle.writer.proofs.RuleLaws.{sheet-rules}
 use Rattle.written.proofs.BuiltLaws.{built-rule2, built-rule3, built-rule4, built-fields}
 use Rattle.written.proofs.TextLaws.{built-rule14}
 
--- ---- rules in order: what is given has a number that one of them gives
+-- ---- what is given has a number that one of the rules gives
 abbrev Gives : (ℕ → Type 0) → Verdict → Type 0
 Gives P v = (n p : ℕ) → v ≡ Broken n p → P n
-
-first-gives : (P : ℕ → Type 0) (vs : List Verdict) → AllHold (Gives P) vs → Gives P (first vs)
-first-gives P [] h n p e = absurd (fine-broken n p e)
-first-gives P (Fine ∷ vs) h n p e = first-gives P vs (h .1) n p e
-first-gives P (Broken m q ∷ vs) h n p e = h .0 n p e
 
 none-given : {v : Verdict} → v ≡ Fine → Gives Own v
 none-given f n p e = absurd (fine-broken n p (sym f ∙ e))
@@ -79,20 +74,30 @@ module _ (s : List ℕ) (c : Clean (sheetRules s)) where
   rule14-fine : rule14 (sheetType s) (fields (messageFor s)) ≡ Fine
   rule14-fine = ap (rule14 (sheetType s)) (built-fields s c) ∙ built-rule14 s c
 
-  all-give : AllHold (Gives Own) (messageRules (sheetType s) (messageFor s))
+  all-give : EachRule (Gives Own) (sheetType s) (messageFor s)
   all-give =
-      none-given (c .1 .1 .0) also gives-1 (messageFor s) also none-given (built-rule2 s c) also none-given (built-rule3 s c) also none-given (built-rule4 s c)
-      also gives-5-7 (sheetType s) (messageFor s) also gives-8 (sheetType s) (messageFor s)
-      also (λ n p e. from-5 9 (broken9 (fields (messageFor s)) n p .0 e .0) (omega arith) (omega arith))
-      also (λ n p e. from-5 10 (broken10 (fields (messageFor s)) n p .0 e .0) (omega arith) (omega arith))
-      also (λ n p e. from-5 11 (broken11 (fields (messageFor s)) n p .0 e .0) (omega arith) (omega arith))
-      also (λ n p e. from-5 12 (broken12 (fields (messageFor s)) n p .0 e .0) (omega arith) (omega arith))
-      also (λ n p e. from-5 13 (broken13 (fields (messageFor s)) n p .0 e .0) (omega arith) (omega arith))
-      also none-given rule14-fine also tt
+      record {
+        pass = record {
+          type = none-given (sheet-rules s c .type);
+          size = gives-1 (messageFor s);
+          frame = none-given (built-rule2 s c);
+          bytes = none-given (built-rule3 s c);
+          lines = none-given (built-rule4 s c);
+          walk = gives-5-7 (sheetType s) (messageFor s);
+        };
+        inside = record {
+          contents = gives-8 (sheetType s) (messageFor s);
+          days = λ n p e. from-5 9 (broken9 (fields (messageFor s)) n p .0 e .0) (omega arith) (omega arith);
+          currency = λ n p e. from-5 10 (broken10 (fields (messageFor s)) n p .0 e .0) (omega arith) (omega arith);
+          banks = λ n p e. from-5 11 (broken11 (fields (messageFor s)) n p .0 e .0) (omega arith) (omega arith);
+          parties = λ n p e. from-5 12 (broken12 (fields (messageFor s)) n p .0 e .0) (omega arith) (omega arith);
+          taxes = λ n p e. from-5 13 (broken13 (fields (messageFor s)) n p .0 e .0) (omega arith) (omega arith);
+          texts = none-given rule14-fine;
+        };
+      }
 
   pub own-numbers : (n p : ℕ) → verdictOf (sheetType s) (messageFor s) ≡ Broken n p → Own n
-  unfolding verdictOf
-  own-numbers n p e = first-gives Own (messageRules (sheetType s) (messageFor s)) all-give n p e
+  own-numbers = verdict-holds (Gives Own) (sheetType s) (messageFor s) (none-given refl) all-give
 
   -- with place 0
   pub own-refusal : (n p : ℕ) → ownRule s ≡ Broken n p → Own n × (p ≡ 0)

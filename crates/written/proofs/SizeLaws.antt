@@ -214,4 +214,4 @@ module _ (s out after : List ℕ) where
 
   -- and so is the number of bytes written
   pub written-small : (n : ℕ) → MessageTo s out (Done n) after → n ≤ 3000007
-  written-small n g = let w = written s out (Done n) after g n refl in omega (arith, w .count, message-small s (within-limit limit s (w .clean .0)))
+  written-small n g = let w = written s out (Done n) after g n refl in omega (arith, w .count, message-small s (within-limit limit s (sheet-rules s (w .clean) .size)))

@@ -30,6 +30,7 @@ use Rattle.records.specs.Sentences.{BadAt}
 use Rattle.records.proofs.RuleLaws.{rule19-bad, bad-rule19}
 use Rattle.message.specs.Handed.{atStart}
 use Rattle.writer.specs.Sheet.{rule15, rule16, messageFor, sheetRules, ownRule, writeRules, MessageTo}
+use Rattle.writer.proofs.RuleLaws.{sheet-holds, rules-sheet, write-by, write-rules}
 use Rattle.written.specs.Sentences as why
 use Rattle.written.specs.Sentences.{OneByOne, Made, StuckAt, CrowdedIn, Own, NoType, Reason}
 use Rattle.written.proofs.ExactLaws.{rule15-broken, rule15-iff, rule16-broken, crowded-rule16}
@@ -117,12 +118,13 @@ module _ (s out : List ℕ) where
     why-17 : Why (short (messageFor s) out)
     why-17 e = let h = short-broken n p e in by-number 17 (h .0) (why.short (h .2) (h .1))
 
+    why-sheet : Why (first (sheetRules s))
+    why-sheet = sheet-holds Why s (λ e. absurd (fine-broken n p e)) (record { size = why-1; sound = why-19; type = why-18; texts = why-15; details = why-16 })
+
     -- a refusal has one of the reasons
     pub refusal-reason : Why (first (writeRules s out))
     refusal-reason e =
-        step (long limit s) _ why-1 (λ a. step (rule19 s) _ why-19 (λ b. step (rule18 (sheetType s)) _ why-18
-        (λ c. step (rule15 (sheetType s) (sheetSign s) 0 (records s)) _ why-15 (λ d. step (rule16 (sheetType s) (sheetSign s) (tail (records s))) _ why-16
-        (λ f. step (short (messageFor s) out) _ why-17 (λ g h. own-broken n p (a, (b, (c, (d, (f, tt))))) (sym (then-fine (ownRule s)) ∙ h))))))) e
+        step (first (sheetRules s)) _ why-sheet (λ c. step (short (messageFor s) out) _ why-17 (λ f. own-broken n p (first-clean (sheetRules s) c))) (sym (write-by s out) ∙ e)
 
 -- ---- what a number tells
 module _ (s out : List ℕ) (p : ℕ) where
@@ -183,49 +185,28 @@ module _ (s out : List ℕ) (r : Outcome) (after : List ℕ) (g : MessageTo s ou
     pub exact-19 : length s ≤ limit → (r ≡ Refused 19 p) ↔ BadAt s p
     exact-19 h = (
       (λ e. told 19 p e),
-      λ b. broken-at 19 p (record {
-        before = long limit s ∷ [];
-        behind = tail (tail (writeRules s out));
-        list = ap (λ (v : Verdict). long limit s ∷ v ∷ tail (tail (writeRules s out))) (bad-rule19 s p b);
-        clean = (not-long limit s h, tt);
-      }),
+      (λ b. given 19 p (rw (not-long limit s h, bad-rule19 s p b))),
     )
 
     pub exact-18 : Clean (long limit s ∷ rule19 s ∷ []) → (r ≡ Refused 18 p) ↔ ((p ≡ 0) × NoType (sheetType s))
-    exact-18 c = (
+    exact-18 (size, (sound, z)) = (
       (λ e. told 18 p e),
-      λ b. broken-at 18 p (record {
-        before = long limit s ∷ rule19 s ∷ [];
-        behind = tail (tail (tail (writeRules s out)));
-        list = ap (λ (v : Verdict). long limit s ∷ rule19 s ∷ v ∷ tail (tail (tail (writeRules s out)))) (no-type (sheetType s) (b .1) ∙ ap (Broken 18) (sym (b .0)));
-        clean = c;
-      }),
+      (λ b. given 18 p (rw (size, sound, no-type (sheetType s) (b .1), b .0))),
     )
 
     -- 15 exactly if a name or details text has no bank text or a copied part leaves the x set, at the first such byte
     pub exact-15 : Clean (long limit s ∷ rule19 s ∷ rule18 (sheetType s) ∷ []) → (r ≡ Refused 15 p) ↔ StuckAt (sheetType s) (sheetSign s) 0 (records s) p
-    exact-15 c = (
+    exact-15 (size, (sound, (type, z))) = (
       (λ e. told 15 p e),
-      λ b. broken-at 15 p (record {
-        before = long limit s ∷ rule19 s ∷ rule18 (sheetType s) ∷ [];
-        behind = tail (tail (tail (tail (writeRules s out))));
-        list = ap (λ (v : Verdict). long limit s ∷ rule19 s ∷ rule18 (sheetType s) ∷ v ∷ tail (tail (tail (tail (writeRules s out))))) (rule15-iff (sheetSign s) (sheetType s) 0 (records s) p .1 b);
-        clean = c;
-      }),
+      (λ b. given 15 p (rw (size, sound, type, rule15-iff (sheetSign s) (sheetType s) 0 (records s) p .1 b))),
     )
 
     -- 16 exactly if some details record of the type has no division in any way
     pub exact-16 : Clean (long limit s ∷ rule19 s ∷ rule18 (sheetType s) ∷ rule15 (sheetType s) (sheetSign s) 0 (records s) ∷ [])
         → (r ≡ Refused 16 p) ↔ ((p ≡ 0) × CrowdedIn (sheetType s) (sheetSign s) (tail (records s)))
-    exact-16 c = (
+    exact-16 (size, (sound, (type, (texts, z)))) = (
       (λ e. told 16 p e),
-      λ b. broken-at 16 p (record {
-        before = long limit s ∷ rule19 s ∷ rule18 (sheetType s) ∷ rule15 (sheetType s) (sheetSign s) 0 (records s) ∷ [];
-        behind = short (messageFor s) out ∷ ownRule s ∷ [];
-        list = ap (λ (v : Verdict). long limit s ∷ rule19 s ∷ rule18 (sheetType s) ∷ rule15 (sheetType s) (sheetSign s) 0 (records s) ∷ v ∷ short (messageFor s) out ∷ ownRule s ∷ [])
-            (crowded-rule16 (sheetSign s) (sheetType s) (tail (records s)) (b .1) ∙ ap (Broken 16) (sym (b .0)));
-        clean = c;
-      }),
+      (λ b. given 16 p (rw (size, sound, type, texts, crowded-rule16 (sheetSign s) (sheetType s) (tail (records s)) (b .1), b .0))),
     )
 
     -- 17 exactly if the room is shorter than the message, whose length is the place
@@ -276,6 +257,6 @@ module _ (s out : List ℕ) (r : Outcome) (after : List ℕ) (g : MessageTo s ou
   unfolding MessageTo
   written n e =
       let a = accepted (writeRules s out) (messageFor s) out n after (subst (λ (q : Outcome). Gives (writeRules s out) (messageFor s) out q after) e g) in
-      let c = first-clean (writeRules s out) (a .clean) in
-      let k : Clean (sheetRules s) = (c .0, (c .1 .0, (c .1 .1 .0, (c .1 .1 .1 .0, (c .1 .1 .1 .1 .0, tt))))) in
-      record { clean = k; count = a .count; room = enough (messageFor s) out (c .1 .1 .1 .1 .1 .0); filled = a .filled; message-fine = own-fine s k (c .1 .1 .1 .1 .1 .1 .0); made = built-made s k }
+      let c = write-rules s out (a .clean) in
+      let k : Clean (sheetRules s) = rules-sheet s (c .sheet) in
+      record { clean = k; count = a .count; room = enough (messageFor s) out (c .room); filled = a .filled; message-fine = own-fine s k (c .own); made = built-made s k }

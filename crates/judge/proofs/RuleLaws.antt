@@ -1,0 +1,43 @@
+-- The rules of a message, from their list to their names and back. No other law takes one by its place in the list (O1). Assumes nothing.
+use Prim.Native.Nat.{ℕ}
+use mathlib.Core.Path.{_≡_, refl, sym, _∙_}
+use mathlib.Core.List.{List, [], _∷_, _++_}
+use Rattle.base.specs.Examples.{AllHold}
+use Rattle.base.specs.Rules.{first}
+use Rattle.base.specs.declared.Verdict.{Verdict}
+use Rattle.base.specs.declared.Verdict.the-variants.{Fine}
+use Rattle.base.proofs.RuleLaws.{then-clean, first-holds, first-clean}
+use Rattle.frame.specs.Frame.{frameRules, refusal}
+use Rattle.frame.proofs.RuleLaws.{frame-listed, frame-rules}
+use Rattle.judge.specs.Message.{contentRules, messageRules, EachContentRule, EachRule, NoneBroken, verdictOf}
+use Rattle.judge.proofs.CallLaws.{verdict-by}
+
+both-lists : (P : Verdict → Type 0) (us vs : List Verdict) → AllHold P us → AllHold P vs → AllHold P (us ++ vs)
+both-lists P [] vs a b = b
+both-lists P (u ∷ us) vs a b = (a .0, both-lists P us vs (a .1) b)
+
+module _ (P : Verdict → Type 0) (kind : ℕ) (m : List ℕ) where
+  content-named : AllHold P (contentRules kind m) → EachContentRule P kind m
+  content-named (a, (b, (c, (d, (e, (f, (g, z))))))) = record { contents = a; days = b; currency = c; banks = d; parties = e; taxes = f; texts = g }
+
+  content-listed : EachContentRule P kind m → AllHold P (contentRules kind m)
+  content-listed r = (r .contents, (r .days, (r .currency, (r .banks, (r .parties, (r .taxes, (r .texts, tt)))))))
+
+  -- what is said of each rule, and of one that says nothing, is said of the refusal
+  pub content-holds : P Fine → EachContentRule P kind m → P (first (contentRules kind m))
+  content-holds f r = first-holds P f (contentRules kind m) (content-listed r)
+
+  pub verdict-holds : P Fine → EachRule P kind m → P (verdictOf kind m)
+  unfolding verdictOf
+  verdict-holds f r =
+      first-holds P f (messageRules kind m) (both-lists P (frameRules kind m) (contentRules kind m) (frame-listed P kind m (r .pass)) (content-listed (r .inside)))
+
+-- accepted exactly if no rule is broken, rule by rule
+module _ (kind : ℕ) (m : List ℕ) where
+  pub accepted-rules : verdictOf kind m ≡ Fine → NoneBroken kind m
+  accepted-rules e =
+      let h = then-clean (refusal kind m) (first (contentRules kind m)) (sym (verdict-by kind m) ∙ e) in
+      record { pass = frame-rules kind m (h .0); inside = content-named (λ v. v ≡ Fine) kind m (first-clean (contentRules kind m) (h .1)) }
+
+  pub rules-accepted : NoneBroken kind m → verdictOf kind m ≡ Fine
+  rules-accepted r = verdict-holds (λ v. v ≡ Fine) kind m refl r
