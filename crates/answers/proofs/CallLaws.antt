@@ -18,10 +18,9 @@ use Rattle.base.specs.declared.Outcome.the-variants.{Done, Refused}
 use Rattle.base.proofs.CallLaws.{accepted, refused, not-short}
 use Rattle.fields.specs.Frame.{limit}
 use Rattle.writer.specs.Sheet.{messageFor, writeRules, MessageTo}
-use Rattle.refusals.specs.Line.{shown}
+use Rattle.answers.specs.Line.{shown, Shows}
 use Rattle.answers.specs.Programs.{messageAnswer, MessageAnswered}
-use Rattle.answers.specs.Steps.{roomless}
-use Rattle.refusals.specs.Shown.{shownOf, Shows}
+use Rattle.answers.specs.Steps.{roomless, shownOf}
 use Rattle.answers.proofs.VerdictLaws.{fine-verdict, other-verdict, short-verdict}
 
 -- ---- any call: its answer is held, and shown as its first broken rule or its text

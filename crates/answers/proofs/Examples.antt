@@ -33,7 +33,7 @@ use Rattle.details.specs.Breaking as breaking
 use Rattle.details.specs.Layouts.{linesFor, sizeFor}
 use Rattle.lines.specs.Spread.{contentLines, spread}
 use Rattle.writer.specs.Sheet.{unsaid, rule15, crowded, rule16, fieldsOf, messageFor}
-use Rattle.refusals.specs.Line.{digitsIn, decimal, refusalLine}
+use Rattle.answers.specs.Line.{digitsIn, decimal, refusalLine}
 use Rattle.sheets.specs.Gather.{contentParts, gather, recordsOf, sheetOf}
 use Rattle.answers.specs.Programs.{messageAnswer, namesType, sheetAnswer}
 use Rattle.answers.specs.Cases.{Holds, cases}

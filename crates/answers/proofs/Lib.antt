@@ -1,3 +1,5 @@
+pub mod DigitLaws
+pub mod LineLaws
 pub mod VerdictLaws
 pub mod PlaceLaws
 pub mod CallLaws

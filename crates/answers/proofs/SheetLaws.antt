@@ -27,10 +27,9 @@ use Rattle.records.specs.Rule19.{number}
 use Rattle.sheets.specs.Gather.{sheetOf}
 use Rattle.sheets.specs.Calls.{readRules, SheetTo}
 use Rattle.trips.proofs.Theorems.{sheet-size}
-use Rattle.refusals.specs.Line.{refusalLine, shown}
+use Rattle.answers.specs.Line.{refusalLine, shown, Shows}
 use Rattle.answers.specs.Programs.{namesType, messageIn, typeRule, sheetVerdict, sheetAnswer, SheetAnswered, inputRead}
-use Rattle.answers.specs.Steps.{ReadsNamed}
-use Rattle.refusals.specs.Shown.{shownOf, Shows}
+use Rattle.answers.specs.Steps.{ReadsNamed, shownOf}
 use Rattle.answers.proofs.CallLaws.{shown-is, shows-done, shows-front}
 use Rattle.answers.proofs.Theorems.{line-fits}
 

@@ -30,9 +30,9 @@ use Rattle.records.specs.Rule19.{sheetType}
 use Rattle.values.specs.Number.{number}
 use Rattle.writer.specs.Sheet.{sheetRules, messageFor, ownRule, writeRules, MessageTo}
 use Rattle.written.proofs.OwnLaws.{own-fine}
-use Rattle.refusals.specs.Line.{decimal, refusalLine, shown}
+use Rattle.answers.specs.Line.{decimal, refusalLine, shown}
 use Rattle.answers.specs.Programs.{messageVerdict, messageAnswer, MessageAnswered, sheetRead}
-use Rattle.refusals.proofs.DigitLaws.{decimal-value, decimal-digits, size-most}
+use Rattle.answers.proofs.DigitLaws.{decimal-value, decimal-digits, size-most}
 use Rattle.answers.proofs.VerdictLaws.{verdict-by, over-limit, room-verdict, fine-verdict}
 use Rattle.answers.proofs.PlaceLaws.{refusal-within}
 use Rattle.answers.proofs.CallLaws.{done-held, shows-done, shows-front}

@@ -7,7 +7,7 @@ use Rattle.base.specs.Quoted.{bytes}
 use Rattle.frame.specs.Cases.{sample}
 use Rattle.records.specs.Cases.{desk}
 use Rattle.written.specs.Cases.{sheet103}
-use Rattle.refusals.specs.Line.{decimal, refusalLine}
+use Rattle.answers.specs.Line.{decimal, refusalLine}
 use Rattle.answers.specs.Programs.{messageAnswer, sheetAnswer}
 
 pub data Case : Type 0 where

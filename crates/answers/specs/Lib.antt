@@ -1,3 +1,4 @@
+pub mod Line
 pub mod Programs
 pub mod Steps
 pub mod Cases

@@ -15,8 +15,7 @@ use Rattle.judge.specs.Message.{messageRules}
 use Rattle.records.specs.Rule19.{number}
 use Rattle.writer.specs.Sheet.{sheetRules, messageFor, ownRule}
 use Rattle.sheets.specs.Gather.{sheetOf}
-use Rattle.refusals.specs.Line.{shown}
-use Rattle.refusals.specs.Shown.{Shows}
+use Rattle.answers.specs.Line.{shown, Shows}
 
 -- the order of writing without 17: a program has room enough
 abbrev pub messageVerdict : List ℕ → Verdict

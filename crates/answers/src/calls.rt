@@ -4,11 +4,12 @@ ghost use mathlib.Core.Bool.{true};
 ghost use Rattle.records.specs.Rule19.{number};
 ghost use Rattle.answers.specs.Programs.{MessageAnswered, SheetAnswered, namesType};
 ghost use Rattle.answers.specs.Steps.{roomless, ReadsNamed};
+use super::shown::put_shown;
 use base::Outcome;
 use base::bytes::ZERO;
 use base::bytes::is_digit;
+use base::bytes::past;
 use base::bytes::wide;
-use refusals::put_shown;
 use sheets::calls::to_sheet;
 use writer::calls::to_message;
 
@@ -74,7 +75,7 @@ fn read_named(i: &[u8], m: &mut [u8]) -> Outcome
         };
     }
     let kind = type_of(i);
-    to_sheet(kind, &i[4..], m)
+    to_sheet(kind, past(i, 4), m)
 }
 
 // What `tosheet` writes for its input.

@@ -13,7 +13,7 @@ use Rattle.base.specs.Choice.{pick, all}
 use Rattle.base.specs.Bytes.{digit, empty, begins}
 use Rattle.base.proofs.Bools.{both, all-append}
 use Rattle.values.specs.Number.{worth, onward, number}
-use Rattle.refusals.specs.Line.{digitsIn, decimal}
+use Rattle.answers.specs.Line.{digitsIn, decimal}
 
 -- how many digits are allowed makes no difference where they are enough
 enough : (j k n : ℕ) → n < j → n < k → digitsIn j n ≡ digitsIn k n

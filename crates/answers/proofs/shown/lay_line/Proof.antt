@@ -1,10 +1,10 @@
--- `refusals::lay_line` meets its contract: each part in front of the one behind it. Assumes nothing.
+-- `answers::shown::lay_line` meets its contract: each part in front of the one behind it. Assumes nothing.
 use native.Mathlib.Omega.{arith}
 use lib.ListN.{length-set}
-use Rattle.refusals.proofs.LineLaws.{place-room, tab-inside, number-room, line-size, line-laid}
+use Rattle.answers.proofs.LineLaws.{place-room, tab-inside, number-room, line-size, line-laid}
 use borrow.Author.Needs.{needs}
-use Rattle.refusals.proofs.lay_line.Statement.{statement}
-use Rattle.refusals.proofs.lay_line.Tie as tie
+use Rattle.answers.proofs.shown.lay_line.Statement.{statement}
+use Rattle.answers.proofs.shown.lay_line.Tie as tie
 
 slice-write-line : tie.Need-slice-write-line
 slice-write-line c = search needs

@@ -1,12 +1,14 @@
--- A refusal as a line: `refused`, number and place in decimal digits, tabs between, LF; and what a verdict and a text are shown as (R3).
+-- A refusal as a line: `refused`, number and place in decimal digits, tabs between, LF; and what a verdict and a text are shown as (R3, N17).
 -- Assumes nothing.
 use Prim.Native.Nat.{ℕ, zero, suc, _+_, _/_, _%_}
 use mathlib.Core.List.{List, [], _∷_, _++_}
 use lib.Dec.{ltb}
 use Rattle.base.specs.Choice.{pick}
 use Rattle.base.specs.Quoted.{bytes}
+use Rattle.base.specs.Calls.{short, Gives}
 use Rattle.base.specs.declared.Verdict.{Verdict}
 use Rattle.base.specs.declared.Verdict.the-variants.{Fine, Broken}
+use Rattle.base.specs.declared.Outcome.{Outcome}
 
 -- the last digits of n, at most k of them and no 0 in front
 unfoldable pub digitsIn : ℕ → ℕ → List ℕ
@@ -24,3 +26,7 @@ refusalLine number place = bytes "refused" ++ 9 ∷ (decimal number ++ 9 ∷ (de
 abbrev pub shown : Verdict → List ℕ → List ℕ
 shown Fine t = t
 shown (Broken number place) t = refusalLine number place
+
+-- a text shown in the room lent, refused only by 17
+abbrev pub Shows : List ℕ → List ℕ → Outcome → List ℕ → Type 0
+Shows t out r after = Gives (short t out ∷ []) t out r after

@@ -2,10 +2,11 @@
 ghost use mathlib.Core.Path.{_≡_};
 ghost use Prim.Native.Nat.{_≤_};
 ghost use lib.ListN.{length, drop};
-ghost use Rattle.refusals.specs.Line.{decimal, refusalLine};
-ghost use Rattle.refusals.specs.Shown.{shownOf, Shows, Before};
+ghost use Rattle.answers.specs.Line.{decimal, refusalLine, Shows};
+ghost use Rattle.answers.specs.Steps.{shownOf, Before};
 use base::Outcome;
 use base::bytes::front;
+use base::bytes::past;
 use base::bytes::put;
 
 const ZERO: usize = b'0' as usize;
@@ -30,7 +31,7 @@ fn put_digits(out: &mut [u8], end: usize, n: usize) -> usize
 // The line of a refusal at the end of the room; answers where it begins.
 fn lay_line(number: u32, place: usize, line: &mut [u8]) -> usize
     requires { ⌜ length (now line) ≡ 50 ⌝ }
-    ensures { λ r. ⌜ (r ≤ 50) × (drop r (now (line .exit)) ≡ refusalLine number place) ⌝ }
+    ensures { λ r. ⌜ drop r (now (line .exit)) ≡ refusalLine number place ⌝ }
 {
     line[49] = b'\n';
     let p = put_digits(line, 49, place);
@@ -54,20 +55,16 @@ fn put_whole(t: &[u8], out: &mut [u8]) -> Outcome
     Outcome::Done(t.len())
 }
 
-fn put_refusal(number: u32, place: usize, out: &mut [u8]) -> Outcome
-    ensures { λ r. ⌜ Shows (refusalLine number place) (now (out .entry)) r (now (out .exit)) ⌝ }
-{
-    let mut line = [0u8; 50];
-    let at = lay_line(number, place, &mut line);
-    put_whole(&line[at..], out)
-}
-
 // What a call answered and left in m, shown in the room lent.
-pub fn put_shown(a: Outcome, m: &[u8], out: &mut [u8]) -> Outcome
+pub(crate) fn put_shown(a: Outcome, m: &[u8], out: &mut [u8]) -> Outcome
     ensures { λ r. ⌜ Shows (shownOf a (now (m .entry))) (now (out .entry)) r (now (out .exit)) ⌝ }
 {
     match a {
         Outcome::Done(n) => put_whole(front(m, n), out),
-        Outcome::Refused { number, place } => put_refusal(number, place, out),
+        Outcome::Refused { number, place } => {
+            let mut line = [0u8; 50];
+            let at = lay_line(number, place, &mut line);
+            put_whole(past(&line, at), out)
+        }
     }
 }

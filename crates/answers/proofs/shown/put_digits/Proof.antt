@@ -1,9 +1,9 @@
--- `refusals::put_digits` meets its contract: a digit in front of another, while ten goes in. Assumes nothing.
+-- `answers::shown::put_digits` meets its contract: a digit in front of another, while ten goes in. Assumes nothing.
 use native.Mathlib.Omega.{arith}
 use lib.ListN.{length-set}
-use Rattle.refusals.proofs.LineLaws.{Laying, laying-start, laying-room, laying-on, laying-end}
-use Rattle.refusals.proofs.put_digits.Statement.{statement}
-use Rattle.refusals.proofs.put_digits.Tie as tie
+use Rattle.answers.proofs.LineLaws.{Laying, laying-start, laying-room, laying-on, laying-end}
+use Rattle.answers.proofs.shown.put_digits.Statement.{statement}
+use Rattle.answers.proofs.shown.put_digits.Tie as tie
 
 abbrev Inv-loop : tie.InvT-loop
 Inv-loop out₀ end n at₀ left₀ out at left = Laying n end out₀ at left out

@@ -1,11 +1,11 @@
--- A line put together from its end: digits put one in front of another, and the whole line (R3). Assumes nothing.
+-- A line put together from its end: digits put one in front of another, and the whole line; a text put into the room lent (R3). Assumes nothing.
 use Prim.Native.Nat.{ℕ, suc, _+_, _-_, _/_, _%_, _^_, _<_, _≤_}
 use mathlib.Core.Path.{_≡_, refl, sym, ap, _∙_, subst}
 use mathlib.Core.List.{List, [], _∷_, _++_, append-assoc}
 use native.Mathlib.Omega.{arith}
 use native.Mathlib.Nat.{zero-add}
-use lib.ListN.{length, take, drop, set, length-set, length-drop, drop-of-length-le}
-use lib.Seq.{set-split, drop-at, length-take-le, take-all, sets-eq}
+use lib.ListN.{length, take, drop, set, length-set, drop-of-length-le}
+use lib.Seq.{set-split, drop-at, length-take-le, sets-eq}
 use Rattle.base.specs.Quoted.{bytes}
 use Rattle.base.specs.Rules.{then}
 use Rattle.base.specs.Calls.{short, over, placed}
@@ -15,9 +15,9 @@ use Rattle.base.specs.declared.Outcome.{Outcome}
 use Rattle.base.specs.declared.Outcome.the-variants.{Done, Refused}
 use Rattle.base.proofs.CallLaws.{gives-refused, gives-done, is-short, not-short}
 use Rattle.base.proofs.Room.{over-sets, placed-fits}
-use Rattle.refusals.specs.Line.{decimal, refusalLine}
-use Rattle.refusals.specs.Shown.{shownOf, Shows, Before}
-use Rattle.refusals.proofs.DigitLaws.{decimal-one, decimal-more, size-one, size-more, size-least, size-most}
+use Rattle.answers.specs.Line.{decimal, refusalLine, Shows}
+use Rattle.answers.specs.Steps.{shownOf, Before}
+use Rattle.answers.proofs.DigitLaws.{decimal-one, decimal-more, size-one, size-more, size-least, size-most}
 
 -- ---- from a place on
 pub behind-set : (l : List ℕ) (k x : ℕ) → k < length l → drop k (set l k x) ≡ x ∷ drop (suc k) l
@@ -102,38 +102,29 @@ module _ (place : ℕ) (old : List ℕ) {one : List ℕ} {p : ℕ} (b : Before (
         pub line-size : length after ≡ length two → length after ≡ length old
         line-size e = e ∙ two-size m ∙ sym l
 
-        pub line-laid : place < 2 ^ 64 → number < 2 ^ 32 → after ≡ placed two (n - 8) (bytes "refused\t") → (n - 8 ≤ 50) × (drop (n - 8) after ≡ refusalLine number place)
+        pub line-laid : place < 2 ^ 64 → number < 2 ^ 32 → after ≡ placed two (n - 8) (bytes "refused\t") → drop (n - 8) after ≡ refusalLine number place
         unfolding refusalLine
         line-laid f h q =
             let r = number-room f h in
             let w = number-within in
             let z = two-size m in
-            let e : n - 8 + 8 ≡ n = omega arith in (
-              omega arith,
-              ap (drop (n - 8)) q ∙ placed-front two (n - 8) (bytes "refused\t") (omega arith)
-                  ∙ ap (λ (k : ℕ). bytes "refused\t" ++ drop k two) e
-                  ∙ ap (λ (t : List ℕ). bytes "refused\t" ++ t)
-                  (g .stands ∙ ap (λ (t : List ℕ). decimal number ++ t) (in-front one p 9 (omega (arith, place-room f)) (omega (arith, place-within, one-size)) ∙ ap (λ (t : List ℕ). 9 ∷ t) (place-stands l))),
-            )
-
--- all of it from a place on
-pub rest-of : (l : List ℕ) (n k : ℕ) → length l ≡ n → take (n - k) (drop k l) ≡ drop k l
-rest-of l n k h = take-all (n - k) (drop k l) (omega (arith, length-drop k l))
+            let e : n - 8 + 8 ≡ n = omega arith in
+            ap (drop (n - 8)) q ∙ placed-front two (n - 8) (bytes "refused\t") (omega arith)
+            ∙ ap (λ (k : ℕ). bytes "refused\t" ++ drop k two) e
+            ∙ ap (λ (t : List ℕ). bytes "refused\t" ++ t)
+            (g .stands ∙ ap (λ (t : List ℕ). decimal number ++ t) (in-front one p 9 (omega (arith, place-room f)) (omega (arith, place-within, one-size)) ∙ ap (λ (t : List ℕ). 9 ∷ t) (place-stands l)))
 
 -- ---- a text put into the room lent
 module _ (t out : List ℕ) where
   pub shows-short : length out < length t → Shows t out (Refused 17 (length t)) out
   shows-short h = gives-refused (short t out ∷ []) t out 17 (length t) (ap (λ (v : Verdict). then v Fine) (is-short t out h))
 
-  pub shows-done : length t ≤ length out → {after : List ℕ} → after ≡ placed out 0 t → Shows t out (Done (length t)) after
-  shows-done h {after} e =
+  pub shows-put : length t ≤ length out → {after : List ℕ} → after ≡ placed out 0 t → Shows t out (Done (length t)) after
+  shows-put h {after} e =
       let z : 0 + length t ≡ length t = zero-add (length t) in
       let w : over t out ≡ after = over-sets t out h ∙ sym (e ∙ placed-fits out 0 t (omega arith)) in
       subst (λ (o : List ℕ). Shows t out (Done (length t)) o) w (gives-done (short t out ∷ []) t out (ap (λ (v : Verdict). then v Fine) (not-short t out h)))
 
 -- ---- an answer known by its form
-pub shown-by : {a b : Outcome} (m out : List ℕ) {after : List ℕ} {r : Outcome} → a ≡ b → Shows (shownOf b m) out r after → Shows (shownOf a m) out r after
-shown-by m out {after} {r} e h = subst (λ (x : Outcome). Shows (shownOf x m) out r after) (sym e) h
-
-pub shown-front : {a : Outcome} {n : ℕ} (m out : List ℕ) {t after : List ℕ} {r : Outcome} → a ≡ Done n → t ≡ take n m → Shows t out r after → Shows (shownOf a m) out r after
-shown-front m out {t} {after} {r} e f h = shown-by m out e (subst (λ (u : List ℕ). Shows u out r after) f h)
+pub shown-as : {a b : Outcome} (m out : List ℕ) {t after : List ℕ} {r : Outcome} → a ≡ b → t ≡ shownOf b m → Shows t out r after → Shows (shownOf a m) out r after
+shown-as m out {t} {after} {r} e f h = subst (λ (u : List ℕ). Shows u out r after) (f ∙ ap (λ (x : Outcome). shownOf x m) (sym e)) h
