@@ -71,7 +71,7 @@ unfolding verdictOf
 fits-by i Fine e = sheet-size (number i) (messageIn i) (then-clean (typeRule i) (first (messageRules (number i) (messageIn i))) e .1)
 fits-by i (Broken n p) e = go (namesType i) (first (messageRules (number i) (messageIn i))) (verdict-small (number i) (messageIn i)) e
   where
-    go : (b : Bool) (v : Verdict) → verdicts.Small 10000 v → then (pick b Fine (Broken 18 0)) v ≡ Broken n p → length (refusalLine n p) ≤ limit
+    go : (b : Bool) (v : Verdict) → verdicts.Small limit v → then (pick b Fine (Broken 18 0)) v ≡ Broken n p → length (refusalLine n p) ≤ limit
     go true Fine s f = absurd (fine-broken n p f)
     go true (Broken k q) s f = let x : k ≡ n = cc in let y : q ≡ p = cc in omega (arith, line-fits n p (omega (arith, s .0)) (omega (arith, s .1)))
     go false v s f = let x : 18 ≡ n = cc in let y : 0 ≡ p = cc in omega (arith, line-fits n p (omega arith) (omega arith))

@@ -12,7 +12,7 @@ use lib.ListN.{length, take, drop, length-append}
 use lib.Seq.{take-all, length-take-le}
 use borrow.Author.Tests.{ne-eqb}
 use Rattle.base.specs.Bytes.{digit, other, without, begins}
-use Rattle.base.specs.Rules.{first}
+use Rattle.base.specs.Rules.{lastNumber, first}
 use Rattle.base.specs.Calls.{over, outcome, Gives}
 use Rattle.base.specs.declared.Verdict.{Verdict}
 use Rattle.base.specs.declared.Verdict.the-variants.{Fine, Broken}
@@ -111,7 +111,8 @@ module _ (s out : List ℕ) (r : Outcome) (after : List ℕ) (g : MessageTo s ou
         go (Broken m q) e f = let k = line-one m q n p f in let a = k .0 in let b = k .1 in let x = by-verdict (Broken m q) e in cc
 
 -- ---- 10,000 bytes have room for every answer
-pub line-fits : (n p : ℕ) → n ≤ 19 → p ≤ limit → length (refusalLine n p) ≤ 17
+-- a line: a number of two digits, a place of five
+pub line-fits : (n p : ℕ) → n ≤ lastNumber → p ≤ limit → length (refusalLine n p) ≤ 17
 unfolding refusalLine
 line-fits n p a b =
     omega (arith, length-append (decimal n) (9 ∷ (decimal p ++ 10 ∷ [])), length-append (decimal p) (10 ∷ []), size-most 1 n (omega arith), size-most 4 p (omega arith))

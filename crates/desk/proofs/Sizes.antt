@@ -11,7 +11,7 @@ use lib.Seq.{getD-drop}
 use Rattle.base.specs.Choice.{pick}
 use Rattle.base.specs.Bytes.{between}
 use Rattle.base.specs.Quoted.{bytes}
-use Rattle.base.specs.Rules.{then, first}
+use Rattle.base.specs.Rules.{lastNumber, then, first}
 use Rattle.base.specs.Calls.{short, outcome}
 use Rattle.base.specs.declared.Outcome.{Outcome}
 use Rattle.base.specs.declared.Outcome.the-variants.{Done, Refused}
@@ -52,7 +52,7 @@ use Rattle.trips.proofs.Theorems.{sheet-size}
 use Rattle.desk.specs.Sizes.{Fits, SmallOutcome, SmallCheck, SmallSpan, SmallAmount, SmallDay}
 
 -- ---- refusals of messages and texts
-fits : (n p : ℕ) → (n ≤ 18) × (p ≤ 10000) → Fits n p
+fits : (n p : ℕ) → (n ≤ lastNumber) × (p ≤ limit) → Fits n p
 fits n p h = (omega (arith, h .0), omega (arith, h .1))
 
 pub text-small : (o : Outcome) → Small o → SmallOutcome o
@@ -79,7 +79,7 @@ sheet-small kind m out r after g =
     subst SmallOutcome (sym (g .answers ∙ ap (λ (v : Verdict). outcome v (length (sheetOf kind m))) (first-last (messageRules kind m) (short (sheetOf kind m) out))))
     (go (first (messageRules kind m)) refl (verdict-small kind m))
   where
-    go : (v : Verdict) → verdictOf kind m ≡ v → verdicts.Small 10000 v → SmallOutcome (outcome (then v (short (sheetOf kind m) out)) (length (sheetOf kind m)))
+    go : (v : Verdict) → verdictOf kind m ≡ v → verdicts.Small limit v → SmallOutcome (outcome (then v (short (sheetOf kind m) out)) (length (sheetOf kind m)))
     go Fine e s = room-small (sheetOf kind m) out (sheet-size kind m e)
     go (Broken n p) e s = fits n p s
 
@@ -98,12 +98,12 @@ check-small kind m list r after g =
     subst SmallCheck (sym (g .answers ∙ ap (λ (v : Verdict). checkedBy v (length (fields m)) (wordOf kind m)) (first-last (messageRules kind m) (short (listed 5 (fields m)) list))))
     (go (first (messageRules kind m)) refl (verdict-small kind m))
   where
-    go : (v : Verdict) → verdictOf kind m ≡ v → verdicts.Small 10000 v → SmallCheck (checkedBy (then v (short (listed 5 (fields m)) list)) (length (fields m)) (wordOf kind m))
+    go : (v : Verdict) → verdictOf kind m ≡ v → verdicts.Small limit v → SmallCheck (checkedBy (then v (short (listed 5 (fields m)) list)) (length (fields m)) (wordOf kind m))
     go Fine e s = fine-small kind m list e
     go (Broken n p) e s = fits n p s
 
 -- ---- the part of a place
-inside-small : (m : List ℕ) (s : Span) → length m ≤ 10000 → Inside m s → SmallSpan s
+inside-small : (m : List ℕ) (s : Span) → length m ≤ limit → Inside m s → SmallSpan s
 inside-small m (Part start end) h i = (i .0, omega (arith, i .1))
 inside-small m Nothing h i = tt
 
@@ -120,7 +120,7 @@ pub amount-small : (kind : ℕ) (m : List ℕ) → SmallAmount (amountOf kind m)
 unfolding amountOf
 amount-small kind m = go (verdictOf kind m) (verdict-small kind m)
   where
-    go : (v : Verdict) → verdicts.Small 10000 v → SmallAmount (amountBy v (kopecksOf (paid kind m)))
+    go : (v : Verdict) → verdicts.Small limit v → SmallAmount (amountBy v (kopecksOf (paid kind m)))
     go Fine s = tt
     go (Broken n p) s = fits n p s
 
@@ -128,7 +128,7 @@ pub day-small : (kind : ℕ) (m : List ℕ) → SmallDay (dayOf kind m)
 unfolding dayOf
 day-small kind m = go (verdictOf kind m) (verdict-small kind m)
   where
-    go : (v : Verdict) → verdicts.Small 10000 v → SmallDay (dayBy v (dateOf (paid kind m)))
+    go : (v : Verdict) → verdicts.Small limit v → SmallDay (dayBy v (dateOf (paid kind m)))
     go Fine s = tt
     go (Broken n p) s = fits n p s
 

@@ -1,7 +1,9 @@
 -- Answers that fit one word. Words of private contracts. Assumes nothing.
 use Prim.Native.Nat.{ℕ, _≤_, _<_}
+use Rattle.base.specs.Rules.{lastNumber}
 use Rattle.base.specs.declared.Outcome.{Outcome}
 use Rattle.base.specs.declared.Outcome.the-variants as outcome
+use Rattle.fields.specs.Frame.{limit}
 use Rattle.listing.specs.declared.Span.{Span}
 use Rattle.listing.specs.declared.Span.the-variants.{Part, Nothing}
 use Rattle.message.specs.declared.Checked.{Checked}
@@ -13,7 +15,7 @@ use Rattle.message.specs.declared.Day.the-variants as day
 
 -- a refusal: the place stays below the number
 abbrev pub Fits : ℕ → ℕ → Type 0
-Fits number place = (number ≤ 19) × (place < 4294967296)
+Fits number place = (number ≤ lastNumber) × (place < 4294967296)
 
 abbrev pub SmallOutcome : Outcome → Type 0
 SmallOutcome (outcome.Done n) = n < 4294967296
@@ -24,7 +26,7 @@ SmallCheck (checked.Accepted fields present) = (fields ≤ 14) × (present < 163
 SmallCheck (checked.Refused number place) = Fits number place
 
 abbrev pub SmallSpan : Span → Type 0
-SmallSpan (Part start end) = (start ≤ end) × (end ≤ 10000)
+SmallSpan (Part start end) = (start ≤ end) × (end ≤ limit)
 SmallSpan Nothing = Unit {0}
 
 -- kopecks and days fit by their types

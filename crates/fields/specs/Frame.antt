@@ -11,6 +11,7 @@ use Rattle.base.specs.declared.Verdict.{Verdict}
 use Rattle.base.specs.declared.Verdict.the-variants.{Fine, Broken}
 use Rattle.fields.specs.Field.{opening, closing, body, lines}
 
+-- the bytes that a message, and a sheet, may have: no place of a message's refusal is greater
 abbrev pub limit : ℕ
 limit = 10000
 

@@ -8,13 +8,13 @@ use lib.Dec.{eqb, leb, ltb}
 use lib.ListN.{length}
 use Rattle.base.specs.Choice.{pick}
 use Rattle.base.specs.Bytes.{xset, begins, empty}
-use Rattle.base.specs.Rules.{then}
+use Rattle.base.specs.Rules.{lastNumber, then}
 use Rattle.base.specs.Calls.{long}
 use Rattle.base.specs.declared.Verdict.{Verdict}
 use Rattle.base.specs.declared.Verdict.the-variants.{Fine, Broken}
 use Rattle.base.proofs.CallLaws.{within-limit}
 use Rattle.fields.specs.Field.{Field, tagOf, lined, linesOf, body, lines, fields}
-use Rattle.fields.specs.Frame.{rule1, rule2, rule3, rule4, framed, scan, lineBad, badLine}
+use Rattle.fields.specs.Frame.{limit, rule1, rule2, rule3, rule4, framed, scan, lineBad, badLine}
 use Rattle.fields.specs.Places.{sizeOf, nextOf}
 use Rattle.fields.proofs.FrameLaws.{rule2-fine, body-length, body-ended}
 use Rattle.fields.proofs.LineLaws.{laid-lines}
@@ -24,10 +24,10 @@ use Rattle.types.specs.Form.{Place, placesOf}
 use Rattle.types.specs.Walk.{find, skips, wrong, walk, rule18, walked}
 use Rattle.frame.specs.Frame.{refusal}
 
--- a refusal's number is at most 18, and its place at most b
+-- a refusal's number is at most the last, and its place at most b
 abbrev pub Small : ℕ → Verdict → Type 0
 Small b Fine = Unit {0}
-Small b (Broken n p) = (n ≤ 18) × (p ≤ b)
+Small b (Broken n p) = (n ≤ lastNumber) × (p ≤ b)
 
 then-small : (b : ℕ) (v w : Verdict) → Small b v → (v ≡ Fine → Small b w) → Small b (then v w)
 then-small b Fine w s h = h refl
@@ -69,17 +69,17 @@ walk-small b ps next o (f ∷ fs) h =
     pick-small b (eqb (wrong ps next q) 0) (walk ps (suc q) (nextOf o f) fs) (Broken (wrong ps next q) o)
     (walk-small b ps (suc q) (nextOf o f) fs (omega arith)) (omega (arith, wrong-small ps next q), omega arith)
 
-pub refusal-small : (kind : ℕ) (m : List ℕ) → Small 10000 (refusal kind m)
+pub refusal-small : (kind : ℕ) (m : List ℕ) → Small limit (refusal kind m)
 unfolding refusal rule18 rule1 rule2 rule3 rule4 walked long
 refusal-small kind m =
-    then-small 10000 (rule18 kind) _ (pick-small 10000 (empty (placesOf kind)) (Broken 18 0) Fine (omega arith, omega arith) tt) (λ e18.
-    then-small 10000 (rule1 m) _ (pick-small 10000 (ltb 10000 (length m)) (Broken 1 10000) Fine (omega arith, omega arith) tt) (λ e1.
-    let l : length m ≤ 10000 = within-limit 10000 m e1 in
-    then-small 10000 (rule2 m) _ (pick-small 10000 (framed m) Fine (Broken 2 0) tt (omega arith, omega arith)) (λ e2.
+    then-small limit (rule18 kind) _ (pick-small limit (empty (placesOf kind)) (Broken 18 0) Fine (omega arith, omega arith) tt) (λ e18.
+    then-small limit (rule1 m) _ (pick-small limit (ltb limit (length m)) (Broken 1 limit) Fine (omega arith, omega arith) tt) (λ e1.
+    let l : length m ≤ limit = within-limit limit m e1 in
+    then-small limit (rule2 m) _ (pick-small limit (framed m) Fine (Broken 2 0) tt (omega arith, omega arith)) (λ e2.
     let w = rule2-fine m .0 e2 in
     let c : length (body m) + 7 ≡ length m = body-length m w in
-    then-small 10000 (rule3 m) _ (scan-small 10000 false 5 (body m) (omega arith)) (λ e3.
+    then-small limit (rule3 m) _ (scan-small limit false 5 (body m) (omega arith)) (λ e3.
     let d : sizeOf (lines (body m)) ≡ length (body m) = sym (laid-size (lines (body m))) ∙ ap length (laid-lines 5 (body m) (body-ended m w) e3) in
-    then-small 10000 (rule4 m) _ (line-small 10000 true 5 (lines (body m)) (omega arith)) (λ e4.
+    then-small limit (rule4 m) _ (line-small limit true 5 (lines (body m)) (omega arith)) (λ e4.
     let f : 5 + sizeOf (linesOf (fields m)) ≡ length m - 2 = fields-dash m e2 e3 e4 in
-    then-small 10000 (walked kind m) Fine (walk-small 10000 (placesOf kind) 0 5 (fields m) (omega arith)) (λ e5. tt))))))
+    then-small limit (walked kind m) Fine (walk-small limit (placesOf kind) 0 5 (fields m) (omega arith)) (λ e5. tt))))))

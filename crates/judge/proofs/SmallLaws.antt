@@ -6,11 +6,12 @@ use mathlib.Core.List.{List, [], _∷_}
 use native.Mathlib.Omega.{arith}
 use lib.ListN.{length, length-append}
 use Rattle.base.specs.Choice.{pick, all}
-use Rattle.base.specs.Rules.{then, first}
+use Rattle.base.specs.Rules.{lastNumber, then, first}
 use Rattle.base.specs.declared.Verdict.{Verdict}
 use Rattle.base.specs.declared.Verdict.the-variants.{Fine, Broken}
 use Rattle.base.proofs.Bools.{right}
 use Rattle.fields.specs.Field.{Field, field, lined, linesOf, fields}
+use Rattle.fields.specs.Frame.{limit}
 use Rattle.fields.specs.Places.{sizeOf, startOf, nextOf}
 use Rattle.fields.specs.Shapes.{lineable}
 use Rattle.fields.proofs.FieldLaws.{fields-lineable, fields-dash}
@@ -51,7 +52,7 @@ ordered-through : {o e : ℕ} {vs : List Value} → Ordered o vs e → o ≤ e
 ordered-through (none h) = h
 ordered-through (next h r) = omega (arith, ordered-through r)
 
-bad-small : (number : ℕ) (bad : Kind → Bool) → number ≤ 18 → {o e : ℕ} {vs : List Value} → Ordered o vs e → Small e (firstBad number bad vs)
+bad-small : (number : ℕ) (bad : Kind → Bool) → number ≤ lastNumber → {o e : ℕ} {vs : List Value} → Ordered o vs e → Small e (firstBad number bad vs)
 unfolding firstBad
 bad-small number bad k (none h) = tt
 bad-small number bad k {e = e} (next {v = v} {vs = vs} h r) = go (bad (kindOf v)) (bad-small number bad k r)
@@ -80,30 +81,30 @@ widened : (a b : ℕ) (v : Verdict) → a ≤ b → Small a v → Small b v
 widened a b Fine h s = tt
 widened a b (Broken n p) h s = (s .0, omega (arith, s .1))
 
-content-small : (kind : ℕ) (m : List ℕ) → Taken kind m → Small 10000 (first (contentRules kind m))
+content-small : (kind : ℕ) (m : List ℕ) → Taken kind m → Small limit (first (contentRules kind m))
 unfolding rule8 rule9 rule10 rule11 rule12 rule13
 content-small kind m t =
     let fs = fields m in
     let d : 5 + sizeOf (linesOf fs) ≡ length m - 2 = fields-dash m (t .frame-fine) (t .bytes-fine) (t .lines-fine) in
     let w = t .within in
     let g = t .long in
-    let e : after 5 fs ≤ 10000 = omega (arith, after-size 5 fs) in
-    let value : (number : ℕ) (bad : Kind → Bool) → number ≤ 18 → Small 10000 (firstBad number bad (valuesIn 5 fs)) =
-    λ number bad k. widened (after 5 fs) 10000 (firstBad number bad (valuesIn 5 fs)) e (bad-small number bad k (in-order 5 fs)) in
-    content-holds (Small 10000) kind m tt (record {
-      contents = wrong-small 10000 (rightField kind (signOf fs)) 5 fs (fields-lineable m (t .lines-fine)) (omega arith);
+    let e : after 5 fs ≤ limit = omega (arith, after-size 5 fs) in
+    let value : (number : ℕ) (bad : Kind → Bool) → number ≤ lastNumber → Small limit (firstBad number bad (valuesIn 5 fs)) =
+    λ number bad k. widened (after 5 fs) limit (firstBad number bad (valuesIn 5 fs)) e (bad-small number bad k (in-order 5 fs)) in
+    content-holds (Small limit) kind m tt (record {
+      contents = wrong-small limit (rightField kind (signOf fs)) 5 fs (fields-lineable m (t .lines-fine)) (omega arith);
       days = value 9 _ (omega arith);
       currency = value 10 _ (omega arith);
       banks = value 11 _ (omega arith);
       parties = value 12 _ (omega arith);
       taxes = value 13 _ (omega arith);
-      texts = texts-small 10000 kind fs (omega arith);
+      texts = texts-small limit kind fs (omega arith);
     })
 
--- a message's refusal has a number up to 18 and a place up to 10,000
-pub verdict-small : (kind : ℕ) (m : List ℕ) → Small 10000 (verdictOf kind m)
-verdict-small kind m = subst (Small 10000) (sym (verdict-by kind m)) (go (refusal kind m) refl (refusal-small kind m))
+-- a message's refusal has a number up to the last and a place up to the limit
+pub verdict-small : (kind : ℕ) (m : List ℕ) → Small limit (verdictOf kind m)
+verdict-small kind m = subst (Small limit) (sym (verdict-by kind m)) (go (refusal kind m) refl (refusal-small kind m))
   where
-    go : (v : Verdict) → refusal kind m ≡ v → Small 10000 v → Small 10000 (then v (first (contentRules kind m)))
+    go : (v : Verdict) → refusal kind m ≡ v → Small limit v → Small limit (then v (first (contentRules kind m)))
     go Fine e s = content-small kind m (taken kind m e)
     go (Broken n p) e s = s

@@ -22,7 +22,7 @@ contentRules kind m = rule8 kind m ∷ innerRules kind (fields m)
 abbrev pub messageRules : ℕ → List ℕ → List Verdict
 messageRules kind m = frameRules kind m ++ contentRules kind m
 
--- ---- the same by name: what is said of each of them
+-- ---- the same by name, 8 to 14 in order: what is said of each of them
 pub record EachContentRule (P : Verdict → Type 0) (kind : ℕ) (m : List ℕ) : Type 0 where
   pub contents : P (rule8 kind m)
   pub days : P (rule9 (fields m))
@@ -41,7 +41,6 @@ abbrev pub NoneBroken : ℕ → List ℕ → Type 0
 NoneBroken kind m = EachRule (λ v. v ≡ Fine) kind m
 
 -- ---- what is found
-
 -- the refusal of a message: its first rule that is broken
 unfoldable pub verdictOf : ℕ → List ℕ → Verdict
 verdictOf kind m = first (messageRules kind m)

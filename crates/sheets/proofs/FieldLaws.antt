@@ -19,6 +19,7 @@ use Rattle.base.proofs.ByteLaws.{past-in}
 use Rattle.base.proofs.Bools.{left, right}
 use Rattle.base.proofs.RuleLaws.{fine-broken}
 use Rattle.fields.specs.Field.{Field, field, fields, laid, linesOf, closing}
+use Rattle.fields.specs.Frame.{limit}
 use Rattle.fields.specs.Shapes.{shaped, packed, unpack, lineable, follows}
 use Rattle.fields.specs.ByLines.{joined}
 use Rattle.fields.proofs.TagLaws.{Shape, plain, lettered, shape-of}
@@ -139,7 +140,7 @@ module _ {m spots : List ℕ} (z : Settled m spots) (k : ℕ) (h : k < length (f
           let n = left (all (without 13) (w .line ∷ w .more)) (all follows (w .more)) (right (without 13 (w .tag)) _ (right (without 58 (w .tag)) _ able)) in
           ap (λ (x : Field). x ∷ drop (k + 1) (fields m)) (ap fieldIn (part-is w) ∙ field-is (w .tag) (w .line) (w .more) (w .shape) n) ∙ sym (w .is)
 
-  pub part-within : (byte spots k ≤ byte spots (k + 1) - 2) × (2 ≤ byte spots (k + 1)) × (byte spots (k + 1) - 2 ≤ length m) × (byte spots (k + 1) ≤ 10000)
+  pub part-within : (byte spots k ≤ byte spots (k + 1) - 2) × (2 ≤ byte spots (k + 1)) × (byte spots (k + 1) - 2 ≤ length m) × (byte spots (k + 1) ≤ limit)
   part-within = let w = stands z k h in (omega (arith, w .far), omega (arith, w .far), omega (arith, w .end), omega (arith, w .end, z .within))
 
   pub part-sound : Part part

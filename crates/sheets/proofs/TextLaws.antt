@@ -14,6 +14,7 @@ use Rattle.alphabets.specs.Parts.{spoken, unlessStops, pieceText}
 use Rattle.alphabets.specs.declared.pieces.Piece.{Piece}
 use Rattle.alphabets.specs.declared.pieces.Piece.the-variants.{Read, Stops}
 use Rattle.alphabets.proofs.SpokenLaws.{counted, text-stops}
+use Rattle.fields.specs.Frame.{limit}
 use Rattle.fields.specs.Lines.{linesIn}
 use Rattle.base.proofs.MarkLaws.{up-rest}
 use Rattle.base.proofs.Room.{puts-put, puts-on, puts-by, Leads, leads-on, leads-last}
@@ -111,7 +112,7 @@ module _ (c : List ℕ) (i e : ℕ) (q : e ≡ i + upTo 13 (drop i c)) where
 
   -- the places behind it are near
   module _ (h : i ≤ length c) (d : ℕ) {l : List ℕ} (z : l ≡ drop d this) (at : ℕ) {n : ℕ} (a : n ≤ at + i) where
-    pub part-needs : length c ≤ 10000 → at ≤ 400000 → (length l ≤ 10000) × (n ≤ 500000)
+    pub part-needs : length c ≤ limit → at ≤ 400000 → (length l ≤ limit) × (n ≤ 500000)
     part-needs k b = (omega (arith, cut-small d z, this-within h), omega arith)
 
     pub part-last : {k : ℕ} → k ≤ n + 1 + length l → k ≤ at + length c + 1

@@ -11,11 +11,11 @@ use Rattle.base.specs.Choice.{pick}
 use Rattle.base.specs.Bytes.{same, upTo}
 use Rattle.base.specs.Quoted.{bytes}
 use Rattle.base.specs.Rules.{then, first}
-use Rattle.base.specs.Calls.{Answer, said, stuck, long, over, placed, Gives}
+use Rattle.base.specs.Calls.{Answer, said, stuck, over, placed, Gives}
 use Rattle.base.specs.declared.Verdict.{Verdict}
 use Rattle.base.specs.declared.Verdict.the-variants.{Fine, Broken}
 use Rattle.base.proofs.Bools.{pick-same}
-use Rattle.base.proofs.RuleLaws.{fine-broken, then-clean, first-append, clean-first}
+use Rattle.base.proofs.RuleLaws.{fine-broken, then-clean, first-append}
 use Rattle.base.proofs.Room.{over-sets, puts-put}
 use Rattle.base.proofs.CallLaws.{is-long, not-long, gives-refused, gives-on}
 use Rattle.fields.specs.Field.{field, opening, message}
@@ -177,10 +177,7 @@ module _ (s : List ℕ) (v : sheetVerdict s ≡ Fine) where
     Left = then (rule15 (sheetType s) (sheetSign s) 0 (records s)) (then (rule16 (sheetType s) (sheetSign s) (tail (records s))) Fine)
 
     past : first (sheetRules s) ≡ Left
-    past =
-        let front = long limit s ∷ rule19 s ∷ rule18 (sheetType s) ∷ [] in
-        first-append front (rule15 (sheetType s) (sheetSign s) 0 (records s) ∷ rule16 (sheetType s) (sheetSign s) (tail (records s)) ∷ [])
-        ∙ ap (λ (v : Verdict). then v Left) (clean-first front (not-long limit s w, (sound-fine s h, (type-fine, tt))))
+    past = rw (not-long limit s w, sound-fine s h, type-fine)
 
     abbrev Built : List ℕ → Step → List ℕ → Type 0
     Built m r after = Adds (rule15 (sheetType s) (sheetSign s) 7 ours) (someCrowded (sheetType s) (sheetSign s) ours) (message (spread (sheetType s) (sheetSign s) ours)) m 0 r after
@@ -239,14 +236,16 @@ module _ (s : List ℕ) (v : sheetVerdict s ≡ Fine) where
 
 -- ---- a sheet that is refused
 pub too-long-sheet : (s out : List ℕ) → limit < length s → MessageTo s out (Refused 1 limit) out
-too-long-sheet s out h = refused-first s out (ap (λ (v : Verdict). then v (first (rule19 s ∷ rule18 (sheetType s) ∷ rule15 (sheetType s) (sheetSign s) 0 (records s) ∷ rule16 (sheetType s) (sheetSign s) (tail (records s)) ∷ []))) (is-long limit s h))
+too-long-sheet s out h = refused-first s out (rw (is-long limit s h))
 
 pub bad-sheet : (s out : List ℕ) {n p : ℕ} → length s ≤ limit → sheetVerdict s ≡ Broken n p → MessageTo s out (Refused n p) out
 unfolding sheetVerdict
-bad-sheet s out w e =
-    let rest = rule15 (sheetType s) (sheetSign s) 0 (records s) ∷ rule16 (sheetType s) (sheetSign s) (tail (records s)) ∷ [] in
-    refused-first s out
-    (ap (λ (v : Verdict). then v (first (rule19 s ∷ rule18 (sheetType s) ∷ rest))) (not-long limit s w) ∙ first-append (rule19 s ∷ rule18 (sheetType s) ∷ []) rest ∙ ap (λ (v : Verdict). then v (first rest)) e)
+bad-sheet s out {n} {p} l e = refused-first s out (go (rule19 s) (rule18 (sheetType s)) refl refl e)
+  where
+    go : (v w : Verdict) → rule19 s ≡ v → rule18 (sheetType s) ≡ w → then v (then w Fine) ≡ Broken n p → first (sheetRules s) ≡ Broken n p
+    go (Broken m q) w a b e = rw (not-long limit s l, a) e
+    go Fine (Broken m q) a b e = rw (not-long limit s l, a, b) e
+    go Fine Fine a b e = absurd (fine-broken n p e)
 
 -- ---- what a judged sheet says
 module _ (s : List ℕ) {j : Judged} (e : j ≡ judged s) where

@@ -21,6 +21,7 @@ use Rattle.alphabets.specs.Bank.{plainly}
 use Rattle.alphabets.specs.Best.{writing}
 use Rattle.alphabets.proofs.Theorems.{plain-iff}
 use Rattle.fields.specs.Field.{laid}
+use Rattle.fields.specs.Frame.{limit}
 use Rattle.roles.specs.Speech.{codeSize}
 use Rattle.roles.specs.declared.Shape.the-variants.{Note202}
 use Rattle.records.specs.Found.{piecesAt}
@@ -72,7 +73,7 @@ module _ (s : Bool) (p : Place) (i : ℕ) (out : List ℕ) (at : ℕ) {r : Step}
       adds-by (said-two s i vo text (said-digits 5 vo five)) refl (told-adds s p (i + length vo + 1) vo text out at (told-two vo text five d))
   by-parts (vo ∷ text ∷ t ∷ ps) e d = absurd (false≢true (right (digits 5 vo) false e))
 
-  pub details-put : (l : List ℕ) → length l ≤ 10000 → detailed (piecesAt 9 l i) ≡ true → Purposed s p i out at (partsAt l i) r after → Detailed s p i (piecesAt 9 l i) out at r after
+  pub details-put : (l : List ℕ) → length l ≤ limit → detailed (piecesAt 9 l i) ≡ true → Purposed s p i out at (partsAt l i) r after → Detailed s p i (piecesAt 9 l i) out at r after
   details-put l h e d = by-parts (piecesAt 9 l i) e (subst (λ (ps : List (List ℕ)). Purposed s p i out at ps r after) (parts-few l i h) d)
 
 -- ---- one part behind /RPP/

@@ -1,4 +1,4 @@
--- How long the message built for a sheet can be; and that every refusal of `to_message` has a number up to 19 and a place that fits 32 bits
+-- How long the message built for a sheet can be; and that every refusal of `to_message` has a number up to the last and a place that fits 32 bits
 -- (N1, N15, N17, N19, K4). Assumes nothing.
 use Prim.Native.Nat.{ℕ, _+_, _*_, _≤_, _<_}
 use mathlib.Core.Path.{_≡_, refl, sym, ap, _∙_}
@@ -10,9 +10,8 @@ use native.Mathlib.Decide.{decLt}
 use lib.ListN.{length, length-append}
 use Rattle.base.specs.Choice.{pick}
 use Rattle.base.specs.Bytes.{empty}
-use Rattle.base.specs.Rules.{then, first}
+use Rattle.base.specs.Rules.{lastNumber, first}
 use Rattle.base.specs.Calls.{Answer, said, stuck, textOf}
-use Rattle.base.specs.declared.Verdict.{Verdict}
 use Rattle.base.specs.declared.Verdict.the-variants.{Broken}
 use Rattle.base.specs.declared.Outcome.the-variants.{Done, Refused}
 use Rattle.base.proofs.RuleLaws.{same-broken}
@@ -42,6 +41,7 @@ use Rattle.details.specs.declared.Size.{Size}
 use Rattle.details.specs.declared.Size.the-variants.{Bytes, Unfit}
 use Rattle.lines.specs.Spread.{coded, castParts, lineFor, told, rppLine, noteLines, contentLines, fieldFor, spread}
 use Rattle.writer.specs.Sheet.{fieldsOf, messageFor, writeRules, MessageTo}
+use Rattle.writer.proofs.RuleLaws.{sheet-rules}
 use Rattle.written.specs.Sentences as why
 use Rattle.written.specs.Sentences.{partsSize, StuckPart, StuckAt, Own, Reason}
 use Rattle.lines.proofs.PurposeLaws.{lines-few, unfit-lines}
@@ -130,8 +130,11 @@ message-within s =
     let ls : List (List ℕ) = linesOf (map (fieldFor (sheetType s) (sheetSign s)) rs) in
     omega (arith, records-size (sheetType s) (sheetSign s) rs, tail-within (records s), records-within s, laid-size ls, length-append (laid ls) closing)
 
--- so the place of 17 is small
-pub message-small : (s : List ℕ) → length s ≤ limit → length (messageFor s) ≤ 3000007
+-- so the place of 17 is small: the longest message of a sheet within the limit
+abbrev pub longest : ℕ
+longest = 300 * limit + 7
+
+pub message-small : (s : List ℕ) → length s ≤ limit → length (messageFor s) ≤ longest
 message-small s h = omega (arith, message-within s)
 
 -- ---- the places of 15 and 19 are in the sheet
@@ -182,13 +185,13 @@ bad-within (wrong m before r behind e t g b z) = omega (arith, ap sizeOf e, size
 bad-within (unended m rs e t g w z) = omega (arith, ap sizeOf e)
 
 -- ---- a refusal's number and place
-own-most : {n : ℕ} → Own n → n ≤ 19
+own-most : {n : ℕ} → Own n → n ≤ lastNumber
 own-most (inl e) = omega arith
 own-most (inr h) = omega (arith, h .1)
 
 -- no place is over the limit but 17's, the length of the message
 module _ (most : ℕ) (l : limit ≤ most) where
-  pub reason-within : {s out : List ℕ} {n p : ℕ} → length s ≤ limit → (n ≡ 17 → length (messageFor s) ≤ most) → Reason s out p n → (n ≤ 19) × (p ≤ most)
+  pub reason-within : {s out : List ℕ} {n p : ℕ} → length s ≤ limit → (n ≡ 17 → length (messageFor s) ≤ most) → Reason s out p n → (n ≤ lastNumber) × (p ≤ most)
   reason-within {s} h k (why.over a z) = (omega arith, omega arith)
   reason-within {s} h k (why.against b) = (omega arith, omega (arith, bad-within b, records-within s))
   reason-within {s} h k (why.typeless a z) = (omega arith, omega arith)
@@ -197,21 +200,21 @@ module _ (most : ℕ) (l : limit ≤ most) where
   reason-within {s} h k (why.short a z) = (omega arith, omega (arith, k refl))
   reason-within {s} h k (why.own q w f z) = (own-most w, omega arith)
 
-  pub long-within : {n p : ℕ} → Broken 1 limit ≡ Broken n p → (n ≤ 19) × (p ≤ most)
+  pub long-within : {n p : ℕ} → Broken 1 limit ≡ Broken n p → (n ≤ lastNumber) × (p ≤ most)
   long-within e = let w = same-broken e in (omega (arith, w .0), omega (arith, w .1))
 
 module _ (s out after : List ℕ) where
   over-limit : limit < length s → first (writeRules s out) ≡ Broken 1 limit
-  over-limit h = ap (λ (v : Verdict). then v (first (tail (writeRules s out)))) (is-long limit s h)
+  over-limit h = rw (is-long limit s h)
 
-  pub refused-small : (n p : ℕ) → MessageTo s out (Refused n p) after → (n ≤ 19) × (p ≤ 3000007)
+  pub refused-small : (n p : ℕ) → MessageTo s out (Refused n p) after → (n ≤ lastNumber) × (p ≤ longest)
   unfolding MessageTo
   refused-small n p g = go (decLt limit (length s))
     where
-      go : Dec (limit < length s) → (n ≤ 19) × (p ≤ 3000007)
-      go (yes h) = long-within 3000007 (omega arith) (sym (over-limit h) ∙ refused (writeRules s out) (messageFor s) out n p after g .0)
-      go (no h) = reason-within 3000007 (omega arith) (omega arith) (λ z. message-small s (omega arith)) (refused-why s out (Refused n p) after g n p refl .0)
+      go : Dec (limit < length s) → (n ≤ lastNumber) × (p ≤ longest)
+      go (yes h) = long-within longest (omega arith) (sym (over-limit h) ∙ refused (writeRules s out) (messageFor s) out n p after g .0)
+      go (no h) = reason-within longest (omega arith) (omega arith) (λ z. message-small s (omega arith)) (refused-why s out (Refused n p) after g n p refl .0)
 
   -- and so is the number of bytes written
-  pub written-small : (n : ℕ) → MessageTo s out (Done n) after → n ≤ 3000007
+  pub written-small : (n : ℕ) → MessageTo s out (Done n) after → n ≤ longest
   written-small n g = let w = written s out (Done n) after g n refl in omega (arith, w .count, message-small s (within-limit limit s (sheet-rules s (w .clean) .size)))
