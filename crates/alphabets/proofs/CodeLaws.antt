@@ -12,7 +12,7 @@ use Rattle.base.specs.Bytes.{isIn, digit, capital, letter, marks, shared}
 use Rattle.base.proofs.Table.{every, at, and-left, and-right, otherwise, refuted}
 use Rattle.alphabets.specs.Grid.{grid, kind, sign}
 use Rattle.alphabets.specs.Steps.{code, codes}
-use Rattle.alphabets.specs.Pieces.{floorOf, heardOf}
+use Rattle.alphabets.specs.Runs.{floorOf, heardOf}
 use Rattle.alphabets.proofs.GridLaws.{big-sign}
 
 -- a byte whose code is above the side's floor is no apostrophe and stands for what is heard; any other is an apostrophe or stands for nothing
@@ -20,7 +20,7 @@ abbrev right : Bool → ℕ → ℕ → Bool
 right s x v = pick (ltb (floorOf s) v) (not (eqb x 39) && (eqb (sign s x) (heardOf s v x) && not (eqb (sign s x) 0))) (eqb x 39 || eqb (sign s x) 0)
 
 all-right : (s : Bool) → T (every (right s) 0 codes)
-unfolding grid marks isIn digit capital letter shared kind sign code codes floorOf heardOf
+unfolding grid marks isIn digit capital letter shared kind sign code codes
 all-right true = tt
 all-right false = tt
 

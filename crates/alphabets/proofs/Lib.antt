@@ -4,8 +4,10 @@ pub mod Shortest
 pub mod CodeLaws
 pub mod Theorems
 pub mod Outcomes
+pub mod RunLaws
 pub mod PieceLaws
 pub mod PartLaws
 pub mod TextLaws
 pub mod SpokenLaws
 pub mod PartTheorems
+pub mod WriteLaws

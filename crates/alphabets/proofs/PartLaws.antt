@@ -2,15 +2,15 @@
 use Prim.Native.Nat.{ℕ, _+_, _-_, _<_, _≤_}
 use mathlib.Core.Path.{_≡_, sym, ap, _∙_}
 use mathlib.Core.Bool.{Bool, true, false}
-use mathlib.Core.List.{List, [], _++_, append-assoc}
+use mathlib.Core.List.{List, []}
 use native.Mathlib.Omega.{arith}
 use native.Mathlib.Decide.{decLt}
 use lib.Dec.{leb}
-use lib.ListN.{length, take, drop}
-use lib.Seq.{drop-drop}
+use lib.ListN.{length}
+use lib.Seq.{sets}
 use borrow.Author.Tests.{lt-ltb, le-ltb, le-leb, lt-leb, leb-true, leb-false}
-use Rattle.base.specs.Calls.{Answer, said, stuck, textOf, over, placed}
-use Rattle.base.proofs.Room.{placed-not, placed-none}
+use Rattle.base.specs.Calls.{Answer, said, stuck, textOf, placed}
+use Rattle.base.proofs.Room.{placed-fits, placed-not, placed-none}
 use Rattle.alphabets.specs.Best.{writing}
 use Rattle.alphabets.specs.Parts.{extentOf, extent, written}
 use Rattle.alphabets.specs.declared.parts.Extent.{Extent}
@@ -27,22 +27,20 @@ fits-by room at n h = go (decLt (room - n) at)
     go (yes g) = lt-leb at (room - n) g ∙ sym (lt-leb (at + n) room (omega arith))
     go (no g) = le-leb at (room - n) (omega arith) ∙ sym (le-leb (at + n) room (omega arith))
 
--- a text put over the front of the room from a place on
-pub placed-behind : (out : List ℕ) (n : ℕ) (t : List ℕ) → n + length t ≤ length out → take n out ++ over t (drop n out) ≡ placed out n t
-unfolding placed
-placed-behind out n t h = rw (le-leb (n + length t) (length out) h) (sym (append-assoc (take n out) t (drop (length t) (drop n out))) ∙ ap (λ (b : List ℕ). take n out ++ t ++ b) (drop-drop (length t) n out))
-
--- n units fit from a place on, where q says so
-pub fit-within : (out : List ℕ) (at n : ℕ) (q : Bool) → q ≡ leb (at + n) (length out) → q ≡ true → at + n ≤ length out
-fit-within out at n q f g = leb-true (at + n) (length out) (sym f ∙ g)
-
 -- ---- a text that is put where it fits
-module _ (out : List ℕ) (at : ℕ) (t : List ℕ) where
-  pub none-room : t ≡ [] → out ≡ placed out at t
-  none-room e = sym (ap (placed out at) e ∙ placed-none out at)
+pub none-room : (out : List ℕ) (at : ℕ) (t : List ℕ) → t ≡ [] → out ≡ placed out at t
+none-room out at t e = sym (ap (placed out at) e ∙ placed-none out at)
 
-  pub miss-room : (n : ℕ) → n ≡ length t → (q : Bool) → q ≡ leb (at + n) (length out) → q ≡ false → out ≡ placed out at t
-  miss-room n m q f g = let h : length out < at + n = leb-false (at + n) (length out) (sym f ∙ g) in sym (placed-not out at t (omega arith))
+-- it was measured, and q says whether it fits
+module _ (out : List ℕ) (at n : ℕ) (t : List ℕ) (m : n ≡ length t) (q : Bool) (f : q ≡ leb (at + n) (length out)) where
+  pub miss-room : q ≡ false → out ≡ placed out at t
+  miss-room g = let h : length out < at + n = leb-false (at + n) (length out) (sym f ∙ g) in sym (placed-not out at t (omega arith))
+
+  pub fit-room : q ≡ true → at + length t ≤ length out
+  fit-room g = let h : at + n ≤ length out = leb-true (at + n) (length out) (sym f ∙ g) in omega arith
+
+  pub fit-put : (after : List ℕ) → q ≡ true → after ≡ sets out at t → after ≡ placed out at t
+  fit-put after g w = w ∙ sym (placed-fits out at t (fit-room g))
 
 -- by the answer: how long it is, and what is put
 pub takes-halts : (n k : ℕ) → Takes n ≡ Halts k → ⊥

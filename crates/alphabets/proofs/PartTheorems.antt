@@ -1,5 +1,5 @@
 -- What is promised of the calls for a text inside larger room: one outcome, the size and the text put agree with what is written, and pieces put one behind another are the text (T10, K6). Assumes nothing.
-use Prim.Native.Nat.{ℕ, zero, suc, _+_, _<_, _≤_}
+use Prim.Native.Nat.{ℕ, _+_, _<_, _≤_}
 use mathlib.Core.Path.{_≡_, refl, sym, ap, _∙_}
 use mathlib.Core.Bool.{Bool, true, false, not}
 use mathlib.Core.List.{List, [], _∷_, _++_}
@@ -8,16 +8,16 @@ use native.Mathlib.Decide.{decLt}
 use lib.Dec.{eqb, ltb}
 use lib.ListN.{length, getD, take, drop, length-append}
 use lib.Seq.{sets, length-sets}
-use borrow.Author.Tests.{ne-eqb, eqb-false, ltb-true, ltb-false, le-leb}
+use borrow.Author.Tests.{le-leb}
 use Rattle.base.specs.Choice.{pick}
 use Rattle.base.specs.Calls.{Answer, said, stuck, textOf, placed}
 use Rattle.base.proofs.CallLaws.{not-said, one-answer}
 use Rattle.base.proofs.Room.{sets-append, placed-fits, placed-not}
-use Rattle.alphabets.specs.Grid.{sign}
 use Rattle.alphabets.specs.Bank.{reads, reading}
 use Rattle.alphabets.specs.Best.{writing}
 use Rattle.alphabets.specs.Steps.{codes}
-use Rattle.alphabets.specs.Pieces.{Partly, got, halted, beyond, joining, partly, whole, pieceOf, floorOf, heardOf, pieceAfter, pieceIn, pieceOn}
+use Rattle.alphabets.specs.Runs.{floorOf, heardOf}
+use Rattle.alphabets.specs.Pieces.{pieceAfter, pieceIn, pieceOn, whole}
 use Rattle.alphabets.specs.Parts.{extentOf, extent, written, spoken, pieceText}
 use Rattle.alphabets.specs.declared.parts.Extent.the-variants.{Takes, Halts, Long}
 use Rattle.alphabets.specs.declared.pieces.Piece.{Piece}
@@ -25,8 +25,7 @@ use Rattle.alphabets.specs.declared.pieces.Piece.the-variants.{Read, Sto
 use Rattle.alphabets.specs.Sentences.{canSay, FirstFails}
 use Rattle.alphabets.proofs.Theorems.{reads-back}
 use Rattle.alphabets.proofs.Outcomes.{unwritable-at, twice-at-most}
-use Rattle.alphabets.proofs.CodeLaws.{Heard, heard-above, heard-below}
-use Rattle.alphabets.proofs.PieceLaws.{piece-codes, piece-append, reads-partly}
+use Rattle.alphabets.proofs.PieceLaws.{reads-piece, piece-append}
 use Rattle.alphabets.proofs.PartLaws.{takes-halts, takes-long, halts-long, extent-long, written-long, extent-is, written-is}
 use Rattle.alphabets.proofs.SpokenLaws.{read-stops, text-read, text-length}
 
@@ -152,78 +151,26 @@ pieces-behind t s a b n z m y out at e f h =
     ∙ put-behind out at (pieceText t s a) (pieceText t z b) (omega arith)
     ∙ ap (placed out at) (sym (text-append t s a b n z m y e f))
 
--- by the table of codes: what the alphabets read
-got-same : (u v : List ℕ) (y z : Bool) → got u y ≡ got v z → u ≡ v
-got-same u v y z e = cc
-
-not-got : (k : ℕ) (u : List ℕ) (z : Bool) → halted k ≡ got u z → ⊥
-not-got k u z e = let w : _≡_ {A = ℕ} 0 1 = cc in omega arith
-
-spoken-codes : (s : Bool) (b u : List ℕ) (z : Bool) → partly s b ≡ got u z → spoken codes s b ≡ u
-unfolding partly spoken
-spoken-codes s [] u z e = got-same [] u s z e
-spoken-codes s (x ∷ xs) u z e = go (ltb (floorOf s) (getD codes x 0)) refl (eqb x 39) refl e (λ v. spoken-codes s xs v z) (λ v. spoken-codes (not s) xs v z)
-  where
-    beyond-got : (p : Partly) → beyond p ≡ got u z → p ≡ got u z
-    beyond-got (got v y) e = e
-    beyond-got (halted k) e = absurd (not-got (suc k) u z e)
-
-    joined : (y h : ℕ) (l : List ℕ) (p : Partly) → y ≡ h → joining y p ≡ got u z → ((v : List ℕ) → p ≡ got v z → l ≡ v) → h ∷ l ≡ u
-    joined zero h l p q e ih = absurd (not-got 0 u z e)
-    joined (suc y) h l (halted k) q e ih = absurd (not-got (suc k) u z e)
-    joined (suc y) h l (got v w) q e ih =
-        let f : w ≡ z = cc in
-        ap (λ (j : ℕ). j ∷ l) (sym q) ∙ ap (λ (r : List ℕ). suc y ∷ r) (ih v (ap (got v) f)) ∙ got-same (suc y ∷ v) u w z e
-
-    go : (q : Bool) → ltb (floorOf s) (getD codes x 0) ≡ q → (r : Bool) → eqb x 39 ≡ r → pick r (beyond (partly (not s) xs)) (joining (sign s x) (partly s xs)) ≡ got u z
-        → ((v : List ℕ) → partly s xs ≡ got v z → spoken codes s xs ≡ v) → ((v : List ℕ) → partly (not s) xs ≡ got v z → spoken codes (not s) xs ≡ v)
-        → pick q (heardOf s (getD codes x 0) x ∷ spoken codes s xs) (pick r (spoken codes (not s) xs) []) ≡ u
-    go true l r k e f g =
-        let w : Heard s x = heard-above s x (ltb-true (floorOf s) (getD codes x 0) l) in
-        let n : r ≡ false = sym k ∙ ne-eqb x 39 (w .no-mark) in
-        joined (sign s x) (heardOf s (getD codes x 0) x) (spoken codes s xs) (partly s xs) (w .is)
-        (ap (λ (q : Bool). pick q (beyond (partly (not s) xs)) (joining (sign s x) (partly s xs))) (sym n) ∙ e) f
-    go false l true k e f g = g u (beyond-got (partly (not s) xs) e)
-    go false l false k e f g =
-        let y : sign s x ≡ 0 = heard-below s x (ltb-false (floorOf s) (getD codes x 0) l) (eqb-false x 39 k) in
-        absurd (not-got 0 u z (ap (λ (n : ℕ). joining n (partly s xs)) (sym y) ∙ e))
-
-pub text-codes : (s : Bool) (b u : List ℕ) (z : Bool) → partly s b ≡ got u z → pieceText codes s b ≡ u
-text-codes s b u z e = text-read codes s b (length u) z (piece-codes s b ∙ ap pieceOf e) ∙ spoken-codes s b u z e
-
--- a whole bank text, as one piece from the Russian side, stands for what it says
+-- by the table of codes, a whole bank text, as one piece from the Russian side, stands for what it says
 pub text-whole : (b d : List ℕ) → reads false b ≡ said d → pieceText codes false b ≡ d
-text-whole b d e = go (partly false b) refl (sym (reads-partly false b) ∙ e)
+text-whole b d e = go (pieceIn codes false b) refl (sym (reads-piece false b) ∙ e)
   where
-    go : (p : Partly) → partly false b ≡ p → whole (length b) p ≡ said d → pieceText codes false b ≡ d
-    go (halted k) q f = absurd (not-said k d f)
-    go (got u true) q f = absurd (not-said (length b) d f)
-    go (got u false) q f = let m : u ≡ d = cc in text-codes false b u false q ∙ m
+    go : (p : Piece) → pieceIn codes false b ≡ p → whole (length b) (pieceIn codes false b) (spoken codes false b) ≡ said d → pieceText codes false b ≡ d
+    go (Stops k) q f = absurd (not-said k d (rw q at f))
+    go (Read n true) q f = absurd (not-said (length b) d (rw q at f))
+    go (Read n false) q f = let m : said (spoken codes false b) ≡ said d = rw q at f in text-read codes false b n false q ∙ cc
 
 -- the ways out of the call that reads one, its table lent
 module _ (t b : List ℕ) (w : t ≡ codes) where
-  known : (p : Piece) → pieceIn t false b ≡ p → pieceOf (partly false b) ≡ p
-  known p e = sym (piece-codes false b) ∙ ap (λ (c : List ℕ). pieceIn c false b) (sym w) ∙ e
+  whole-by : (p : Piece) → pieceIn t false b ≡ p → reads false b ≡ whole (length b) p (spoken t false b)
+  whole-by p e = reads-piece false b ∙ ap (λ (c : List ℕ). whole (length b) (pieceIn c false b) (spoken c false b)) (sym w) ∙ ap (λ (q : Piece). whole (length b) q (spoken t false b)) e
 
   pub whole-stops : (k : ℕ) → pieceIn t false b ≡ Stops k → reads false b ≡ stuck k
-  whole-stops k e = go (partly false b) refl (known (Stops k) e)
-    where
-      go : (p : Partly) → partly false b ≡ p → pieceOf p ≡ Stops k → reads false b ≡ stuck k
-      go (got u z) q f = absurd (read-stops (length u) k z (sym f))
-      go (halted j) q f = let m : j ≡ k = cc in reads-partly false b ∙ ap (whole (length b)) q ∙ ap stuck m
+  whole-stops k e = whole-by (Stops k) e
 
   module _ (n : ℕ) (z : Bool) (e : pieceIn t false b ≡ Read n z) where
-    read-by : (u : List ℕ) × (partly false b ≡ got u z)
-    read-by = go (partly false b) refl (known (Read n z) e)
-      where
-        go : (p : Partly) → partly false b ≡ p → pieceOf p ≡ Read n z → (u : List ℕ) × (partly false b ≡ got u z)
-        go (halted j) q f = absurd (read-stops n j z f)
-        go (got u y) q f = (u, q ∙ ap (got u) (read-same (length u) n y z f))
-
     pub whole-open : z ≡ true → reads false b ≡ stuck (length b)
-    whole-open o = reads-partly false b ∙ ap (whole (length b)) (read-by .1 ∙ ap (got (read-by .0)) o)
+    whole-open o = whole-by (Read n true) (e ∙ ap (Read n) o)
 
-    pub whole-read : z ≡ false → reads false b ≡ said (pieceText t false b)
-    whole-read o =
-        let m : partly false b ≡ got (read-by .0) false = read-by .1 ∙ ap (got (read-by .0)) o in
-        reads-partly false b ∙ ap (whole (length b)) m ∙ ap said (sym (ap (λ (c : List ℕ). pieceText c false b) w ∙ text-codes false b (read-by .0) false m))
+    pub whole-read : z ≡ false → reads false b ≡ said (spoken t false b)
+    whole-read o = whole-by (Read n false) (e ∙ ap (Read n) o)

@@ -1,4 +1,4 @@
--- Reading in pieces is reading; the pieces by the table of codes are the pieces; and the loops over a piece. Assumes nothing.
+-- Reading in pieces by the table of codes is reading; and the loops over a piece. Assumes nothing.
 use Prim.Native.Nat.{ℕ, zero, suc, _+_, _-_, _<_, _≤_}
 use mathlib.Core.Path.{_≡_, refl, sym, ap, _∙_}
 use mathlib.Core.Bool.{Bool, true, false, not}
@@ -8,117 +8,60 @@ use native.Mathlib.Numerals.{add-one}
 use lib.Dec.{eqb, ltb}
 use lib.ListN.{length, getD, drop, drop-of-length-le}
 use lib.Seq.{drop-cons, drop-drop}
-use borrow.Author.Tests.{lt-ltb, le-ltb, eq-eqb, ne-eqb, eqb-false, ltb-true, ltb-false}
+use borrow.Author.Tests.{lt-ltb, le-ltb, eq-eqb, ne-eqb, eqb-true, eqb-false, ltb-true, ltb-false}
 use Rattle.base.specs.Choice.{pick}
 use Rattle.base.specs.Calls.{Answer, said, stuck}
 use Rattle.base.proofs.CallLaws.{not-said}
 use Rattle.alphabets.specs.Grid.{sign}
 use Rattle.alphabets.specs.Bank.{past, after, reads}
-use Rattle.runs.specs.Runs.{run}
 use Rattle.alphabets.specs.Steps.{codes}
-use Rattle.alphabets.specs.Pieces.{Partly, got, halted, beyond, joining, partly, whole, behind, goingOn, pieceOf, floorOf, heardOf, pieceAfter, pieceIn, pieceOn, signAfter, signIn, signFrom, signsFrom}
+use Rattle.alphabets.specs.Runs.{floorOf, heardOf, run}
+use Rattle.alphabets.specs.Pieces.{pieceAfter, pieceIn, pieceOn, whole, signAfter, signIn, signFrom, signsFrom}
+use Rattle.alphabets.specs.Parts.{spoken}
 use Rattle.alphabets.specs.declared.pieces.Piece.{Piece}
 use Rattle.alphabets.specs.declared.pieces.Piece.the-variants.{Read, Stops}
 use Rattle.alphabets.specs.declared.pieces.Sign.{Sign}
-use Rattle.runs.proofs.RunLaws.{Ended, ended}
+use Rattle.alphabets.proofs.RunLaws.{Ended, ended}
 use Rattle.alphabets.proofs.CodeLaws.{Heard, heard-above, heard-below}
 
 -- ---- pieces and whole texts
-whole-beyond : (n : ℕ) (p : Partly) → past (whole n p) ≡ whole (suc n) (beyond p)
-whole-beyond n (got t false) = refl
-whole-beyond n (got t true) = refl
-whole-beyond n (halted k) = refl
+whole-sign : (n y : ℕ) (p : Piece) (u : List ℕ) → (y ≡ 0 → ⊥) → after y (whole n p u) ≡ whole (suc n) (pieceAfter 1 1 p) (y ∷ u)
+whole-sign n zero p u h = absurd (h refl)
+whole-sign n (suc y) (Read m false) u h = refl
+whole-sign n (suc y) (Read m true) u h = refl
+whole-sign n (suc y) (Stops k) u h = let e : suc k ≡ 1 + k = omega arith in ap stuck e
 
-whole-joining : (n y : ℕ) (p : Partly) → after y (whole n p) ≡ whole (suc n) (joining y p)
-whole-joining n zero p = refl
-whole-joining n (suc y) (got t false) = refl
-whole-joining n (suc y) (got t true) = refl
-whole-joining n (suc y) (halted k) = refl
+whole-mark : (n : ℕ) (p : Piece) (u : List ℕ) → past (whole n p u) ≡ whole (suc n) (pieceAfter 1 0 p) u
+whole-mark n (Read m false) u = refl
+whole-mark n (Read m true) u = refl
+whole-mark n (Stops k) u = let e : suc k ≡ 1 + k = omega arith in ap stuck e
 
--- a whole text is its piece, and must end on the Russian side
-pub reads-partly : (s : Bool) (b : List ℕ) → reads s b ≡ whole (length b) (partly s b)
-unfolding reads partly
-reads-partly false [] = refl
-reads-partly true [] = refl
-reads-partly s (x ∷ xs) = go (eqb x 39) (reads-partly (not s) xs) (reads-partly s xs)
+-- with the table of codes, a piece is what the alphabets read: a whole text is one that ends on the Russian side
+pub reads-piece : (s : Bool) (b : List ℕ) → reads s b ≡ whole (length b) (pieceIn codes s b) (spoken codes s b)
+unfolding reads pieceIn spoken
+reads-piece false [] = refl
+reads-piece true [] = refl
+reads-piece s (x ∷ xs) = go (ltb (floorOf s) (getD codes x 0)) refl (eqb x 39) refl (reads-piece s xs) (reads-piece (not s) xs)
   where
-    go : (q : Bool) → reads (not s) xs ≡ whole (length xs) (partly (not s) xs) → reads s xs ≡ whole (length xs) (partly s xs)
-        → pick q (past (reads (not s) xs)) (after (sign s x) (reads s xs)) ≡ whole (suc (length xs)) (pick q (beyond (partly (not s) xs)) (joining (sign s x) (partly s xs)))
-    go true e f = ap past e ∙ whole-beyond (length xs) (partly (not s) xs)
-    go false e f = ap (after (sign s x)) f ∙ whole-joining (length xs) (sign s x) (partly s xs)
-
-going-beyond : (n : ℕ) (p : Partly) (rest : Bool → Partly) → beyond (goingOn n p rest) ≡ goingOn (suc n) (beyond p) rest
-going-beyond n (halted k) rest = refl
-going-beyond n (got t s) rest = by (rest s)
-  where
-    by : (r : Partly) → beyond (behind n t r) ≡ behind (suc n) t r
-    by (got u z) = refl
-    by (halted k) = let e : suc (n + k) ≡ suc n + k = omega arith in ap halted e
-
-going-joining : (n y : ℕ) (p : Partly) (rest : Bool → Partly) → joining y (goingOn n p rest) ≡ goingOn (suc n) (joining y p) rest
-going-joining n zero p rest = refl
-going-joining n (suc y) (halted k) rest = refl
-going-joining n (suc y) (got t s) rest = by (rest s)
-  where
-    by : (r : Partly) → joining (suc y) (behind n t r) ≡ behind (suc n) (suc y ∷ t) r
-    by (got u z) = refl
-    by (halted k) = let e : suc (n + k) ≡ suc n + k = omega arith in ap halted e
-
-going-none : (p : Partly) → p ≡ behind 0 [] p
-going-none (got t s) = refl
-going-none (halted k) = let e : k ≡ 0 + k = omega arith in ap halted e
-
--- a piece goes on from the piece before it
-pub partly-append : (s : Bool) (a b : List ℕ) → partly s (a ++ b) ≡ goingOn (length a) (partly s a) (λ z. partly z b)
-unfolding partly
-partly-append s [] b = going-none (partly s b)
-partly-append s (x ∷ a) b = go (eqb x 39) (partly-append (not s) a b) (partly-append s a b)
-  where
-    rest : Bool → Partly
-    rest z = partly z b
-
-    go : (q : Bool) → partly (not s) (a ++ b) ≡ goingOn (length a) (partly (not s) a) (λ z. partly z b) → partly s (a ++ b) ≡ goingOn (length a) (partly s a) (λ z. partly z b)
-        → pick q (beyond (partly (not s) (a ++ b))) (joining (sign s x) (partly s (a ++ b))) ≡ goingOn (suc (length a)) (pick q (beyond (partly (not s) a)) (joining (sign s x) (partly s a))) (λ z. partly z b)
-    go true e f = ap beyond e ∙ going-beyond (length a) (partly (not s) a) (λ z. partly z b)
-    go false e f = ap (joining (sign s x)) f ∙ going-joining (length a) (sign s x) (partly s a) (λ z. partly z b)
-
--- ---- the table of codes
-after-joining : (y : ℕ) (p : Partly) → (y ≡ 0 → ⊥) → pieceAfter 1 1 (pieceOf p) ≡ pieceOf (joining y p)
-after-joining zero p h = absurd (h refl)
-after-joining (suc y) (got t s) h = let e : 1 + length t ≡ suc (length t) = omega arith in ap (λ (n : ℕ). Read n s) e
-after-joining (suc y) (halted k) h = let e : 1 + k ≡ suc k = omega arith in ap Stops e
-
-after-beyond : (p : Partly) → pieceAfter 1 0 (pieceOf p) ≡ pieceOf (beyond p)
-after-beyond (got t s) = let e : 0 + length t ≡ length t = omega arith in ap (λ (n : ℕ). Read n s) e
-after-beyond (halted k) = let e : 1 + k ≡ suc k = omega arith in ap Stops e
-
--- with the table of codes the pieces are those of the alphabets
-pub piece-codes : (s : Bool) (b : List ℕ) → pieceIn codes s b ≡ pieceOf (partly s b)
-unfolding pieceIn partly
-piece-codes s [] = refl
-piece-codes s (x ∷ xs) = go (ltb (floorOf s) (getD codes x 0)) refl (eqb x 39) refl (piece-codes s xs) (piece-codes (not s) xs)
-  where
-    go : (q : Bool) → ltb (floorOf s) (getD codes x 0) ≡ q → (r : Bool) → eqb x 39 ≡ r → pieceIn codes s xs ≡ pieceOf (partly s xs) → pieceIn codes (not s) xs ≡ pieceOf (partly (not s) xs)
-        → pick q (pieceAfter 1 1 (pieceIn codes s xs)) (pick r (pieceAfter 1 0 (pieceIn codes (not s) xs)) (Stops 0))
-        ≡ pieceOf (pick (eqb x 39) (beyond (partly (not s) xs)) (joining (sign s x) (partly s xs)))
-    go true e r z a b =
-        let w : Heard s x = heard-above s x (ltb-true (floorOf s) (getD codes x 0) e) in
-        ap (pieceAfter 1 1) a ∙ after-joining (sign s x) (partly s xs) (w .live)
-        ∙ ap (λ (q : Bool). pieceOf (pick q (beyond (partly (not s) xs)) (joining (sign s x) (partly s xs)))) (sym (ne-eqb x 39 (w .no-mark)))
-    go false e true z a b =
-        ap (pieceAfter 1 0) b ∙ after-beyond (partly (not s) xs)
-        ∙ ap (λ (q : Bool). pieceOf (pick q (beyond (partly (not s) xs)) (joining (sign s x) (partly s xs)))) (sym z)
-    go false e false z a b =
-        let y : sign s x ≡ 0 = heard-below s x (ltb-false (floorOf s) (getD codes x 0) e) (eqb-false x 39 z) in
-        ap (λ (n : ℕ). pieceOf (joining n (partly s xs))) (sym y)
-        ∙ ap (λ (q : Bool). pieceOf (pick q (beyond (partly (not s) xs)) (joining (sign s x) (partly s xs)))) (sym z)
+    go : (q : Bool) → ltb (floorOf s) (getD codes x 0) ≡ q → (r : Bool) → eqb x 39 ≡ r
+        → reads s xs ≡ whole (length xs) (pieceIn codes s xs) (spoken codes s xs) → reads (not s) xs ≡ whole (length xs) (pieceIn codes (not s) xs) (spoken codes (not s) xs)
+        → pick r (past (reads (not s) xs)) (after (sign s x) (reads s xs))
+        ≡ whole (suc (length xs)) (pick q (pieceAfter 1 1 (pieceIn codes s xs)) (pick r (pieceAfter 1 0 (pieceIn codes (not s) xs)) (Stops 0))) (pick q (heardOf s (getD codes x 0) x ∷ spoken codes s xs) (pick r (spoken codes (not s) xs) []))
+    go true l true z a b = absurd (heard-above s x (ltb-true (floorOf s) (getD codes x 0) l) .no-mark (eqb-true x 39 z))
+    go true l false z a b =
+        let w : Heard s x = heard-above s x (ltb-true (floorOf s) (getD codes x 0) l) in
+        ap (after (sign s x)) a
+        ∙ whole-sign (length xs) (sign s x) (pieceIn codes s xs) (spoken codes s xs) (w .live)
+        ∙ ap (λ (y : ℕ). whole (suc (length xs)) (pieceAfter 1 1 (pieceIn codes s xs)) (y ∷ spoken codes s xs)) (w .is)
+    go false l true z a b = ap past b ∙ whole-mark (length xs) (pieceIn codes (not s) xs) (spoken codes (not s) xs)
+    go false l false z a b = ap (λ (y : ℕ). after y (reads s xs)) (heard-below s x (ltb-false (floorOf s) (getD codes x 0) l) (eqb-false x 39 z))
 
 -- ---- the loop over a piece, with any table
-pub after-after : (i n j m : ℕ) (p : Piece) → pieceAfter i n (pieceAfter j m p) ≡ pieceAfter (i + j) (n + m) p
+after-after : (i n j m : ℕ) (p : Piece) → pieceAfter i n (pieceAfter j m p) ≡ pieceAfter (i + j) (n + m) p
 after-after i n j m (Read k s) = let e : n + (m + k) ≡ n + m + k = omega arith in ap (λ (u : ℕ). Read u s) e
 after-after i n j m (Stops k) = let e : i + (j + k) ≡ i + j + k = omega arith in ap Stops e
 
-pub after-none : (p : Piece) → p ≡ pieceAfter 0 0 p
+after-none : (p : Piece) → p ≡ pieceAfter 0 0 p
 after-none (Read k s) = let e : k ≡ 0 + k = omega arith in ap (λ (u : ℕ). Read u s) e
 after-none (Stops k) = let e : k ≡ 0 + k = omega arith in ap Stops e
 
@@ -156,7 +99,7 @@ taking-end {t} {latin} {part} {side} {marks} {i} v h =
     sym (v .is ∙ ap (λ (b : List ℕ). pieceAfter i (i - marks) (pieceIn t side b)) (drop-of-length-le part h) ∙ ap (λ (n : ℕ). Read n side) z)
 
 module _ {t : List ℕ} {latin : Bool} {part : List ℕ} {side : Bool} {marks i : ℕ} (v : Taking t latin part side marks i) (k : ℕ) (r : k ≡ i + run t (floorOf side) (drop i part)) where
-  pub taking-ended : Ended t (floorOf side) part k
+  taking-ended : Ended t (floorOf side) part k
   taking-ended = ended t (floorOf side) part i k (v .long) r
 
   -- over the run
@@ -244,9 +187,9 @@ piece-append t s (x ∷ a) b = go (ltb (floorOf s) (getD t x 0)) (eqb x 39) (pie
     go false false e f = refl
 
 -- ---- the first signs of a text that is said
-pub record Next (b d : List ℕ) (r : Sign) : Type 0 where
-  pub first : r .value ≡ getD d 0 0
-  pub rest : reads (r .latin) (drop (r .next) b) ≡ said (tail d)
+record Next (b d : List ℕ) (r : Sign) : Type 0 where
+  first : r .value ≡ getD d 0 0
+  rest : reads (r .latin) (drop (r .next) b) ≡ said (tail d)
 
 past-was : (a : Answer) (d : List ℕ) → past a ≡ said d → a ≡ said d
 past-was (said u) d e = e

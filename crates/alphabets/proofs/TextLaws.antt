@@ -17,14 +17,13 @@ use Rattle.base.specs.declared.Outcome.{Outcome}
 use Rattle.base.specs.declared.Outcome.the-variants.{Done, Refused}
 use Rattle.base.proofs.ByteLaws.{Bytes, class-at}
 use Rattle.base.proofs.CallLaws.{gives-refused, gives-done, gives-past, is-long, not-long, is-short, not-short}
-use Rattle.base.proofs.Room.{placed-not, placed-none}
+use Rattle.base.proofs.Room.{over-sets, placed-fits, placed-not, placed-none}
 use Rattle.alphabets.specs.Bank.{after, plainly}
 use Rattle.alphabets.specs.Parts.{extentOf}
 use Rattle.alphabets.specs.Text.{textRules, endingOf}
 use Rattle.alphabets.specs.declared.parts.Extent.{Extent}
 use Rattle.alphabets.specs.declared.parts.Extent.the-variants.{Takes, Halts}
 use Rattle.alphabets.proofs.Theorems.{no-xset-zero}
-use Rattle.alphabets.proofs.PartLaws.{placed-behind}
 
 -- ---- the answer of a call, by the size of its text and the room
 module _ (number room : ℕ) (z : Extent) where
@@ -49,7 +48,7 @@ gives-ending number (said t) out after z r e f g = go (decLt (length out) (lengt
     go (yes h) = rw (g ∙ sym (ending-short number (length out) z (length t) e h), f ∙ placed-not out 0 t (omega arith)) (gives-refused rules t out 17 (length t) (ap (λ (v : Verdict). first (v ∷ [])) (is-short t out h)))
     go (no h) =
         let l : length t ≤ length out = omega arith in
-        rw (g ∙ sym (ending-done number (length out) z (length t) e l), f ∙ sym (placed-behind out 0 t (omega arith))) (gives-done rules t out (ap (λ (v : Verdict). first (v ∷ [])) (not-short t out l)))
+        rw (g ∙ sym (ending-done number (length out) z (length t) e l), f ∙ placed-fits out 0 t (omega arith) ∙ sym (over-sets t out l)) (gives-done rules t out (ap (λ (v : Verdict). first (v ∷ [])) (not-short t out l)))
 
 module _ (limit number : ℕ) (input : List ℕ) (a : Answer) (out : List ℕ) where
   pub too-long : limit < length input → Gives (textRules limit number input a out) (textOf a) out (Refused 1 limit) out

@@ -1,8 +1,9 @@
 pub mod Grid
 pub mod Bank
 pub mod Best
-pub mod Steps
-pub mod Text
+pub mod Runs
 pub mod Pieces
 pub mod Parts
+pub mod Steps
+pub mod Text
 pub mod Sentences

@@ -7,7 +7,8 @@ use lib.ListN.{length, getD}
 use Rattle.base.specs.Choice.{pick}
 use Rattle.base.specs.Calls.{Answer, said, stuck, textOf}
 use Rattle.alphabets.specs.Best.{writing}
-use Rattle.alphabets.specs.Pieces.{floorOf, heardOf, pieceIn}
+use Rattle.alphabets.specs.Runs.{floorOf, heardOf}
+use Rattle.alphabets.specs.Pieces.{pieceIn}
 use Rattle.alphabets.specs.declared.pieces.Piece.{Piece}
 use Rattle.alphabets.specs.declared.pieces.Piece.the-variants.{Read, Stops}
 use Rattle.alphabets.specs.declared.parts.Extent.{Extent}

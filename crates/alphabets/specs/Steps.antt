@@ -1,22 +1,55 @@
--- Words of the contracts of private functions, and the table by which a bank text is read. Assumes nothing.
-use Prim.Native.Nat.{ℕ}
-use mathlib.Core.List.{List}
+-- Words of the contracts of private functions, and the tables by which a bank text is read and a desk text written. Assumes nothing.
+use Prim.Native.Nat.{ℕ, suc, _+_, _-_, _≤_}
+use mathlib.Core.Path.{_≡_}
+use mathlib.Core.List.{List, [], _∷_}
 use mathlib.Core.Bool.{Bool, true, false, _&&_}
 use lib.Dec.{eqb}
-use lib.ListN.{take}
+use lib.ListN.{length, getD, drop}
 use Rattle.base.specs.Choice.{pick}
 use Rattle.base.specs.Bytes.{letter, values}
-use Rattle.runs.specs.Runs.{run, through}
-use Rattle.alphabets.specs.Grid.{sign}
+use Rattle.alphabets.specs.Grid.{Kind, unwritable, russian, latin, common, grid, kind, sign}
+use Rattle.alphabets.specs.Best.{latinNext, best, bad, orStuck}
+use Rattle.alphabets.specs.Parts.{extentOf}
+use Rattle.alphabets.specs.declared.parts.Extent.{Extent}
+use Rattle.alphabets.specs.declared.parts.Extent.the-variants.{Takes, Halts, Long}
 
--- what the run at the front stands for, on the Latin side and on the Russian one
-unfoldable pub spokenRun : List ℕ → Bool → List ℕ → List ℕ
-spokenRun t true b = take (run t 0 b) b
-spokenRun t false b = through t 1 b
-
--- the table: 0 for the apostrophe and outside the x set, 1 for a letter that only the Latin side reads, else what the Russian side reads
+-- ---- a bank text: 0 for the apostrophe and outside the x set, 1 for a letter that only the Latin side reads, else what the Russian side reads
 unfoldable pub code : ℕ → ℕ
 code y = pick (eqb y 39) 0 (pick (letter y && eqb (sign false y) 0) 1 (sign false y))
 
 unfoldable pub codes : List ℕ
 codes = values code 0 256
+
+-- ---- a desk text: 0 can't be written, 1 is a Latin letter, a shared sign is itself, else the bank letter
+abbrev pub shapeBy : Kind → ℕ → ℕ
+shapeBy unwritable x = 0
+shapeBy russian x = getD grid x 0
+shapeBy latin x = 1
+shapeBy common x = x
+
+unfoldable pub shape : ℕ → ℕ
+shape x = shapeBy (kind x) x
+
+unfoldable pub shapes : List ℕ
+shapes = values shape 0 256
+
+-- the size of what is still to be written from a side, and that of a text of which i bytes were taken and n units made, from that of the rest
+abbrev pub sized : Bool → List ℕ → Extent
+sized s d = extentOf (orStuck (bad d) (best s d))
+
+abbrev pub onward : ℕ → ℕ → Extent → Extent
+onward i n (Takes m) = Takes (n + m)
+onward i n (Halts k) = Halts (i + k)
+onward i n Long = Long
+
+-- how many signs at the front stand on the Latin side once it is opened
+unfoldable pub group : List ℕ → ℕ
+group [] = 0
+group (x ∷ xs) = pick (latinNext (x ∷ xs)) (suc (group xs)) 0
+
+-- from one place to another, signs that the Latin side takes, and no Latin sign next behind them
+pub record LatinRun (d : List ℕ) (from r : ℕ) : Type 0 where
+  pub low : from ≤ r
+  pub high : r ≤ length d
+  pub sizes : sized true (drop from d) ≡ onward (r - from) (r - from) (sized true (drop r d))
+  pub ends : latinNext (drop r d) ≡ false

@@ -2,10 +2,11 @@
 ghost use mathlib.Core.Path.{_≡_};
 ghost use mathlib.Core.Bool.{false};
 ghost use Rattle.alphabets.specs.Steps.{codes};
-ghost use Rattle.alphabets.specs.Pieces.{floorOf, heardOf, pieceIn, signFrom, signsFrom};
+ghost use Rattle.alphabets.specs.Runs.{floorOf, heardOf};
+ghost use Rattle.alphabets.specs.Pieces.{pieceIn, signFrom, signsFrom};
 use super::codes::BACK;
-use runs::run_of;
-use runs::value;
+use super::runs::run_of;
+use super::runs::value;
 
 // How many signs a piece has and the side behind it, or the place where it stops.
 pub enum Piece {
@@ -73,7 +74,7 @@ pub fn read_piece(back: &[u8; 256], latin: bool, part: &[u8]) -> Piece
 }
 
 // The first sign from a place on.
-pub fn sign_from(back: &[u8; 256], latin: bool, part: &[u8], from: usize) -> Sign
+fn sign_from(back: &[u8; 256], latin: bool, part: &[u8], from: usize) -> Sign
     ensures { λ r. ⌜ r ≡ signFrom (now (back .entry)) latin (now (part .entry)) from ⌝ }
 {
     let mut side = latin;

@@ -12,7 +12,7 @@ use Rattle.base.specs.declared.Verdict.{Verdict}
 use Rattle.alphabets.specs.Grid.{grid, kind, sign}
 use Rattle.alphabets.specs.Bank.{reads, plainly}
 use Rattle.alphabets.specs.Steps.{code, codes}
-use Rattle.alphabets.specs.Pieces.{floorOf, heardOf, pieceIn}
+use Rattle.alphabets.specs.Pieces.{pieceIn}
 use Rattle.alphabets.specs.Parts.{extent, written, spoken, pieceText}
 use Rattle.alphabets.specs.Best.{latinNext, best, bad, writes}
 use Rattle.alphabets.specs.Text.{ReadTo, WrittenTo}
@@ -28,7 +28,7 @@ gives : {rules : List Verdict} {t out : List ℕ} {r : Outcome} {after : List �
 gives p q = record { answers = p; leaves = q }
 
 pub worked : AllHold Holds cases
-unfolding cases placed plainly code codes floorOf heardOf pieceIn extent written spoken pieceText xset isIn digit capital letter marks shared grid kind sign reads latinNext best bad writes long short ReadTo WrittenTo upto past onward leap daysIn isDay yearOf realDay kopecks dayAt kopecksOf
+unfolding cases placed plainly code codes pieceIn extent written spoken pieceText xset isIn digit capital letter marks shared grid kind sign reads latinNext best bad writes long short ReadTo WrittenTo upto past onward leap daysIn isDay yearOf realDay kopecks dayAt kopecksOf
 worked =
     (gives refl refl, gives refl refl) also (gives refl refl, gives refl refl) also (gives refl refl, gives refl refl) also (gives refl refl, gives refl refl)
     also (gives refl refl, gives refl refl) also (gives refl refl, gives refl refl) also gives refl refl also gives refl refl also gives refl refl also gives refl refl

@@ -86,7 +86,7 @@ pub extern "C" fn desk_read_text(sign: u32, bank: &[u8], out: &mut [u8]) -> u64
 pub extern "C" fn desk_write_text(sign: u32, text: &[u8], out: &mut [u8]) -> u64
     ensures { λ r. ⌜ WrittenWord sign (now (text .entry)) (now (out .entry)) r (now (out .exit)) ⌝ }
 {
-    let o = spelling::write_text(is_on(sign), text, out);
+    let o = alphabets::write_text(is_on(sign), text, out);
     word_of(o)
 }
 

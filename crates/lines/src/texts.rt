@@ -9,8 +9,8 @@ ghost use Rattle.lines.specs.Steps.{stoppedAt, pieced, Adds, near};
 ghost use Rattle.lines.specs.Lines.{lineStep, linePieces};
 use super::Step;
 use alphabets::parts::Extent;
+use alphabets::put_written;
 use base::bytes::put;
-use spelling::put_written;
 
 // A text as it is written. Its first byte is at o.
 pub(crate) fn put_text(sign: bool, o: usize, p: &[u8], out: &mut [u8], at: usize) -> Step

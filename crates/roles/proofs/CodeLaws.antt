@@ -4,18 +4,22 @@ use mathlib.Core.Path.{_≡_, refl, sym, ap, ap₂, _∙_}
 use mathlib.Core.Bool.{Bool, true, false, _&&_, _||_}
 use mathlib.Core.List.{List, [], _∷_, _++_, map}
 use native.Mathlib.Omega.{arith}
-use lib.Dec.{ltb}
+use lib.Dec.{eqb, ltb}
 use lib.ListN.{length, getD, drop}
 use borrow.Author.Tests.{ne-eqb}
 use Rattle.base.specs.Choice.{pick, all}
-use Rattle.base.specs.Bytes.{isIn, begins, without}
+use Rattle.base.specs.Bytes.{isIn, begins, empty, without}
 use Rattle.base.specs.Rules.{then}
 use Rattle.base.specs.Calls.{Answer, said, stuck, textOf}
 use Rattle.base.specs.declared.Verdict.the-variants.{Broken}
 use Rattle.alphabets.specs.Bank.{reads, reading}
 use Rattle.alphabets.specs.Steps.{codes}
-use Rattle.alphabets.specs.Pieces.{Partly, got, halted, partly, whole, pieceOf, pieceIn, signsFrom}
-use Rattle.alphabets.proofs.PieceLaws.{reads-partly, piece-codes, signs-said}
+use Rattle.alphabets.specs.Pieces.{pieceIn, whole, signsFrom}
+use Rattle.alphabets.specs.Parts.{spoken as heard}
+use Rattle.alphabets.specs.declared.pieces.Piece.{Piece}
+use Rattle.alphabets.specs.declared.pieces.Piece.the-variants.{Read, Stops}
+use Rattle.alphabets.proofs.PieceLaws.{reads-piece, signs-said}
+use Rattle.alphabets.proofs.SpokenLaws.{counted}
 use Rattle.fields.specs.Field.{Field, field}
 use Rattle.fields.specs.Places.{sizeOf, startOf, nextOf}
 use Rattle.fields.specs.ByLines.{joined}
@@ -49,14 +53,17 @@ module _ (d u : List ℕ) (h : (j : ℕ) → j < 4 → getD d j 0 ≡ getD u j 0
   same-clauses named q b = ap (λ (x : Bool). q || x) (same-hidden b)
   same-clauses taxPlaced q b = ap₂ (λ (x y : Bool). q || (x || y)) (same-hidden b) same-like
 
-mute-whole : (n : ℕ) (p : Partly) → muteIn (pieceOf p) ≡ mute (whole n p)
-mute-whole n (got [] false) = refl
-mute-whole n (got (x ∷ d) false) = ne-eqb (length (x ∷ d)) 0 (λ z. absurd (omega arith))
-mute-whole n (got d true) = refl
-mute-whole n (halted k) = refl
-
 pub mute-codes : (b : List ℕ) → muteIn (pieceIn codes false b) ≡ mute (reading true b)
-mute-codes b = ap muteIn (piece-codes false b) ∙ mute-whole (length b) (partly false b) ∙ ap mute (sym (reads-partly false b))
+mute-codes b = go (pieceIn codes false b) (counted codes false b) ∙ ap mute (sym (reads-piece false b))
+  where
+    go : (p : Piece) → ((n : ℕ) (z : Bool) → p ≡ Read n z → n ≡ length (heard codes false b)) → muteIn p ≡ mute (whole (length b) p (heard codes false b))
+    go (Stops k) h = refl
+    go (Read n true) h = refl
+    go (Read n false) h = by (heard codes false b) (h n false refl)
+      where
+        by : (u : List ℕ) → n ≡ length u → eqb n 0 ≡ empty u
+        by [] e = rw e
+        by (x ∷ u) e = ne-eqb n 0 (λ z. omega arith)
 
 pub breaks-codes : (m : Manner) (b : List ℕ) → breaksIn codes m b ≡ breaks m b
 unfolding breaksIn breaks

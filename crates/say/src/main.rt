@@ -53,7 +53,7 @@ fn main() {
         let n = length_of(&input[..got]);
         if n <= 5002 {
             let mut bank = [0u8; 10000];
-            let o = spelling::write_text(true, &input[..n], &mut bank);
+            let o = alphabets::write_text(true, &input[..n], &mut bank);
             show(o, &bank);
             show_back(o, &bank);
         }

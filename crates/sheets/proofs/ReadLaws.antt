@@ -13,11 +13,11 @@ use Rattle.base.proofs.Bools.{left, right, all-append, all-front, all-behind}
 use Rattle.base.proofs.CallLaws.{not-said}
 use Rattle.alphabets.specs.Bank.{reads, reading}
 use Rattle.alphabets.specs.Steps.{codes}
-use Rattle.alphabets.specs.Pieces.{Partly, got, halted, partly, whole, pieceAfter, pieceOf, pieceIn, pieceOn}
+use Rattle.alphabets.specs.Pieces.{pieceAfter, pieceIn, pieceOn, whole}
 use Rattle.alphabets.specs.Parts.{spoken, pieceText}
 use Rattle.alphabets.specs.declared.pieces.Piece.{Piece}
 use Rattle.alphabets.specs.declared.pieces.Piece.the-variants.{Read, Stops}
-use Rattle.alphabets.proofs.PieceLaws.{reads-partly, piece-codes, piece-append}
+use Rattle.alphabets.proofs.PieceLaws.{reads-piece, piece-append}
 use Rattle.alphabets.proofs.SpokenLaws.{read-stops}
 use Rattle.alphabets.proofs.PartTheorems.{text-append, text-whole}
 use Rattle.alphabets.proofs.Theorems.{plain-iff, plain-only}
@@ -151,11 +151,11 @@ over-spoken latin (p ∷ ps) n z e = go (pieceIn codes latin p) refl (sym (piece
 
 -- a text that reads is one piece
 one-piece : (b d : List ℕ) → reads false b ≡ said d → (n : ℕ) × ((z : Bool) × (pieceIn codes false b ≡ Read n z))
-one-piece b d e = go (partly false b) refl (sym (reads-partly false b) ∙ e)
+one-piece b d e = go (pieceIn codes false b) (sym (reads-piece false b) ∙ e)
   where
-    go : (p : Partly) → partly false b ≡ p → whole (length b) (partly false b) ≡ said d → (n : ℕ) × ((z : Bool) × (pieceIn codes false b ≡ Read n z))
-    go (got t y) f g = (length t, (y, piece-codes false b ∙ ap pieceOf f))
-    go (halted k) f g = absurd (not-said k d (sym (ap (whole (length b)) f) ∙ g))
+    go : (p : Piece) → whole (length b) p (spoken codes false b) ≡ said d → (n : ℕ) × ((z : Bool) × (p ≡ Read n z))
+    go (Read n z) f = (n, (z, refl))
+    go (Stops k) f = absurd (not-said k d f)
 
 over-reads : (s : Bool) (ps : List (List ℕ)) → Speaks s (run ps) → overBy codes s false ps ≡ textOf (reading s (run ps))
 over-reads true ps w = let o = one-piece (run ps) (w .0) (w .1) in over-spoken false ps (o .0) (o .1 .0) (o .1 .1) ∙ spoken-whole (run ps) w

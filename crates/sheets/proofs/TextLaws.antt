@@ -9,7 +9,8 @@ use lib.ListN.{length, take, drop, getD, length-drop}
 use Rattle.base.specs.Bytes.{upTo}
 use Rattle.base.specs.Choice.{pick}
 use Rattle.base.specs.Calls.{placed, Puts}
-use Rattle.alphabets.specs.Pieces.{floorOf, pieceAfter, pieceIn}
+use Rattle.alphabets.specs.Runs.{floorOf}
+use Rattle.alphabets.specs.Pieces.{pieceAfter, pieceIn}
 use Rattle.alphabets.specs.Parts.{spoken, unlessStops, pieceText}
 use Rattle.alphabets.specs.declared.pieces.Piece.{Piece}
 use Rattle.alphabets.specs.declared.pieces.Piece.the-variants.{Read, Stops}

@@ -45,7 +45,7 @@ fn call(head: &[u8], input: &[u8], out: &mut [u8]) -> Outcome {
     if letter(head, 1) == b'r' {
         return alphabets::read_text(sign, input, out);
     }
-    spelling::write_text(sign, input, out)
+    alphabets::write_text(sign, input, out)
 }
 
 // The number is 0 where a text is expected, and the place is then its length.

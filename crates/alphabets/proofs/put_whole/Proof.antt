@@ -5,10 +5,10 @@ use borrow.Author.Tests.{not-true, not-false}
 use Rattle.base.specs.Calls.{said}
 use Rattle.alphabets.specs.Bank.{reads}
 use Rattle.alphabets.specs.Pieces.{pieceIn}
-use Rattle.alphabets.specs.Parts.{pieceText}
+use Rattle.alphabets.specs.Parts.{spoken}
 use Rattle.alphabets.specs.declared.pieces.Piece.the-variants.{Read}
-use Rattle.alphabets.proofs.PartLaws.{stuck-put, said-put}
-use Rattle.alphabets.proofs.SpokenLaws.{piece-not, piece-room, piece-put, text-length}
+use Rattle.alphabets.proofs.PartLaws.{stuck-put, said-put, miss-room, fit-room, fit-put}
+use Rattle.alphabets.proofs.SpokenLaws.{counted}
 use Rattle.alphabets.proofs.PartTheorems.{whole-stops, whole-open, whole-read}
 use borrow.Author.Needs.{needs}
 use Rattle.alphabets.proofs.put_whole.Statement.{statement}
@@ -19,7 +19,7 @@ counts : (c : tie.After-known-told2) → let s = c .before .before .before .befo
 counts c = sym (c .before .before .before .read-piece .ensures) ∙ c .before .units .given .1
 
 -- and that it is the text, behind the Russian side
-is : (c : tie.Else1) → let s = c .before .before .before .before .before .before in let a = s .before .before .before .args in reads false (a .bank .now) ≡ said (pieceText (s .back-table .result) false (a .bank .now))
+is : (c : tie.Else1) → let s = c .before .before .before .before .before .before in let a = s .before .before .before .args in reads false (a .bank .now) ≡ said (spoken (s .back-table .result) false (a .bank .now))
 is c = let s = c .before .before .before .before .before .before in whole-read (s .back-table .result) (s .before .before .before .args .bank .now) (s .back-table .ensures) _ _ (counts (c .before)) (c .if1 .left)
 
 back-table-requires : tie.Need-back-table-requires
@@ -47,8 +47,8 @@ returns-2 c =
     let k = e .before in
     let s = k .before .before .before .before .before in
     let a = s .before .before .before .args in
-    said-put (reads false (a .bank .now)) (a .out .now) 0 _ _ _ (is e) (text-length (s .back-table .result) false (a .bank .now) _ _ (counts k))
-    (piece-not (s .back-table .result) false (a .bank .now) _ _ (counts k) (a .out .now) 0 (f .fits2 .result) (f .fits2 .ensures) (not-true _ (c .if2 .taken)))
+    said-put (reads false (a .bank .now)) (a .out .now) 0 _ _ _ (is e) (counted (s .back-table .result) false (a .bank .now) _ _ (counts k))
+    (miss-room (a .out .now) 0 _ _ (counted (s .back-table .result) false (a .bank .now) _ _ (counts k)) (f .fits2 .result) (f .fits2 .ensures) (not-true _ (c .if2 .taken)))
 
 fill-piece-requires : tie.Need-fill-piece-requires
 fill-piece-requires c κs =
@@ -57,7 +57,7 @@ fill-piece-requires c κs =
     let k = f .before .before in
     let s = k .before .before .before .before .before in
     let a = s .before .before .before .args in
-    piece-room (s .back-table .result) false (a .bank .now) _ _ (counts k) (a .out .now) 0 (f .fits2 .result) (f .fits2 .ensures) (not-false _ (g .if2 .left))
+    fit-room (a .out .now) 0 _ (spoken (s .back-table .result) false (a .bank .now)) (counted (s .back-table .result) false (a .bank .now) _ _ (counts k)) (f .fits2 .result) (f .fits2 .ensures) (not-false _ (g .if2 .left))
 
 returns-3 : tie.Need-returns-3
 returns-3 c =
@@ -78,8 +78,8 @@ returns-4 c =
     let k = e .before in
     let s = k .before .before .before .before .before in
     let a = s .before .before .before .args in
-    said-put (reads false (a .bank .now)) (a .out .now) 0 _ _ _ (is e) (text-length (s .back-table .result) false (a .bank .now) _ _ (counts k))
-    (piece-put (s .back-table .result) false (a .bank .now) _ _ (counts k) (a .out .now) 0 (f .fits2 .result) (f .fits2 .ensures) _ (not-false _ (g .if2 .left)) (w .fill-piece .ensures))
+    said-put (reads false (a .bank .now)) (a .out .now) 0 _ _ _ (is e) (counted (s .back-table .result) false (a .bank .now) _ _ (counts k))
+    (fit-put (a .out .now) 0 _ _ (counted (s .back-table .result) false (a .bank .now) _ _ (counts k)) (f .fits2 .result) (f .fits2 .ensures) _ (not-false _ (g .if2 .left)) (w .fill-piece .ensures))
 
 pub put-whole-spec : {M : Type 1} → statement M
 put-whole-spec =

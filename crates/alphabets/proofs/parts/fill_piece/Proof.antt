@@ -4,8 +4,8 @@ use mathlib.Core.Path.{sym, subst}
 use mathlib.Core.List.{List}
 use native.Mathlib.Omega.{arith}
 use lib.ListN.{length, getD}
-use Rattle.alphabets.specs.Pieces.{floorOf}
-use Rattle.alphabets.proofs.SpokenLaws.{Speaking, speaking-start, speaking-end, speaking-room, speaking-fits, speaking-ended, speaking-run, speaking-stops, speaking-on}
+use Rattle.alphabets.specs.Runs.{floorOf}
+use Rattle.alphabets.proofs.SpokenLaws.{Speaking, speaking-start, speaking-end, speaking-room, speaking-ended, speaking-run, speaking-stops, speaking-on}
 use Rattle.alphabets.proofs.parts.fill_piece.Statement.{statement}
 use Rattle.alphabets.proofs.parts.fill_piece.Tie as tie
 
@@ -39,7 +39,7 @@ sub-n : tie.Need-sub-n Inv-loop μ-loop
 sub-n c = let p = c .before .before in omega (arith, p .put-run .ensures .0)
 
 add-n : tie.Need-add-n Inv-loop μ-loop
-add-n c = let p = c .before .before in let l = p .before .before .before in omega (arith, speaking-fits (l .loop .inv) (p .put-run .result) (p .put-run .ensures .0))
+add-n c = let p = c .before .before in omega (arith, spoke p .is .room, spoke p .is .kept, p .before .before .before .before .before .before)
 
 same-length : tie.Need-same-length Inv-loop μ-loop
 same-length c = spoke (c .before .before .before) .is .kept

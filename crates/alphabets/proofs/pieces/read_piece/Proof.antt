@@ -4,8 +4,7 @@ use mathlib.Core.Path.{_≡_, _∙_, ap}
 use native.Mathlib.Omega.{arith}
 use borrow.Author.Needs.{needs}
 use lib.ListN.{length, drop}
-use Rattle.runs.specs.Runs.{run}
-use Rattle.alphabets.specs.Pieces.{floorOf}
+use Rattle.alphabets.specs.Runs.{floorOf, run}
 use Rattle.alphabets.proofs.PieceLaws.{Taking, taking-start, taking-end, taking-run, taking-stops, taking-on}
 use Rattle.alphabets.proofs.pieces.read_piece.Statement.{statement}
 use Rattle.alphabets.proofs.pieces.read_piece.Tie as tie
@@ -32,7 +31,7 @@ floor-of-requires : tie.Need-floor-of-requires Inv-loop μ-loop
 floor-of-requires c κs = search needs
 
 run-of-requires : tie.Need-run-of-requires Inv-loop μ-loop
-run-of-requires c κs = search needs
+run-of-requires c κs = c .before .before .loop .inv .long
 
 sub-t11 : tie.Need-sub-t11 Inv-loop μ-loop
 sub-t11 c = omega (arith, far (c .before) .few)

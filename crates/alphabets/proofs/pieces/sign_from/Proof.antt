@@ -4,7 +4,8 @@ use mathlib.Core.Path.{_≡_, refl, sym, _∙_}
 use native.Mathlib.Omega.{arith}
 use borrow.Author.Needs.{needs}
 use lib.ListN.{length, getD}
-use Rattle.alphabets.specs.Pieces.{floorOf, signFrom}
+use Rattle.alphabets.specs.Runs.{floorOf}
+use Rattle.alphabets.specs.Pieces.{signFrom}
 use Rattle.alphabets.proofs.PieceLaws.{sign-here, sign-stops, sign-on, sign-end, sign-made}
 use Rattle.alphabets.proofs.pieces.sign_from.Statement.{statement}
 use Rattle.alphabets.proofs.pieces.sign_from.Tie as tie
