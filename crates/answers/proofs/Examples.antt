@@ -31,7 +31,7 @@ use Rattle.records.specs.Rule19.{digits, general, untaxed, sound, badFrom, judg
 use Rattle.details.specs.Breaking.{opens, last, broken}
 use Rattle.details.specs.Breaking as breaking
 use Rattle.details.specs.Layouts.{linesFor, sizeFor}
-use Rattle.lines.specs.Spread.{contentLines, spread}
+use Rattle.writer.specs.Spread.{contentLines, spread}
 use Rattle.writer.specs.Sheet.{unsaid, rule15, crowded, rule16, fieldsOf, messageFor}
 use Rattle.answers.specs.Line.{digitsIn, decimal, refusalLine}
 use Rattle.sheets.specs.Gather.{contentParts, gather, recordsOf, sheetOf}

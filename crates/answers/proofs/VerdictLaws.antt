@@ -16,8 +16,7 @@ use Rattle.base.proofs.CallLaws.{is-long, is-short, not-short, short-within}
 use Rattle.fields.specs.Frame.{limit}
 use Rattle.types.specs.Walk.{rule18}
 use Rattle.records.specs.Rule19.{sheetType}
-use Rattle.message.specs.Handed.{atStart}
-use Rattle.writer.specs.Sheet.{messageFor, sheetRules, ownRule, writeRules}
+use Rattle.writer.specs.Sheet.{messageFor, sheetRules, atStart, ownRule, writeRules}
 use Rattle.written.specs.Sentences as why
 use Rattle.written.specs.Sentences.{Reason}
 use Rattle.writer.proofs.CallLaws.{long-verdict}

@@ -15,15 +15,13 @@ use Rattle.base.specs.Calls.{short, over, room}
 use Rattle.base.specs.declared.Verdict.{Verdict}
 use Rattle.base.specs.declared.Verdict.the-variants.{Fine, Broken}
 use Rattle.base.proofs.RuleLaws.{then-clean, first-last, Clean, first-clean, FirstOf, accepted-iff, refused-iff}
-use Rattle.base.proofs.CallLaws.{one-answer, gives-one, enough}
+use Rattle.base.proofs.CallLaws.{one-answer, enough}
 use Rattle.fields.specs.Field.{fields}
 use Rattle.fields.specs.Places.{listed}
 use Rattle.fields.proofs.PlaceLaws.{listed-length}
 use Rattle.types.specs.Form.{placesOf}
 use Rattle.types.specs.Walk.{present}
 use Rattle.types.proofs.WordLaws.{placeOfField, Present, present-iff, ones-before}
-use Rattle.base.specs.declared.Outcome.{Outcome}
-use Rattle.message.specs.Handed.{Hands}
 use Rattle.message.specs.declared.Checked.{Checked}
 use Rattle.message.specs.declared.Checked.the-variants.{Accepted, Refused}
 use Rattle.listing.specs.declared.Span.{Span}
@@ -46,9 +44,6 @@ checks-one p q = (one-answer (p .answers) (q .answers), one-answer (p .leaves) (
 
 pub span-one : (kind : ℕ) (m : List ℕ) (place : ℕ) {r s : Span} → r ≡ spanOf kind m place → s ≡ spanOf kind m place → r ≡ s
 span-one kind m place p q = one-answer p q
-
-pub hands-one : (kind : ℕ) {m out : List ℕ} {r s : Outcome} {a b : List ℕ} → Hands kind m out r a → Hands kind m out s b → (r ≡ s) × (a ≡ b)
-hands-one kind p q = gives-one p q
 
 -- ---- the call that fills the list
 same-refused : {n p k q : ℕ} → Refused n p ≡ Refused k q → Broken n p ≡ Broken k q

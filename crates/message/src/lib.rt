@@ -1,6 +1,5 @@
-// The calls on a message: its check, the part of one place, the kopecks and the date of 32A; and one that was built, handed over.
+// The calls on a message: its check, the part of one place, the kopecks and the date of 32A.
 pub mod calls;
-pub mod handed;
 
 // The answer of the check.
 pub enum Checked {

@@ -44,9 +44,8 @@ use Rattle.details.specs.Lines.{together}
 use Rattle.details.specs.Layouts.{layout, linesFor, sizeFor}
 use Rattle.details.specs.declared.Place.{Place}
 use Rattle.details.specs.declared.Place.the-variants.{In70, In72, BehindRpp}
-use Rattle.lines.specs.Spread.{castParts, lineFor, code, told, notePlace, noteLines, contentLines, spread}
-use Rattle.lines.specs.Steps.{isUnfit}
-use Rattle.writer.specs.Sheet.{crowded, fieldsOf, messageFor, sheetRules, MessageTo}
+use Rattle.writer.specs.Spread.{castParts, lineFor, code, told, notePlace, noteLines, contentLines, spread}
+use Rattle.writer.specs.Sheet.{isUnfit, crowded, fieldsOf, messageFor, sheetRules, MessageTo}
 use Rattle.writer.proofs.RuleLaws.{sheet-rules}
 use Rattle.written.proofs.SpeltLaws.{said-is}
 use Rattle.written.proofs.ReadyLaws.{speaks, Laid, laid, Ready}

@@ -29,7 +29,7 @@ use Rattle.details.specs.Breaking.{opens}
 use Rattle.details.specs.Layouts.{layout, marked}
 use Rattle.details.specs.declared.Place.{Place}
 use Rattle.details.specs.declared.Place.the-variants.{In70, In72, BehindRpp}
-use Rattle.lines.specs.Spread.{code, rppLine}
+use Rattle.writer.specs.Spread.{code, rppLine}
 use Rattle.written.proofs.CastLaws.{code-size}
 
 -- ---- details by their place: in 70; in 72 of a 202; there behind an RPP line

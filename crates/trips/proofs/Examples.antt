@@ -51,9 +51,8 @@ use Rattle.records.specs.Rule19.{digits, general, untaxed, sound, badFrom, judg
 use Rattle.details.specs.Breaking.{opens, last, broken}
 use Rattle.details.specs.Breaking as breaking
 use Rattle.details.specs.Layouts.{linesFor, sizeFor}
-use Rattle.lines.specs.Spread.{contentLines, spread}
-use Rattle.message.specs.Handed.{atStart}
-use Rattle.writer.specs.Sheet.{sheetRules, unsaid, rule15, crowded, rule16, fieldsOf, messageFor, writeRules}
+use Rattle.writer.specs.Spread.{contentLines, spread}
+use Rattle.writer.specs.Sheet.{unsaid, rule15, crowded, rule16, fieldsOf, messageFor, sheetRules, atStart, writeRules}
 use Rattle.writer.proofs.RuleLaws.{sheet-rules, rules-write}
 use Rattle.written.specs.Cases.{sheet103}
 use Rattle.sheets.specs.Calls.{readRules}

@@ -20,7 +20,7 @@ use Rattle.roles.specs.declared.Shape.{Shape}
 use Rattle.roles.specs.declared.Shape.the-variants.{Plain, Payer, Payee, Agent, Details, Note103, Note202}
 use Rattle.records.specs.Record.{plainText, line}
 use Rattle.records.specs.Rule19.{sound}
-use Rattle.lines.specs.Spread.{castParts}
+use Rattle.writer.specs.Spread.{castParts}
 use Rattle.writer.specs.Sheet.{crowded}
 use Rattle.written.proofs.ReadyLaws.{Fair, speaks}
 use Rattle.sheets.specs.Gather.{contentParts}

@@ -29,7 +29,7 @@ use Rattle.roles.proofs.CastLaws.{turned, Lines, Steady, AllSteady, untaxed, ca
 use Rattle.records.specs.Record.{plainText, tabbed, line}
 use Rattle.records.specs.Rule19 as rule19
 use Rattle.records.specs.Rule19.{general, taxPart, sound}
-use Rattle.lines.specs.Spread.{lineFor, castParts, contentLines}
+use Rattle.writer.specs.Spread.{lineFor, castParts, contentLines}
 use Rattle.writer.specs.Sheet.{crowded}
 use Rattle.written.specs.Sentences.{Every}
 use Rattle.written.proofs.SpeltLaws.{isSaid, plain-same, slash, colon, dash, spelt-head, spelt-empty, spelt-tax}

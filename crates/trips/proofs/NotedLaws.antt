@@ -24,9 +24,8 @@ use Rattle.details.specs.declared.Place.the-variants.{In70}
 use Rattle.details.specs.declared.Size.{Size}
 use Rattle.details.specs.declared.Size.the-variants.{Bytes, Unfit}
 use Rattle.details.proofs.Theorems.{Fitted, fitted}
-use Rattle.lines.specs.Spread.{castParts, code, told, rppLine, notePlace, contentLines}
-use Rattle.lines.specs.Steps.{isUnfit}
-use Rattle.writer.specs.Sheet.{crowded}
+use Rattle.writer.specs.Spread.{castParts, code, told, rppLine, notePlace, contentLines}
+use Rattle.writer.specs.Sheet.{isUnfit, crowded}
 use Rattle.written.proofs.SpeltLaws.{said-is, spelt-empty}
 use Rattle.written.proofs.ReadyLaws.{speaks, Ready}
 use Rattle.sheets.specs.Gather.{contentParts}

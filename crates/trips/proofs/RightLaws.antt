@@ -11,7 +11,7 @@ use Rattle.contents.proofs.RuleLaws.{field-says}
 use Rattle.roles.specs.Role.{shapeOf}
 use Rattle.roles.specs.declared.Shape.{Shape}
 use Rattle.roles.specs.declared.Shape.the-variants.{Plain, Payer, Payee, Agent, Details, Note103, Note202}
-use Rattle.lines.specs.Spread.{contentLines}
+use Rattle.writer.specs.Spread.{contentLines}
 use Rattle.written.proofs.ReadyLaws.{Ready}
 use Rattle.sheets.specs.Gather.{contentParts}
 use Rattle.trips.proofs.Held.{Held, LineByLine, Noted}

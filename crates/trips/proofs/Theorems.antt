@@ -24,8 +24,7 @@ use Rattle.roles.specs.Role.{shapeOf}
 use Rattle.roles.specs.declared.Shape.{Shape}
 use Rattle.roles.specs.declared.Shape.the-variants.{Plain, Payer, Payee, Agent, Details, Note103, Note202}
 use Rattle.judge.specs.Message.{messageRules, verdictOf}
-use Rattle.message.specs.Handed.{atStart}
-use Rattle.writer.specs.Sheet.{messageFor, sheetRules, ownRule, writeRules, MessageTo}
+use Rattle.writer.specs.Sheet.{messageFor, sheetRules, atStart, ownRule, writeRules, MessageTo}
 use Rattle.writer.proofs.RuleLaws.{sheet-rules, rules-write}
 use Rattle.written.specs.Sentences.{Every}
 use Rattle.sheets.specs.Gather.{sheetOf}

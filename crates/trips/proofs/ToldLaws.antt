@@ -39,9 +39,8 @@ use Rattle.details.specs.declared.Place.the-variants.{In70, In72, BehindRpp}
 use Rattle.details.specs.declared.Size.{Size}
 use Rattle.details.specs.declared.Size.the-variants.{Bytes, Unfit}
 use Rattle.details.proofs.Theorems.{less-divided, unfit-none}
-use Rattle.lines.specs.Spread.{castParts, coded, code, told, rppLine, notePlace}
-use Rattle.lines.specs.Steps.{isUnfit}
-use Rattle.writer.specs.Sheet.{crowded}
+use Rattle.writer.specs.Spread.{castParts, coded, code, told, rppLine, notePlace}
+use Rattle.writer.specs.Sheet.{isUnfit, crowded}
 use Rattle.written.proofs.SpeltLaws.{said-is}
 use Rattle.written.proofs.ReadyLaws.{speaks}
 use Rattle.written.proofs.CastLaws.{behind-code, code-size, unmarked}

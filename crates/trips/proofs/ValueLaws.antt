@@ -37,7 +37,7 @@ use Rattle.roles.specs.declared.Shape.the-variants.{Plain, Payer, Payee, Agent,
 use Rattle.details.specs.Layouts.{linesFor}
 use Rattle.details.specs.declared.Place.the-variants.{In72, BehindRpp}
 use Rattle.written.specs.Sentences.{Every}
-use Rattle.lines.specs.Spread.{told, rppLine, noteLines, contentLines}
+use Rattle.writer.specs.Spread.{told, rppLine, noteLines, contentLines}
 use Rattle.writer.specs.Sheet.{crowded}
 use Rattle.written.proofs.ReadyLaws.{Fair, Ready, Laid, laid, ready-fair}
 use Rattle.sheets.specs.Gather.{toldParts, noteParts, contentParts}

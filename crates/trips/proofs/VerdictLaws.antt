@@ -33,7 +33,7 @@ use Rattle.judge.proofs.Theorems.{frame-clean}
 use Rattle.records.specs.Record.{records}
 use Rattle.records.specs.Rule19.{sheetType, sheetSign}
 use Rattle.written.specs.Sentences.{Every}
-use Rattle.lines.specs.Spread.{contentLines, fieldFor, spread}
+use Rattle.writer.specs.Spread.{contentLines, fieldFor, spread}
 use Rattle.writer.specs.Sheet.{fieldsOf, messageFor, sheetRules}
 use Rattle.written.proofs.BuiltLaws.{AllPass, records-pass, built-rule2, built-rule3, built-rule4, built-fields, built-sign}
 use Rattle.written.proofs.TextLaws.{built-rule14}

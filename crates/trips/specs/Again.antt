@@ -10,7 +10,7 @@ use Rattle.alphabets.specs.Best.{writing}
 use Rattle.fields.specs.Field.{Field, field}
 use Rattle.roles.specs.Role.{shapeOf, Part, copy, name, taxName}
 use Rattle.roles.specs.declared.Shape.the-variants.{Details}
-use Rattle.lines.specs.Spread.{contentLines}
+use Rattle.writer.specs.Spread.{contentLines}
 use Rattle.written.specs.Sentences.{NoWay}
 use Rattle.sheets.specs.Gather.{contentParts}
 

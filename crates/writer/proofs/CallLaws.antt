@@ -5,7 +5,7 @@ use mathlib.Core.Bool.{Bool, true, false}
 use mathlib.Core.List.{List, [], _∷_, tail}
 use native.Mathlib.Omega.{arith}
 use native.Mathlib.Nat.{zero-add}
-use lib.Dec.{eqb, ltb}
+use lib.Dec.{eqb}
 use lib.ListN.{length, take, drop}
 use Rattle.base.specs.Choice.{pick}
 use Rattle.base.specs.Bytes.{same, upTo}
@@ -15,7 +15,7 @@ use Rattle.base.specs.Calls.{Answer, said, stuck, over, placed, Gives}
 use Rattle.base.specs.declared.Verdict.{Verdict}
 use Rattle.base.specs.declared.Verdict.the-variants.{Fine, Broken}
 use Rattle.base.proofs.Bools.{pick-same}
-use Rattle.base.proofs.RuleLaws.{fine-broken, then-clean, first-append}
+use Rattle.base.proofs.RuleLaws.{fine-broken, then-clean, first-append, clean-first}
 use Rattle.base.proofs.Room.{over-sets, puts-put}
 use Rattle.base.proofs.CallLaws.{is-long, not-long, gives-refused, gives-on}
 use Rattle.fields.specs.Field.{field, opening, message}
@@ -25,9 +25,6 @@ use Rattle.contents.specs.Tags.{tags103, tags202, heldIn, heldBy}
 use Rattle.roles.specs.Role.{Part, cast, shapeFor, shapeOf, lineOf}
 use Rattle.roles.specs.declared.Shape.{Shape}
 use Rattle.roles.specs.declared.Shape.the-variants.{Plain}
-use borrow.Author.Tests.{ltb-true, ltb-false}
-use Rattle.message.specs.Handed.{handRules, Hands}
-use Rattle.message.proofs.HandLaws.{hand-short, hand-refused}
 use Rattle.records.specs.Record.{Record, line, recordOf, records}
 use Rattle.records.specs.Places.{nextOf}
 use Rattle.records.specs.Found.{piecesAt, badLine}
@@ -38,15 +35,15 @@ use Rattle.records.proofs.SheetLaws.{line-record}
 use Rattle.records.proofs.RuleLaws.{named, named-size, sound-fine, fine-sheet}
 use Rattle.records.proofs.WalkLaws.{first-within, first-size, none-ended, head-record, judge-typed}
 use Rattle.records.proofs.SoundLaws.{sound-behind}
-use Rattle.lines.specs.Spread.{saidPart, castParts, spread}
-use Rattle.lines.specs.Steps.{stoppedAt, Adds}
-use Rattle.writer.specs.Sheet.{unsaid, rule15, someCrowded, rule16, fieldsOf, messageFor, sheetRules, writeRules, MessageTo}
-use Rattle.lines.specs.declared.Step.{Step}
-use Rattle.lines.specs.declared.Step.the-variants.{Stuck, Unfit, Put}
-use Rattle.writer.specs.Steps.{recordStops, recordsAt, longRefusal}
-use Rattle.lines.proofs.StepLaws.{adds-front, movedBy, came-stuck, came-unfit, came-put}
-use Rattle.writer.proofs.NoteLaws.{said-digits}
+use Rattle.writer.specs.Spread.{saidPart, castParts, spread}
+use Rattle.writer.specs.Sheet.{stoppedAt, unsaid, rule15, someCrowded, rule16, fieldsOf, messageFor, sheetRules, handRules, writeRules, MessageTo}
+use Rattle.writer.specs.declared.Step.{Step}
+use Rattle.writer.specs.declared.Step.the-variants.{Stuck, Unfit, Put}
+use Rattle.writer.specs.Steps.{Adds, recordStops, recordsAt, Hands}
+use Rattle.writer.proofs.StepLaws.{adds-front, movedBy, came-stuck, came-unfit, came-put}
+use Rattle.writer.proofs.PurposeLaws.{said-digits}
 use Rattle.writer.proofs.PutLaws.{bodyOf, rule15-cons}
+use Rattle.writer.proofs.HandLaws.{hand-short, hand-refused}
 use lib.Seq.{take-append-seam}
 use Rattle.base.specs.declared.Outcome.{Outcome}
 use Rattle.base.specs.declared.Outcome.the-variants.{Refused}
@@ -220,19 +217,16 @@ module _ (s : List ℕ) (v : sheetVerdict s ≡ Fine) where
           let t : take n mid ≡ messageFor s = ap₂ (λ (i : ℕ) (x : List ℕ). take i x) sized p ∙ take-append-seam text (drop (length text) m) ∙ message-is in
           left (subst (λ (j : ℕ). Hands j (messageFor s) out q after) k (subst (λ (x : List ℕ). Hands kind x out q after) t g))
 
-      pub sound-over : (out : List ℕ) {q : Outcome} → limit < n → q ≡ longRefusal n (length out) → MessageTo s out q out
-      unfolding longRefusal
-      sound-over out o e = subst (λ (q : Outcome). MessageTo s out q out) (sym e) (go (ltb (length out) n) refl)
-        where
-          whole : n ≡ length (messageFor s)
-          whole = sized ∙ ap length message-is
+      whole : n ≡ length (messageFor s)
+      whole = sized ∙ ap length message-is
 
-          go : (b : Bool) → ltb (length out) n ≡ b → MessageTo s out (pick b (Refused 17 n) (Refused 1 0)) out
-          go true q =
-              subst (λ (k : ℕ). MessageTo s out (Refused 17 k) out) (sym whole)
-              (left (hand-short (sheetType s) (messageFor s) out (omega (arith, whole, ltb-true (length out) n q))))
-          go false q =
-              left (hand-refused (sheetType s) (messageFor s) out (omega (arith, whole, ltb-false (length out) n q)) (long-verdict (sheetType s) (messageFor s) type-fine (omega (arith, whole))))
+      pub sound-short : (out : List ℕ) → length out < n → MessageTo s out (Refused 17 n) out
+      sound-short out h =
+          subst (λ (k : ℕ). MessageTo s out (Refused 17 k) out) (sym whole) (left (hand-short (sheetType s) (messageFor s) out (omega (arith, whole))))
+
+      pub sound-over : (out : List ℕ) → n ≤ length out → limit < n → MessageTo s out (Refused 1 0) out
+      sound-over out h o =
+          left (hand-refused (sheetType s) (messageFor s) out (omega (arith, whole)) (long-verdict (sheetType s) (messageFor s) type-fine (omega (arith, whole))))
 
 -- ---- a sheet that is refused
 pub too-long-sheet : (s out : List ℕ) → limit < length s → MessageTo s out (Refused 1 limit) out

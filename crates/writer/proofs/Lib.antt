@@ -1,5 +1,9 @@
+pub mod StepLaws
+pub mod TextLaws
+pub mod PurposeLaws
 pub mod PartLaws
 pub mod NoteLaws
 pub mod PutLaws
+pub mod HandLaws
 pub mod RuleLaws
 pub mod CallLaws

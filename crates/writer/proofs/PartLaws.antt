@@ -24,12 +24,12 @@ use Rattle.roles.specs.declared.Role.the-variants.{Copies, OfPayer, OfPayee, Of
 use Rattle.roles.proofs.PartLaws.{firstPart, cast-none, cast-cons, first-line}
 use Rattle.records.specs.Found.{piecesAt}
 use Rattle.records.proofs.PieceLaws.{pieces-at, past-end, end-within, piece-length}
-use Rattle.lines.specs.Spread.{saidPart, lineFor}
-use Rattle.lines.specs.Steps.{stoppedAt, Adds}
-use Rattle.writer.specs.Sheet.{unsaid}
-use Rattle.lines.specs.declared.Step.{Step}
-use Rattle.lines.specs.declared.Step.the-variants.{Put}
-use Rattle.lines.proofs.StepLaws.{adds-then, adds-none, adds-cut, adds-by, adds-same, Onward}
+use Rattle.writer.specs.Spread.{saidPart, lineFor}
+use Rattle.writer.specs.Sheet.{stoppedAt, unsaid}
+use Rattle.writer.specs.Steps.{Adds}
+use Rattle.writer.specs.declared.Step.{Step}
+use Rattle.writer.specs.declared.Step.the-variants.{Put}
+use Rattle.writer.proofs.StepLaws.{adds-then, adds-none, adds-cut, adds-by, adds-same, Onward}
 
 -- ---- the parts as they are cast
 copied : (s : Bool) (p : List ℕ) → writing (s && false) p ≡ plainly p

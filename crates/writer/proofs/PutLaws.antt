@@ -1,7 +1,7 @@
 -- Records as fields, one behind another, and the whole message. Assumes nothing.
 use Prim.Native.Nat.{ℕ, _+_, _-_, _≤_, _<_}
 use mathlib.Core.Path.{_≡_, refl, sym, ap, ap₂, subst, _∙_}
-use mathlib.Core.Bool.{Bool, true, false, not, _&&_, _||_, true≢false, false≢true}
+use mathlib.Core.Bool.{Bool, true, false, not, _&&_, _||_, true≢false}
 use mathlib.Core.List.{List, [], _∷_, _++_, map, append-assoc}
 use native.Mathlib.Omega.{arith}
 use native.Mathlib.Decide.{decLt}
@@ -9,11 +9,11 @@ use types.Run.{OneOf}
 use denote.Enum.Declared.{tagOf}
 use Rattle.roles.proofs.Shape.{the-type}
 use Rattle.roles.proofs.PartLaws.{each-lined}
-use lib.ListN.{length, take, drop}
+use lib.ListN.{length, take, drop, length-append}
 use Rattle.base.specs.Choice.{pick}
 use Rattle.base.specs.Bytes.{begins, empty, upTo}
 use Rattle.base.specs.Rules.{then}
-use Rattle.base.specs.Calls.{Answer, said, stuck}
+use Rattle.base.specs.Calls.{Answer, said, stuck, Puts}
 use Rattle.base.specs.declared.Verdict.{Verdict}
 use Rattle.base.specs.declared.Verdict.the-variants.{Fine, Broken}
 use Rattle.base.proofs.Bools.{left, right}
@@ -33,7 +33,7 @@ use Rattle.records.specs.Places.{nextOf}
 use Rattle.records.specs.Found.{piecesAt, tagNumber, badLine}
 use Rattle.records.specs.Rule19.{sole, detailed, noted, sound, good}
 use Rattle.records.specs.Sentences.{Right, plain, agent, payer, payee, details, note103, note202}
-use Rattle.records.proofs.PieceLaws.{past-end, end-within, piece-length}
+use Rattle.records.proofs.PieceLaws.{end-within, piece-length}
 use Rattle.records.proofs.PlaceLaws.{front-at, front-end}
 use Rattle.records.proofs.FoundLaws.{record-at, tag-size}
 use Rattle.records.proofs.SheetLaws.{line-record}
@@ -48,16 +48,15 @@ use Rattle.details.specs.declared.Place.the-variants.{In70}
 use Rattle.details.specs.declared.Size.{Size}
 use Rattle.details.specs.declared.Size.the-variants as size
 use Rattle.details.proofs.Theorems.{fitted}
-use Rattle.lines.specs.Spread.{saidPart, castParts, lineFor, told, rppLine, notePlace, noteLines, contentLines, fieldFor, spread}
-use Rattle.lines.specs.Steps.{stoppedAt, isUnfit, Adds}
-use Rattle.writer.specs.Sheet.{unsaid, crowdedNote, crowded, someCrowded, rule15}
-use Rattle.lines.specs.declared.Step.{Step}
-use Rattle.lines.specs.declared.Step.the-variants.{Stuck, Unfit}
+use Rattle.writer.specs.Spread.{saidPart, castParts, lineFor, told, rppLine, notePlace, noteLines, contentLines, fieldFor, spread}
+use Rattle.writer.specs.Sheet.{stoppedAt, unsaid, rule15, isUnfit, crowdedNote, crowded, someCrowded}
+use Rattle.writer.specs.declared.Step.{Step}
+use Rattle.writer.specs.declared.Step.the-variants.{Stuck, Unfit}
 use Rattle.roles.specs.Parts.{castBy, firstRole}
 use Rattle.roles.specs.declared.Role.{Role}
-use Rattle.writer.specs.Steps.{recordStops, recordCrowded, recordsAt}
-use Rattle.lines.proofs.StepLaws.{Tagged, tag-puts, adds-by, adds-alike, adds-stuck, adds-front, Goes, adds-join, movedBy, came-stuck}
-use Rattle.writer.proofs.NoteLaws.{sole-part}
+use Rattle.writer.specs.Steps.{Adds, Tells, recordStops, recordCrowded, recordsAt}
+use Rattle.writer.proofs.StepLaws.{adds-by, adds-alike, adds-stuck, adds-front, Goes, adds-join, movedBy, came-stuck}
+use Rattle.writer.proofs.PurposeLaws.{some-within, sole-part}
 
 -- ---- the content of a record, by the shape of its tag
 abbrev ContentIn : Bool → ℕ → List (List ℕ) → List ℕ → List ℕ → ℕ → Step → Shape → Type 0
@@ -73,7 +72,7 @@ module _ (s : Bool) (o : ℕ) (ps : List (List ℕ)) {out after : List ℕ} {at 
   content-parts sh h e a =
       each-lined (λ x. ByRole s o ps out after at r (firstRole x) → ContentIn s o ps out after at r x) (λ z. z) (λ z. z) (λ z. z) (λ z. z) sh h (subst (ByRole s o ps out after at r) e a)
 
-  pub content-told : {sh : Shape} → sh ≡ Details → Adds (unsaid s o (castParts Details ps)) (isUnfit (sizeFor In70 (codeSize s) (told s ps))) (laid (linesFor In70 (codeSize s) (told s ps))) out at r after → ContentIn s o ps out after at r sh
+  pub content-told : {sh : Shape} → sh ≡ Details → Tells s In70 o ps out at r after → ContentIn s o ps out after at r sh
   unfolding crowded contentLines
   content-told e a = subst (ContentIn s o ps out after at r) (sym e) a
 
@@ -92,11 +91,7 @@ content-rpp s l o {out} {after} {at} {r} {sh} e h g a =
 
 pub sole-within : (s : Bool) (l : List ℕ) (i : ℕ) {sh : Shape} → sh ≡ Note103 → sound s sh (piecesAt 9 l i) ≡ true → i ≤ length l
 unfolding sound
-sole-within s l i e g = go (decLt (length l) i)
-  where
-    go : Dec (length l < i) → i ≤ length l
-    go (yes h) = absurd (false≢true (sym (ap sole (past-end 9 l i h)) ∙ sym (ap (λ (x : Shape). sound s x (piecesAt 9 l i)) e) ∙ g))
-    go (no h) = omega arith
+sole-within s l i e g = some-within sole l i refl (sym (ap (λ (x : Shape). sound s x (piecesAt 9 l i)) e) ∙ g)
 
 sound-as : (s : Bool) (ps : List (List ℕ)) {sh : Shape} (to : Shape) → sh ≡ to → sound s sh ps ≡ true → sound s to ps ≡ true
 sound-as s ps to e g = sym (ap (λ (x : Shape). sound s x ps) e) ∙ g
@@ -152,6 +147,10 @@ lined-some t ls h = subst (λ (ks : List (List ℕ)). (58 ∷ t ++ 58 ∷ []) ++
     go : (x : List ℕ) (xs : List (List ℕ)) → (58 ∷ t ++ 58 ∷ []) ++ (x ++ 13 ∷ 10 ∷ laid xs) ≡ (58 ∷ t ++ 58 ∷ x) ++ 13 ∷ 10 ∷ laid xs
     go x xs = ap (λ (y : List ℕ). 58 ∷ y) (append-assoc t (58 ∷ []) (x ++ 13 ∷ 10 ∷ laid xs) ∙ sym (append-assoc t (58 ∷ x) (13 ∷ 10 ∷ laid xs)))
 
+-- the place behind a tag
+pub tag-behind : (t : List ℕ) {out after : List ℕ} {at r : ℕ} → Puts (58 ∷ t ++ 58 ∷ []) out at r after → r ≡ at + length t + 2
+tag-behind t p = omega (arith, p .answers, length-append t (58 ∷ []))
+
 -- ---- a record by the end of its tag
 module _ (kind : ℕ) (s : Bool) (l : List ℕ) (t : ℕ) (q : t ≡ 0 + upTo 9 (drop 0 l)) (g : good kind s (recordOf l) ≡ true) where
   abbrev ps : List (List ℕ)
@@ -173,7 +172,7 @@ module _ (kind : ℕ) (s : Bool) (l : List ℕ) (t : ℕ) (q : t ≡ 0 + upTo 9 
   pub shape-sound : {sh : Shape} → sh ≡ shapeOf kind tag → sound s sh ps ≡ true
   shape-sound e = ap (λ (x : Shape). sound s x ps) e ∙ right (shaped tag) _ good-at
 
-  pub record-put : {sh : Shape} {out mid after : List ℕ} {at n : ℕ} {r : Step} → sh ≡ shapeOf kind tag → Tagged tag out at n mid
+  pub record-put : {sh : Shape} {out mid after : List ℕ} {at n : ℕ} {r : Step} → sh ≡ shapeOf kind tag → Puts (58 ∷ tag ++ 58 ∷ []) out at n mid
       → Adds (unsaid s (t + 1) (castParts sh ps)) (crowded s sh ps) (laid (contentLines s sh ps)) mid n r after
       → Adds (recordStops kind s (recordOf l)) (recordCrowded kind s (recordOf l)) (laid (lined (fieldFor kind s (recordOf l)))) out at r after
   record-put {sh} {out} {mid} {after} {at} {n} {r} e f a =
@@ -183,7 +182,7 @@ module _ (kind : ℕ) (s : Bool) (l : List ℕ) (t : ℕ) (q : t ≡ 0 + upTo 9 
       subst (λ (x : Record). Adds (recordStops kind s x) (recordCrowded kind s x) (laid (lined (fieldFor kind s x))) out at r after) (sym (record-at l t q))
       (adds-by (ap (λ (j : ℕ). unsaid s j (castParts (shapeOf kind tag) ps)) z) refl
       (adds-alike (unsaid s (t + 1) (castParts (shapeOf kind tag) ps)) (crowded s (shapeOf kind tag) ps) {t = (58 ∷ tag ++ 58 ∷ []) ++ laid (contentLines s (shapeOf kind tag) ps)} (λ _ c. lined-some tag (contentLines s (shapeOf kind tag) ps) (content-some s (shapeOf kind tag) ps w c))
-      (adds-front (58 ∷ tag ++ 58 ∷ []) (laid (contentLines s (shapeOf kind tag) ps)) (tag-puts tag f) a1)))
+      (adds-front (58 ∷ tag ++ 58 ∷ []) (laid (contentLines s (shapeOf kind tag) ps)) f a1)))
 
 -- ---- records one behind another
 moved-then : (o : ℕ) (v w : Verdict) → movedBy o (then v w) ≡ then (movedBy o v) (movedBy o w)

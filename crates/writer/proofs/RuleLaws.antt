@@ -10,7 +10,7 @@ use Rattle.base.specs.declared.Verdict.{Verdict}
 use Rattle.base.specs.declared.Verdict.the-variants.{Fine}
 use Rattle.base.proofs.RuleLaws.{then-fine, then-clean, first-append, first-holds, Clean, first-clean, clean-first}
 use Rattle.records.specs.Rule19.{sheetType}
-use Rattle.message.specs.Handed.{handRules}
+use Rattle.writer.specs.Sheet.{handRules}
 use Rattle.writer.specs.Sheet.{messageFor, sheetRules, EachSheetRule, ownRule, writeRules, NoRefusal}
 
 module _ (P : Verdict → Type 0) (s : List ℕ) where

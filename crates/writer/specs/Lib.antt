@@ -1,2 +1,3 @@
+pub mod Spread
 pub mod Sheet
 pub mod Steps

@@ -1,12 +1,12 @@
 -- What a sheet is written as: 15, 16, the message, then 17 and the message's own refusal (N15-N17, O2, D2d, D3e). Assumes nothing.
 use Prim.Native.Nat.{ℕ, _+_}
 use mathlib.Core.Path.{_≡_}
-use mathlib.Core.Bool.{Bool, false, _||_}
+use mathlib.Core.Bool.{Bool, true, false, _||_}
 use mathlib.Core.List.{List, [], _∷_, _++_, tail}
 use lib.ListN.{length}
 use Rattle.base.specs.Choice.{pick}
 use Rattle.base.specs.Rules.{then}
-use Rattle.base.specs.Calls.{long, short, Gives}
+use Rattle.base.specs.Calls.{Answer, said, stuck, long, short, Gives}
 use Rattle.base.specs.declared.Verdict.{Verdict}
 use Rattle.base.specs.declared.Verdict.the-variants.{Fine, Broken}
 use Rattle.base.specs.declared.Outcome.{Outcome}
@@ -18,16 +18,21 @@ use Rattle.roles.specs.Speech.{codeSize}
 use Rattle.roles.specs.declared.Shape.{Shape}
 use Rattle.roles.specs.declared.Shape.the-variants.{Plain, Payer, Payee, Agent, Details, Note103, Note202}
 use Rattle.judge.specs.Message.{verdictOf}
-use Rattle.message.specs.Handed.{atStart, handRules}
 use Rattle.records.specs.Record.{Record, records}
 use Rattle.records.specs.Places.{nextOf}
 use Rattle.records.specs.Rule19.{sheetType, sheetSign, rule19}
 use Rattle.details.specs.declared.Place.the-variants.{In70}
+use Rattle.details.specs.declared.Size.{Size}
+use Rattle.details.specs.declared.Size.the-variants as size
 use Rattle.details.specs.Layouts.{sizeFor}
-use Rattle.lines.specs.Steps.{stoppedAt, isUnfit}
-use Rattle.lines.specs.Spread.{saidPart, castParts, told, notePlace, spread}
+use Rattle.writer.specs.Spread.{saidPart, castParts, told, notePlace, spread}
 
 -- ---- 15: the first byte of the sheet that can't be written
+-- a text whose first byte is at o stops
+abbrev pub stoppedAt : ℕ → Answer → Verdict
+stoppedAt o (said t) = Fine
+stoppedAt o (stuck k) = Broken 15 (o + k)
+
 -- parts one behind another, the first at o
 unfoldable pub unsaid : Bool → ℕ → List Part → Verdict
 unsaid s o [] = Fine
@@ -39,6 +44,10 @@ rule15 kind s o [] = Fine
 rule15 kind s o (field t ps ∷ rs) = then (unsaid s (o + length t + 1) (castParts (shapeOf kind t) ps)) (rule15 kind s (nextOf o (field t ps)) rs)
 
 -- ---- 16: details that don't go into the lines of their field
+abbrev pub isUnfit : Size → Bool
+isUnfit (size.Bytes n) = false
+isUnfit size.Unfit = true
+
 abbrev pub crowdedNote : Bool → List (List ℕ) → Bool
 crowdedNote s [] = false
 crowdedNote s (r ∷ ps) = isUnfit (sizeFor (notePlace r) (codeSize s) (told s ps))
@@ -78,6 +87,14 @@ pub record EachSheetRule (P : Verdict → Type 0) (s : List ℕ) : Type 0 where
   pub type : P (rule18 (sheetType s))
   pub texts : P (rule15 (sheetType s) (sheetSign s) 0 (records s))
   pub details : P (rule16 (sheetType s) (sheetSign s) (tail (records s)))
+
+-- ---- a message handed over: 17, then its own refusal, which has place 0, since nobody has seen the message
+abbrev pub atStart : Verdict → Verdict
+atStart Fine = Fine
+atStart (Broken n p) = Broken n 0
+
+abbrev pub handRules : ℕ → List ℕ → List ℕ → List Verdict
+handRules kind m out = short m out ∷ atStart (verdictOf kind m) ∷ []
 
 -- ---- the call: what is known before the room is looked at, then 17, then the message's own refusal
 abbrev pub ownRule : List ℕ → Verdict

@@ -1,19 +1,48 @@
 -- What the functions say that put a sheet's message into room (S6, S7, N15-N17). Assumes nothing.
-use Prim.Native.Nat.{ℕ, _+_}
-use mathlib.Core.Bool.{Bool}
+use Prim.Native.Nat.{ℕ, _+_, _≤_}
+use mathlib.Core.Path.{_≡_}
+use mathlib.Core.Bool.{Bool, true, false}
 use mathlib.Core.List.{List, map}
-use lib.Dec.{ltb}
 use lib.ListN.{length}
-use Rattle.base.specs.Choice.{pick}
+use lib.Seq.{sets}
+use Rattle.base.specs.Calls.{Gives}
 use Rattle.base.specs.declared.Verdict.{Verdict}
+use Rattle.base.specs.declared.Verdict.the-variants.{Fine, Broken}
 use Rattle.base.specs.declared.Outcome.{Outcome}
-use Rattle.base.specs.declared.Outcome.the-variants.{Refused}
-use Rattle.fields.specs.Field.{field}
+use Rattle.fields.specs.Field.{field, laid}
 use Rattle.roles.specs.Role.{shapeOf}
+use Rattle.roles.specs.Speech.{codeSize}
 use Rattle.records.specs.Record.{Record, recordOf, front}
 use Rattle.records.specs.Found.{piecesAt}
-use Rattle.lines.specs.Spread.{castParts}
-use Rattle.writer.specs.Sheet.{unsaid, crowded}
+use Rattle.details.specs.declared.Place.{Place}
+use Rattle.details.specs.Layouts.{linesFor, sizeFor}
+use Rattle.writer.specs.Spread.{coded, castParts, told}
+use Rattle.writer.specs.Sheet.{isUnfit, unsaid, crowded, handRules}
+use Rattle.writer.specs.declared.Step.{Step}
+use Rattle.writer.specs.declared.Step.the-variants.{Stuck, Unfit, Put}
+
+-- ---- a step: t is put into the room from `at` on, as far as it is there, unless a rule stops it or details are crowded
+abbrev pub came : Verdict → Bool → ℕ → Step
+came (Broken k p) b n = Stuck p
+came Fine true n = Unfit
+came Fine false n = Put n
+
+pub record Adds (v : Verdict) (b : Bool) (t out : List ℕ) (at : ℕ) (r : Step) (after : List ℕ) : Type 0 where
+  pub answers : r ≡ came v b (at + length t)
+  pub fills : v ≡ Fine → b ≡ false → at + length t ≤ length out → after ≡ sets out at t
+
+-- the places that a step names are so small
+abbrev pub near : ℕ
+near = 100000000
+
+pub data Within : Step → ℕ → ℕ → Type 0 where
+  stuckIn : {p k n : ℕ} → p ≤ k → Within (Stuck p) k n
+  unfitIn : {k n : ℕ} → Within Unfit k n
+  putIn : {m k n : ℕ} → m ≤ n → Within (Put m) k n
+
+-- ---- details: VO digits, the first at o, and a text, as the lines of their place
+abbrev pub Tells : Bool → Place → ℕ → List (List ℕ) → List ℕ → ℕ → Step → List ℕ → Type 0
+Tells s p o ps out at r after = Adds (unsaid s o (coded ps)) (isUnfit (sizeFor p (codeSize s) (told s ps))) (laid (linesFor p (codeSize s) (told s ps))) out at r after
 
 -- ---- records
 abbrev pub recordStops : ℕ → Bool → Record → Verdict
@@ -26,6 +55,6 @@ recordCrowded kind s (field t ps) = crowded s (shapeOf kind t) ps
 abbrev pub recordsAt : List ℕ → ℕ → List Record
 recordsAt s i = map recordOf (front (piecesAt 10 s i))
 
--- a message over the limit: 17, then 1
-unfoldable pub longRefusal : ℕ → ℕ → Outcome
-longRefusal size room = pick (ltb room size) (Refused 17 size) (Refused 1 0)
+-- ---- the message handed over
+abbrev pub Hands : ℕ → List ℕ → List ℕ → Outcome → List ℕ → Type 0
+Hands kind m out r after = Gives (handRules kind m out) m out r after

@@ -1,26 +1,26 @@
 // Records as fields, and the whole message.
 ghost use mathlib.Core.Path.{_≡_};
 ghost use mathlib.Core.Bool.{true};
+ghost use mathlib.Core.List.{[], _∷_, _++_};
 ghost use Prim.Native.Nat.{_+_, _*_, _≤_};
 ghost use lib.ListN.{length};
+ghost use Rattle.base.specs.Calls.{Puts};
 ghost use Rattle.base.specs.declared.Verdict.the-variants.{Fine};
 ghost use Rattle.fields.specs.Field.{laid, lined, message};
 ghost use Rattle.records.specs.Record.{recordOf};
 ghost use Rattle.records.specs.Found.{piecesAt, badLine};
 ghost use Rattle.records.specs.Rule19.{good, sound};
-ghost use Rattle.lines.specs.Spread.{castParts, contentLines, fieldFor, spread};
+ghost use Rattle.writer.specs.Spread.{castParts, contentLines, fieldFor, spread};
 ghost use Rattle.writer.specs.Sheet.{unsaid, crowded, rule15, someCrowded};
-ghost use Rattle.lines.specs.Steps.{Adds, Within, near};
-ghost use Rattle.writer.specs.Steps.{recordStops, recordCrowded, recordsAt};
+ghost use Rattle.writer.specs.Steps.{Adds, Within, near, recordStops, recordCrowded, recordsAt};
+use super::Step;
 use super::notes::put_note;
 use super::notes::put_rpp;
 use super::parts::put_parts;
+use super::purposes::put_purpose;
 use base::bytes::put;
 use base::marks::mark_at;
 use details::Place;
-use lines::Step;
-use lines::purposes::put_purpose;
-use lines::tags::put_tag;
 use records::tags::tag_number;
 use roles::Shape;
 use roles::parts::first_role;
@@ -32,11 +32,22 @@ fn put_content(shape: Shape, sign: bool, l: &[u8], i: usize, out: &mut [u8], at:
     ensures { λ r. ⌜ Adds (unsaid sign i (castParts shape (piecesAt 9 (now (l .entry)) i))) (crowded sign shape (piecesAt 9 (now (l .entry)) i)) (laid (contentLines sign shape (piecesAt 9 (now (l .entry)) i))) (now (out .entry)) at r (now (out .exit)) × Within r (length (now (l .entry))) (at + 4 * length (now (l .entry)) + 300) ⌝ }
 {
     match shape {
-        Shape::Details => put_purpose(sign, Place::In70, l, i, out, at as u32),
+        Shape::Details => put_purpose(sign, Place::In70, l, i, out, at),
         Shape::Note103 => put_rpp(l, i, l.len(), out, at),
         Shape::Note202 => put_note(sign, l, i, out, at),
         _ => put_parts(sign, first_role(shape), l, i, out, at),
     }
+}
+
+// Colon, tag, colon: the place behind.
+fn put_tag(t: &[u8], out: &mut [u8], at: usize) -> usize
+    requires { ⌜ (length (now t) ≤ 10000) × (at ≤ near) ⌝ }
+    ensures { λ r. ⌜ Puts (58 ∷ now (t .entry) ++ 58 ∷ []) (now (out .entry)) at r (now (out .exit)) ⌝ }
+{
+    put(out, at, b":");
+    put(out, at + 1, t);
+    put(out, at + 1 + t.len(), b":");
+    at + t.len() + 2
 }
 
 // A record, without its LF, as a field.
@@ -47,7 +58,7 @@ fn put_record(kind: u32, sign: bool, l: &[u8], out: &mut [u8], at: usize) -> Ste
     let t = mark_at(b'\t', l, 0);
     let tag = &l[..t];
     let shape = shape_of(kind, tag_number(tag));
-    let n = put_tag(tag, out, at as u32);
+    let n = put_tag(tag, out, at);
     put_content(shape, sign, l, t + 1, out, n)
 }
 

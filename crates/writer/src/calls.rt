@@ -1,31 +1,31 @@
 // The call: a sheet judged, its message built in room of its own, and that handed over.
-ghost use mathlib.Core.Path.{_≡_};
+ghost use Prim.Native.Nat.{_≤_};
+ghost use lib.ListN.{length};
 ghost use Rattle.writer.specs.Sheet.{MessageTo};
-ghost use Rattle.writer.specs.Steps.{longRefusal};
+ghost use Rattle.writer.specs.Steps.{Hands};
+use super::Step;
 use super::built::put_message;
 use base::Outcome;
 use base::Verdict;
-use lines::Step;
-use message::handed::hand_over;
+use base::bytes::put;
+use judge::calls::judge;
 use records::sheets::judge_sheet;
 
 // As many bytes as a sheet or a message may have.
 const ROOM: usize = 10000;
 
-// A message over the limit: 17, then 1.
-fn refuse_long(size: usize, room: usize) -> Outcome
-    ensures { λ r. ⌜ r ≡ longRefusal size room ⌝ }
+// The message put into the lent room, which has room for it; or its own refusal, with place 0.
+fn hand_over(kind: u32, m: &[u8], out: &mut [u8]) -> Outcome
+    requires { ⌜ length (now m) ≤ length (now out) ⌝ }
+    ensures { λ r. ⌜ Hands kind (now (m .entry)) (now (out .entry)) r (now (out .exit)) ⌝ }
 {
-    if room < size {
-        return Outcome::Refused {
-            number: 17,
-            place: size,
-        };
+    let f = judge(kind, m);
+    let verdict = f.verdict;
+    if let Verdict::Broken { number, place } = verdict {
+        return Outcome::Refused { number, place: 0 };
     }
-    Outcome::Refused {
-        number: 1,
-        place: 0,
-    }
+    put(out, 0, m);
+    Outcome::Done(m.len())
 }
 
 // The message for a sheet. It is built in room of its own, so that what stops half way has written nothing.
@@ -55,8 +55,17 @@ pub fn to_message(sheet: &[u8], out: &mut [u8]) -> Outcome
             place: 0,
         },
         Step::Put(n) => {
+            if out.len() < n {
+                return Outcome::Refused {
+                    number: 17,
+                    place: n,
+                };
+            }
             if ROOM < n {
-                return refuse_long(n, out.len());
+                return Outcome::Refused {
+                    number: 1,
+                    place: 0,
+                };
             }
             hand_over(kind, &m[..n], out)
         }

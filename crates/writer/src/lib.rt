@@ -3,3 +3,13 @@ mod built;
 pub mod calls;
 mod notes;
 mod parts;
+mod purposes;
+mod texts;
+
+// What putting something into the room comes to: a byte of the sheet can't be written, details don't fit their lines, or the place behind.
+// The place counts on where the room has ended.
+pub(crate) enum Step {
+    Stuck(usize),
+    Unfit,
+    Put(usize),
+}

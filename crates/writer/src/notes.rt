@@ -9,15 +9,15 @@ ghost use Rattle.fields.specs.Field.{laid};
 ghost use Rattle.roles.specs.declared.Shape.the-variants.{Note202};
 ghost use Rattle.records.specs.Found.{piecesAt};
 ghost use Rattle.records.specs.Rule19.{noted};
-ghost use Rattle.lines.specs.Spread.{castParts, rppLine, noteLines};
-ghost use Rattle.lines.specs.Steps.{stoppedAt, Adds, Within, near};
-ghost use Rattle.writer.specs.Sheet.{unsaid, crowdedNote};
+ghost use Rattle.writer.specs.Spread.{castParts, rppLine, noteLines};
+ghost use Rattle.writer.specs.Sheet.{stoppedAt, unsaid, crowdedNote};
+ghost use Rattle.writer.specs.Steps.{Adds, Within, near};
+use super::Step;
+use super::purposes::put_purpose;
+use super::texts::put_line;
 use base::bytes::put;
 use base::marks::mark_at;
 use details::Place;
-use lines::Step;
-use lines::purposes::put_purpose;
-use lines::texts::put_line;
 
 // The line with what follows /RPP/: the part from i to e.
 pub(crate) fn put_rpp(l: &[u8], i: usize, e: usize, out: &mut [u8], at: usize) -> Step
@@ -25,7 +25,7 @@ pub(crate) fn put_rpp(l: &[u8], i: usize, e: usize, out: &mut [u8], at: usize) -
     ensures { λ r. ⌜ Adds (stoppedAt i (plainly (take (e - i) (drop i (now (l .entry)))))) false (laid (rppLine (take (e - i) (drop i (now (l .entry)))) ∷ [])) (now (out .entry)) at r (now (out .exit)) × Within r (length (now (l .entry))) (at + 4 * length (now (l .entry)) + 7) ⌝ }
 {
     put(out, at, b"/RPP/");
-    put_line(false, i as u32, &l[i..e], out, (at + 5) as u32)
+    put_line(false, i, &l[i..e], out, at + 5)
 }
 
 // The parts of 72 in a 202.
@@ -35,11 +35,11 @@ pub(crate) fn put_note(sign: bool, l: &[u8], i: usize, out: &mut [u8], at: usize
 {
     let e = mark_at(b'\t', l, i);
     if e == i {
-        return put_purpose(sign, Place::In72, l, e + 1, out, at as u32);
+        return put_purpose(sign, Place::In72, l, e + 1, out, at);
     }
     let r = put_rpp(l, i, e, out, at);
     let Step::Put(n) = r else {
         return r;
     };
-    put_purpose(sign, Place::BehindRpp, l, e + 1, out, n as u32)
+    put_purpose(sign, Place::BehindRpp, l, e + 1, out, n)
 }

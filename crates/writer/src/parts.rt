@@ -6,12 +6,12 @@ ghost use lib.ListN.{length};
 ghost use Rattle.fields.specs.Field.{laid};
 ghost use Rattle.roles.specs.Parts.{castBy};
 ghost use Rattle.records.specs.Found.{piecesAt};
-ghost use Rattle.lines.specs.Spread.{lineFor};
-ghost use Rattle.lines.specs.Steps.{Adds, Within, near};
+ghost use Rattle.writer.specs.Spread.{lineFor};
 ghost use Rattle.writer.specs.Sheet.{unsaid};
+ghost use Rattle.writer.specs.Steps.{Adds, Within, near};
+use super::Step;
+use super::texts::put_line;
 use base::marks::mark_at;
-use lines::Step;
-use lines::texts::put_line;
 use roles::Role;
 use roles::parts::is_spoken;
 use roles::parts::next_role;
@@ -32,7 +32,7 @@ pub(crate) fn put_parts(
         let e = mark_at(b'\t', l, i);
         let p = &l[i..e];
         let spoken = is_spoken(sign, role, p);
-        let r = put_line(spoken, i as u32, p, out, at as u32);
+        let r = put_line(spoken, i, p, out, at);
         let Step::Put(n) = r else {
             return r;
         };

@@ -28,7 +28,7 @@ use Rattle.records.specs.Rule19.{good, sheetType, sheetSign}
 use Rattle.records.specs.Sentences.{Sound}
 use Rattle.records.proofs.RuleLaws.{fine-sound, sound-right}
 use Rattle.records.proofs.SoundLaws.{sound-each, sound-sign}
-use Rattle.lines.specs.Spread.{lineFor, contentLines, fieldFor, spread}
+use Rattle.writer.specs.Spread.{lineFor, contentLines, fieldFor, spread}
 use Rattle.writer.specs.Sheet.{crowded, fieldsOf, messageFor, sheetRules}
 use Rattle.writer.proofs.RuleLaws.{sheet-rules}
 use Rattle.written.proofs.ReadyLaws.{speaking, roomy, rule15-fine, rule16-fine, Ready, fair-proper, ready-fair}

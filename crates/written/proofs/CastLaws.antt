@@ -28,7 +28,7 @@ use Rattle.details.specs.Lines.{together}
 use Rattle.details.specs.Layouts.{layout, linesFor}
 use Rattle.details.specs.declared.Place.{Place}
 use Rattle.details.specs.declared.Place.the-variants.{In70, In72, BehindRpp}
-use Rattle.lines.specs.Spread.{lineFor, code}
+use Rattle.writer.specs.Spread.{lineFor, code}
 use Rattle.written.proofs.SpeltLaws.{said-is, plain-same, slash, spelt-head, spelt-tax}
 use Rattle.written.proofs.ReadyLaws.{speaks, Laid}
 

@@ -26,9 +26,8 @@ use Rattle.details.specs.declared.Place.the-variants.{In70, In72, BehindRpp}
 use Rattle.details.specs.declared.Size.{Size}
 use Rattle.details.specs.declared.Size.the-variants.{Bytes, Unfit}
 use Rattle.details.proofs.Theorems.{Fitted, fitted}
-use Rattle.lines.specs.Spread.{castParts, lineFor, told, rppLine, contentLines, fieldFor, spread}
-use Rattle.lines.specs.Steps.{isUnfit}
-use Rattle.writer.specs.Sheet.{crowded, fieldsOf, messageFor, sheetRules}
+use Rattle.writer.specs.Spread.{castParts, lineFor, told, rppLine, contentLines, fieldFor, spread}
+use Rattle.writer.specs.Sheet.{isUnfit, crowded, fieldsOf, messageFor, sheetRules}
 use Rattle.written.specs.Sentences.{OneByOne, Line, Told, Content, plain, payer, payee, agent, details, note103, note202, behindRpp, Made}
 use Rattle.written.proofs.SpeltLaws.{said-is}
 use Rattle.written.proofs.ReadyLaws.{speaks, Ready}

@@ -27,8 +27,7 @@ use Rattle.judge.specs.Message.{EachRule, verdictOf}
 use Rattle.judge.proofs.RuleLaws.{verdict-holds}
 use Rattle.records.specs.Rule19.{sheetType}
 use Rattle.written.specs.Sentences.{Own}
-use Rattle.message.specs.Handed.{atStart}
-use Rattle.writer.specs.Sheet.{messageFor, sheetRules, ownRule}
+use Rattle.writer.specs.Sheet.{messageFor, sheetRules, atStart, ownRule}
 use Rattle.writer.proofs.RuleLaws.{sheet-rules}
 use Rattle.written.proofs.BuiltLaws.{built-rule2, built-rule3, built-rule4, built-fields}
 use Rattle.written.proofs.TextLaws.{built-rule14}

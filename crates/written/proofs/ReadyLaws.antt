@@ -36,9 +36,8 @@ use Rattle.details.specs.declared.Place.the-variants.{In70, In72, BehindRpp}
 use Rattle.details.specs.declared.Size.{Size}
 use Rattle.details.specs.declared.Size.the-variants.{Bytes, Unfit}
 use Rattle.details.proofs.Theorems.{Fitted, fitted}
-use Rattle.lines.specs.Spread.{saidPart, castParts, lineFor, code, told, rppLine, contentLines}
-use Rattle.lines.specs.Steps.{stoppedAt, isUnfit}
-use Rattle.writer.specs.Sheet.{unsaid, rule15, crowded, someCrowded, rule16}
+use Rattle.writer.specs.Spread.{saidPart, castParts, lineFor, code, told, rppLine, contentLines}
+use Rattle.writer.specs.Sheet.{stoppedAt, unsaid, rule15, isUnfit, crowded, someCrowded, rule16}
 use Rattle.written.proofs.SpeltLaws.{isSaid, said-is, plain-set, spelt-set, spelt-on}
 
 -- ---- 15: every part can be written

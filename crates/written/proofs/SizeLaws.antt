@@ -39,12 +39,12 @@ use Rattle.details.specs.declared.Place.{Place}
 use Rattle.details.specs.declared.Place.the-variants.{In70, In72, BehindRpp}
 use Rattle.details.specs.declared.Size.{Size}
 use Rattle.details.specs.declared.Size.the-variants.{Bytes, Unfit}
-use Rattle.lines.specs.Spread.{coded, castParts, lineFor, told, rppLine, noteLines, contentLines, fieldFor, spread}
+use Rattle.writer.specs.Spread.{coded, castParts, lineFor, told, rppLine, noteLines, contentLines, fieldFor, spread}
 use Rattle.writer.specs.Sheet.{fieldsOf, messageFor, writeRules, MessageTo}
 use Rattle.writer.proofs.RuleLaws.{sheet-rules}
 use Rattle.written.specs.Sentences as why
 use Rattle.written.specs.Sentences.{partsSize, StuckPart, StuckAt, Own, Reason}
-use Rattle.lines.proofs.PurposeLaws.{lines-few, unfit-lines}
+use Rattle.writer.proofs.PurposeLaws.{lines-few, unfit-lines}
 use Rattle.written.proofs.Theorems.{refused-why, written}
 
 -- ---- the lines of parts: no text is written longer than four times its length

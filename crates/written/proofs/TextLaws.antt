@@ -34,10 +34,9 @@ use Rattle.records.proofs.SoundLaws.{calm, cast-calm}
 use Rattle.details.specs.Layouts.{linesFor, sizeFor}
 use Rattle.details.specs.declared.Place.{Place}
 use Rattle.details.specs.declared.Place.the-variants.{In70, In72, BehindRpp}
-use Rattle.lines.specs.Spread.{castParts, lineFor, code, rppLine, contentLines, fieldFor, spread}
-use Rattle.lines.specs.Spread as spread
-use Rattle.lines.specs.Steps.{isUnfit}
-use Rattle.writer.specs.Sheet.{crowded, fieldsOf, sheetRules}
+use Rattle.writer.specs.Spread.{castParts, lineFor, code, rppLine, contentLines, fieldFor, spread}
+use Rattle.writer.specs.Spread as spread
+use Rattle.writer.specs.Sheet.{isUnfit, crowded, fieldsOf, sheetRules}
 use Rattle.written.proofs.SpeltLaws.{said-is, spelt-open}
 use Rattle.written.proofs.ReadyLaws.{speaks, Laid, laid, Ready}
 use Rattle.written.proofs.CastLaws.{turned, untaxed, cast-untaxed, cast-again, frontOf, nextOf, told-again}

@@ -28,8 +28,7 @@ use Rattle.records.specs.Record.{records}
 use Rattle.records.specs.Rule19.{sheetType, sheetSign, rule19}
 use Rattle.records.specs.Sentences.{BadAt}
 use Rattle.records.proofs.RuleLaws.{rule19-bad, bad-rule19}
-use Rattle.message.specs.Handed.{atStart}
-use Rattle.writer.specs.Sheet.{rule15, rule16, messageFor, sheetRules, ownRule, writeRules, MessageTo}
+use Rattle.writer.specs.Sheet.{rule15, rule16, messageFor, sheetRules, atStart, ownRule, writeRules, MessageTo}
 use Rattle.writer.proofs.RuleLaws.{sheet-holds, rules-sheet, write-by, write-rules}
 use Rattle.written.specs.Sentences as why
 use Rattle.written.specs.Sentences.{OneByOne, Made, StuckAt, CrowdedIn, Own, NoType, Reason}

@@ -29,7 +29,7 @@ use Rattle.details.specs.Breaking.{opens}
 use Rattle.details.specs.Layouts.{layout, DivisionIn, marked}
 use Rattle.details.specs.declared.Place.{Place}
 use Rattle.details.specs.declared.Place.the-variants.{In70, In72, BehindRpp}
-use Rattle.lines.specs.Spread.{castParts, code, told, rppLine}
+use Rattle.writer.specs.Spread.{castParts, code, told, rppLine}
 use Rattle.writer.specs.Sheet.{messageFor}
 
 -- ---- lists

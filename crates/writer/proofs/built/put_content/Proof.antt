@@ -3,10 +3,7 @@ use Prim.Native.Nat.{_+_, _*_}
 use native.Mathlib.Omega.{arith}
 use lib.ListN.{length}
 use Rattle.records.specs.Found.{piecesAt}
-use Rattle.details.specs.declared.Place.the-variants.{In70}
-use Rattle.lines.proofs.StepLaws.{within-more}
-use Rattle.lines.proofs.PurposeLaws.{purpose-within}
-use Rattle.writer.proofs.NoteLaws.{details-put}
+use Rattle.writer.proofs.StepLaws.{within-more}
 use Rattle.writer.proofs.PutLaws.{content-parts, content-told, content-note, content-rpp, sole-within, sound-told, sound-note}
 use borrow.Author.Needs.{needs}
 use Rattle.writer.proofs.built.put_content.Statement.{statement}
@@ -15,11 +12,8 @@ use Rattle.writer.proofs.built.put_content.Tie as tie
 enum-told : tie.Need-enum-told
 enum-told c = search needs
 
-cast-put-purpose : tie.Need-cast-put-purpose
-cast-put-purpose c = omega (arith, c .before .before .before .before .before .pre)
-
 put-purpose-requires : tie.Need-put-purpose-requires
-put-purpose-requires c κs = search needs
+put-purpose-requires c κs = let s = c .before .before .before .before .before in let a = s .args in (s .pre .0, omega (arith, s .pre), sound-told (a .sign) (piecesAt 9 (a .l .now) (a .i)) (c .before .enum-told .given .1) (s .pre .3))
 
 enum-told-2 : tie.Need-enum-told-2
 enum-told-2 c = search needs
@@ -47,8 +41,8 @@ returns c =
     let s = c .before .before .before .before .before .before .before .before in
     let a = s .args in
     let e = c .before .before .before .before .enum-told .given .1 in (
-      content-told (a .sign) (a .i) (piecesAt 9 (a .l .now) (a .i)) e (details-put (a .sign) In70 (a .i) _ (a .at) (a .l .now) (s .pre .0) (sound-told (a .sign) (piecesAt 9 (a .l .now) (a .i)) e (s .pre .3)) (c .before .before .put-purpose .ensures)),
-      within-more (length (a .l .now)) (a .at + 4 * length (a .l .now) + 300) (purpose-within (a .sign) In70 (a .l .now) (a .i) (a .out .now) (a .at) (s .pre .0) (c .before .before .put-purpose .ensures)) (omega arith) (omega arith),
+      content-told (a .sign) (a .i) (piecesAt 9 (a .l .now) (a .i)) e (c .before .before .put-purpose .ensures .0),
+      within-more (length (a .l .now)) (a .at + 4 * length (a .l .now) + 300) (c .before .before .put-purpose .ensures .1) (omega arith) (omega arith),
     )
 
 same-length-2 : tie.Need-same-length-2
@@ -74,7 +68,6 @@ put-content-spec =
     tie.close
     (tie.spec
     enum-told
-    cast-put-purpose
     put-purpose-requires
     enum-told-2
     put-rpp-requires

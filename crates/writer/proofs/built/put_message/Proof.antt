@@ -2,7 +2,7 @@
 use borrow.Author.Needs.{needs}
 use Rattle.writer.proofs.CallLaws.{message-put}
 use Rattle.writer.proofs.PutLaws.{bodyOf, ended, good-here, good-on, records-stop, records-on, records-end}
-use Rattle.lines.proofs.StepLaws.{adds-unfit, adds-put, Onward, within-stuck, Goes, goes-unfit, goes-put, within-next}
+use Rattle.writer.proofs.StepLaws.{adds-unfit, adds-put, Onward, within-stuck, Goes, goes-unfit, goes-put, within-next}
 use Rattle.writer.specs.Steps.{recordsAt}
 use Rattle.writer.specs.Sheet.{rule15, someCrowded}
 use Rattle.records.proofs.PieceLaws.{piece-length}

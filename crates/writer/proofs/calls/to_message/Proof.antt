@@ -5,7 +5,7 @@ use native.Mathlib.Omega.{arith}
 use lib.ListN.{length, length-replicate}
 use lib.Seq.{length-take-le}
 use borrow.Author.Needs.{needs}
-use Rattle.writer.proofs.CallLaws.{seven-within, told-good, told-built, sound-stuck, sound-unfit, sound-put, sound-over, too-long-sheet, bad-sheet, verdict-is, kind-is, sign-is}
+use Rattle.writer.proofs.CallLaws.{seven-within, told-good, told-built, sound-stuck, sound-unfit, sound-put, sound-short, sound-over, too-long-sheet, bad-sheet, verdict-is, kind-is, sign-is}
 use Rattle.writer.proofs.calls.to_message.Statement.{statement}
 use Rattle.writer.proofs.calls.to_message.Tie as tie
 
@@ -47,11 +47,20 @@ enum-told-2 c = search needs
 enum-known-n : tie.Need-enum-known-n
 enum-known-n c = search needs
 
-refuse-long-requires : tie.Need-refuse-long-requires
-refuse-long-requires c κs = search needs
-
 returns-3 : tie.Need-returns-3
 returns-3 c =
+    let p = c .before .before .before .before .before in
+    let j = p .before .before .before .before in
+    let a = j .before .before .before .before .args in
+    let s = a .sheet .now in
+    let e = j .judge-sheet .ensures in
+    let v = verdict-is s e (p .before .before .enum-told .given .1) in
+    let w = j .before .if1 .left in
+    let b = told-built s v (kind-is s e) (sign-is s e) (p .put-message .ensures) in
+    sound-short s v w (c .before .before .n .given .1) b (a .out .now) (c .if2 .taken)
+
+returns-4 : tie.Need-returns-4
+returns-4 c =
     let p = c .before .before .before .before .before .before in
     let j = p .before .before .before .before in
     let a = j .before .before .before .before .args in
@@ -60,22 +69,25 @@ returns-3 c =
     let v = verdict-is s e (p .before .before .enum-told .given .1) in
     let w = j .before .if1 .left in
     let b = told-built s v (kind-is s e) (sign-is s e) (p .put-message .ensures) in
-    sound-over s v w (c .before .before .before .n .given .1) b (a .out .now) (c .before .if2 .taken) (c .refuse-long .ensures)
+    sound-over s v w (c .before .before .before .n .given .1) b (a .out .now) (c .before .if2 .left) (c .if3 .taken)
 
 array-share-prefix-m : tie.Need-array-share-prefix-m
 array-share-prefix-m c = search needs
 
 slice-aggregate-hand-over : tie.Need-slice-aggregate-hand-over
 slice-aggregate-hand-over c =
-    let m = c .before .before .before .before .before .before .put-message .last .1 .1 .1 .0 in
+    let m = c .before .before .before .before .before .before .before .put-message .last .1 .1 .1 .0 in
     let z : length m ≡ 10000 = search needs in
-    sym (length-take-le (c .before .before .before .n .given .0 .0) m (omega (arith, z, c .before .if2 .left)))
+    sym (length-take-le (c .before .before .before .before .n .given .0 .0) m (omega (arith, z, c .before .if3 .left)))
 
 hand-over-requires : tie.Need-hand-over-requires
-hand-over-requires c κs = search needs
+hand-over-requires c κs =
+    let m = c .before .before .before .before .before .before .before .before .put-message .last .1 .1 .1 .0 in
+    let z : length m ≡ 10000 = search needs in
+    omega (arith, length-take-le (c .before .before .before .before .before .n .given .0 .0) m (omega (arith, z, c .before .before .if3 .left)), c .before .before .before .if2 .left)
 
-returns-4 : tie.Need-returns-4
-returns-4 c =
+returns-5 : tie.Need-returns-5
+returns-5 c =
     let p = c .before .before .before .before in
     let j = p .before .before .before .before in
     let a = j .before .before .before .before .args in
@@ -86,8 +98,8 @@ returns-4 c =
     let b = told-built s v (kind-is s e) (sign-is s e) (p .put-message .ensures) in
     sound-stuck s v w (a .out .now) (c .before .k .given .1) b
 
-returns-5 : tie.Need-returns-5
-returns-5 c =
+returns-6 : tie.Need-returns-6
+returns-6 c =
     let p = c .before .before .before in
     let j = p .before .before .before .before in
     let a = j .before .before .before .before .args in
@@ -101,9 +113,9 @@ returns-5 c =
 same-length : tie.Need-same-length
 same-length c = search needs
 
-returns-6 : tie.Need-returns-6
-returns-6 c =
-    let p = c .before .before .before .before .before .before .before .before .before .before in
+returns-7 : tie.Need-returns-7
+returns-7 c =
+    let p = c .before .before .before .before .before .before .before .before .before .before .before in
     let j = p .before .before .before .before in
     let a = j .before .before .before .before .args in
     let s = a .sheet .now in
@@ -111,7 +123,7 @@ returns-6 c =
     let v = verdict-is s e (p .before .before .enum-told .given .1) in
     let w = j .before .if1 .left in
     let b = told-built s v (kind-is s e) (sign-is s e) (p .put-message .ensures) in
-    sound-put s v w (c .before .before .before .before .before .before .before .n .given .1) b (kind-is s e) (length-replicate {A = ℕ} 10000 0) (c .before .before .before .before .before .if2 .left) (c .before .before .hand-over .ensures)
+    sound-put s v w (c .before .before .before .before .before .before .before .before .n .given .1) b (kind-is s e) (length-replicate {A = ℕ} 10000 0) (c .before .before .before .before .before .if3 .left) (c .before .before .hand-over .ensures)
 
 pub to-message-spec : {M : Type 1} → statement M
 to-message-spec =
@@ -127,12 +139,12 @@ to-message-spec =
     enum-known-k
     enum-told-2
     enum-known-n
-    refuse-long-requires
     returns-3
+    returns-4
     array-share-prefix-m
     slice-aggregate-hand-over
     hand-over-requires
-    returns-4
     returns-5
+    returns-6
     same-length
-    returns-6)
+    returns-7)

@@ -2,10 +2,8 @@
 use Prim.Native.Nat.{_+_, _*_}
 use native.Mathlib.Omega.{arith}
 use lib.ListN.{length}
-use Rattle.details.specs.declared.Place.the-variants.{In72, BehindRpp}
-use Rattle.lines.proofs.StepLaws.{not-put, within-more, within-put}
-use Rattle.lines.proofs.PurposeLaws.{purpose-within}
-use Rattle.writer.proofs.NoteLaws.{details-put, note-end, note-detailed, note-empty, note-on, note-stop}
+use Rattle.writer.proofs.StepLaws.{not-put, within-more, within-put}
+use Rattle.writer.proofs.NoteLaws.{note-end, note-detailed, note-empty, note-on, note-stop}
 use borrow.Author.Needs.{needs}
 use Rattle.writer.proofs.notes.put_note.Statement.{statement}
 use Rattle.writer.proofs.notes.put_note.Tie as tie
@@ -19,11 +17,11 @@ add-put-purpose c =
     let a = s .args in
     let m = c .before in omega (arith, note-end (a .sign) (a .l .now) (a .i) (m .mark-at .result) (m .mark-at .ensures) (s .pre .2), s .pre)
 
-cast-put-purpose : tie.Need-cast-put-purpose
-cast-put-purpose c = omega (arith, c .before .before .before .before .before .pre)
-
 put-purpose-requires : tie.Need-put-purpose-requires
-put-purpose-requires c κs = search needs
+put-purpose-requires c κs =
+    let s = c .before .before .before .before .before in
+    let a = s .args in
+    let m = c .before .before in (s .pre .0, omega (arith, s .pre), note-detailed (a .sign) (a .l .now) (a .i) (m .mark-at .result) (m .mark-at .ensures) (s .pre .2))
 
 same-length : tie.Need-same-length
 same-length c = search needs
@@ -33,8 +31,8 @@ returns c =
     let s = c .before .before .before .before .before .before .before .before in
     let a = s .args in
     let m = c .before .before .before .before .before in (
-      note-empty (a .sign) (a .l .now) (a .i) (m .mark-at .result) (m .mark-at .ensures) (s .pre .2) (c .before .before .before .before .if1 .taken) (details-put (a .sign) In72 (m .mark-at .result + 1) _ (a .at) (a .l .now) (s .pre .0) (note-detailed (a .sign) (a .l .now) (a .i) (m .mark-at .result) (m .mark-at .ensures) (s .pre .2)) (c .before .before .put-purpose .ensures)),
-      within-more (length (a .l .now)) (a .at + 4 * length (a .l .now) + 300) (purpose-within (a .sign) In72 (a .l .now) (m .mark-at .result + 1) (a .out .now) (a .at) (s .pre .0) (c .before .before .put-purpose .ensures)) (omega arith) (omega arith),
+      note-empty (a .sign) (a .l .now) (a .i) (m .mark-at .result) (m .mark-at .ensures) (s .pre .2) (c .before .before .before .before .if1 .taken) (c .before .before .put-purpose .ensures .0),
+      within-more (length (a .l .now)) (a .at + 4 * length (a .l .now) + 300) (c .before .before .put-purpose .ensures .1) (omega arith) (omega arith),
     )
 
 put-rpp-requires : tie.Need-put-rpp-requires
@@ -64,11 +62,13 @@ add-put-purpose-2 c =
     let a = s .args in
     let m = c .before .before .before .before .before .before .before .before in omega (arith, note-end (a .sign) (a .l .now) (a .i) (m .mark-at .result) (m .mark-at .ensures) (s .pre .2), s .pre)
 
-cast-put-purpose-2 : tie.Need-cast-put-purpose-2
-cast-put-purpose-2 c = omega (arith, within-put (c .before .before .r .given .1) (c .before .before .before .before .before .before .put-rpp .ensures .1), c .before .before .before .before .before .before .before .before .before .before .before .before .pre)
-
 put-purpose-requires-2 : tie.Need-put-purpose-requires-2
-put-purpose-requires-2 c κs = search needs
+put-purpose-requires-2 c κs =
+    let s = c .before .before .before .before .before .before .before .before .before .before .before .before in
+    let a = s .args in
+    let m = c .before .before .before .before .before .before .before .before .before in
+    let n = within-put (c .before .before .r .given .1) (c .before .before .before .before .before .before .put-rpp .ensures .1) in
+    (s .pre .0, omega (arith, n, s .pre), note-detailed (a .sign) (a .l .now) (a .i) (m .mark-at .result) (m .mark-at .ensures) (s .pre .2))
 
 same-length-3 : tie.Need-same-length-3
 same-length-3 c = search needs
@@ -78,10 +78,9 @@ returns-3 c =
     let s = c .before .before .before .before .before .before .before .before .before .before .before .before .before .before .before in
     let a = s .args in
     let m = c .before .before .before .before .before .before .before .before .before .before .before .before in
-    let n = c .before .before .before .before .before .r .given .0 .0 in
     let r = c .before .before .before .before .before .before .before .before .before .put-rpp in (
-      note-on (a .sign) (a .l .now) (a .i) (m .mark-at .result) (m .mark-at .ensures) (s .pre .2) (c .before .before .before .before .before .before .before .before .before .before .before .if1 .left) (c .before .before .before .before .before .r .given .1) (r .ensures .0) (details-put (a .sign) BehindRpp (m .mark-at .result + 1) _ n (a .l .now) (s .pre .0) (note-detailed (a .sign) (a .l .now) (a .i) (m .mark-at .result) (m .mark-at .ensures) (s .pre .2)) (c .before .before .put-purpose2 .ensures)),
-      within-more (length (a .l .now)) (a .at + 4 * length (a .l .now) + 300) (purpose-within (a .sign) BehindRpp (a .l .now) (m .mark-at .result + 1) _ n (s .pre .0) (c .before .before .put-purpose2 .ensures)) (omega arith) (omega (arith, within-put (c .before .before .before .before .before .r .given .1) (r .ensures .1))),
+      note-on (a .sign) (a .l .now) (a .i) (m .mark-at .result) (m .mark-at .ensures) (s .pre .2) (c .before .before .before .before .before .before .before .before .before .before .before .if1 .left) (c .before .before .before .before .before .r .given .1) (r .ensures .0) (c .before .before .put-purpose2 .ensures .0),
+      within-more (length (a .l .now)) (a .at + 4 * length (a .l .now) + 300) (c .before .before .put-purpose2 .ensures .1) (omega arith) (omega (arith, within-put (c .before .before .before .before .before .r .given .1) (r .ensures .1))),
     )
 
 pub put-note-spec : {M : Type 1} → statement M
@@ -90,7 +89,6 @@ put-note-spec =
     (tie.spec
     mark-at-requires
     add-put-purpose
-    cast-put-purpose
     put-purpose-requires
     same-length
     returns
@@ -99,7 +97,6 @@ put-note-spec =
     same-length-2
     returns-2
     add-put-purpose-2
-    cast-put-purpose-2
     put-purpose-requires-2
     same-length-3
     returns-3)

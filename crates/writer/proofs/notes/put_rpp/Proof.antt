@@ -1,12 +1,10 @@
 -- `writer::notes::put_rpp` meets its contract: the mark, then the part as a line. Assumes nothing.
-use Prim.Native.Nat.{_+_, _*_, _-_, _≤_}
+use Prim.Native.Nat.{_+_, _*_, _-_}
 use mathlib.Core.Path.{_≡_}
-use mathlib.Core.Bool.{false}
 use native.Mathlib.Omega.{arith}
 use lib.ListN.{length, take, drop}
 use Rattle.records.proofs.PieceLaws.{piece-length}
-use Rattle.lines.proofs.StepLaws.{within-more}
-use Rattle.lines.proofs.TextLaws.{line-adds, line-within}
+use Rattle.writer.proofs.StepLaws.{within-more}
 use Rattle.writer.proofs.NoteLaws.{rpp-put}
 use borrow.Author.Needs.{needs}
 use Rattle.writer.proofs.notes.put_rpp.Statement.{statement}
@@ -17,9 +15,6 @@ slice-aggregate-put c = search needs
 
 put-requires : tie.Need-put-requires
 put-requires c κs = search needs
-
-cast-put-line : tie.Need-cast-put-line
-cast-put-line c = omega (arith, c .before .before .before .before .before .before .before .pre)
 
 sub-put-line : tie.Need-sub-put-line
 sub-put-line c = omega (arith, c .before .before .before .before .before .before .before .pre)
@@ -33,11 +28,14 @@ part-put-line-end c = omega (arith, c .before .before .before .before .before .b
 add-put-line : tie.Need-add-put-line
 add-put-line c = omega (arith, c .before .before .before .before .before .before .before .before .before .pre)
 
-cast-put-line-2 : tie.Need-cast-put-line-2
-cast-put-line-2 c = omega (arith, c .before .before .before .before .before .before .before .before .before .pre)
-
 put-line-requires : tie.Need-put-line-requires
-put-line-requires c κs = search needs
+put-line-requires c κs =
+    let s = c .before .before .before .before .before .before .before .before .before in
+    let a = s .args in (
+      omega (arith, s .pre, piece-length (a .l .now) (a .i) (a .e) (s .pre .1) (s .pre .2)),
+      omega (arith, s .pre),
+      omega (arith, s .pre),
+    )
 
 same-length : tie.Need-same-length
 same-length c = search needs
@@ -47,10 +45,9 @@ returns c =
     let s = c .before .before .before .before .before .before .before .before .before .before .before .before in
     let a = s .args in
     let p = take (a .e - a .i) (drop (a .i) (a .l .now)) in
-    let z : length p ≡ a .e - a .i = piece-length (a .l .now) (a .i) (a .e) (s .pre .1) (s .pre .2) in
-    let h : length p ≤ 10000 = omega (arith, s .pre) in (
-      rpp-put p (a .i) (c .before .before .before .before .before .before .before .put .ensures) (line-adds false p _ (a .i) (a .at + 5) h (c .before .before .put-line .ensures)),
-      within-more (length (a .l .now)) (a .at + 4 * length (a .l .now) + 7) (line-within false p _ (a .i) (a .at + 5) h (c .before .before .put-line .ensures)) (omega (arith, s .pre)) (omega (arith, s .pre)),
+    let z : length p ≡ a .e - a .i = piece-length (a .l .now) (a .i) (a .e) (s .pre .1) (s .pre .2) in (
+      rpp-put p (a .i) (c .before .before .before .before .before .before .before .put .ensures) (c .before .before .put-line .ensures .0),
+      within-more (length (a .l .now)) (a .at + 4 * length (a .l .now) + 7) (c .before .before .put-line .ensures .1) (omega (arith, s .pre)) (omega (arith, s .pre)),
     )
 
 pub put-rpp-spec : {M : Type 1} → statement M
@@ -59,12 +56,10 @@ put-rpp-spec =
     (tie.spec
     slice-aggregate-put
     put-requires
-    cast-put-line
     sub-put-line
     part-put-line-start
     part-put-line-end
     add-put-line
-    cast-put-line-2
     put-line-requires
     same-length
     returns)

@@ -9,9 +9,8 @@ use Rattle.fields.specs.Field.{laid}
 use Rattle.roles.specs.Parts.{castBy}
 use Rattle.records.specs.Found.{piecesAt}
 use Rattle.records.proofs.PieceLaws.{end-within, piece-length}
-use Rattle.lines.specs.Spread.{lineFor}
-use Rattle.lines.proofs.StepLaws.{in-put, not-put, within-more, within-any, within-put}
-use Rattle.lines.proofs.TextLaws.{line-adds, line-within}
+use Rattle.writer.specs.Spread.{lineFor}
+use Rattle.writer.proofs.StepLaws.{in-put, not-put, within-more, within-any, within-put}
 use Rattle.writer.specs.Sheet.{unsaid}
 use Rattle.writer.proofs.PartLaws.{PartsLeft, parts-on, parts-stop, parts-end}
 use Rattle.writer.proofs.parts.put_parts.Statement.{statement}
@@ -48,14 +47,10 @@ part-p-end c = omega (arith, within c)
 is-spoken-requires : tie.Need-is-spoken-requires Inv-loop μ-loop
 is-spoken-requires c κs = search needs
 
-cast-put-line : tie.Need-cast-put-line Inv-loop μ-loop
-cast-put-line c = omega (arith, within (c .before .before), c .before .before .before .before .before .before .before .pre)
-
-cast-put-line-2 : tie.Need-cast-put-line-2 Inv-loop μ-loop
-cast-put-line-2 c = omega (arith, c .before .before .before .before .before .loop .inv, c .before .before .before .before .before .before .before .before .pre)
-
 put-line-requires : tie.Need-put-line-requires Inv-loop μ-loop
-put-line-requires c κs = search needs
+put-line-requires c κs =
+    let s = c .before .before .before .before .before .before .before .before in
+    let m = c .before .before .before in (omega (arith, sized m, within m, s .pre), omega (arith, within m, s .pre), omega (arith, m .before .before .loop .inv, s .pre))
 
 enum-known-r : tie.Need-enum-known-r Inv-loop μ-loop
 enum-known-r c = search needs
@@ -69,12 +64,10 @@ returns c =
     let s = c .before .before .before .before .before .before .before .before .before .before .before .before in
     let a = s .args in
     let m = c .before .before .before .before .before .before .before in
-    let p = take (m .mark-at .result - l .loop .i) (drop (l .loop .i) (a .l .now)) in
-    let h : length p ≤ 10000 = omega (arith, sized m, within m, s .pre) in
     let w = c .before .before .before in
     let n = not-put (w .put-line .result) (c .match .keys2) in (
-      parts-stop (a .sign) (l .loop .role) (a .l .now) (l .loop .i) (m .mark-at .result) (c .before .before .before .before .before .before .before .before .loop-test .taken) (m .mark-at .ensures) (c .before .before .before .before .before .is-spoken .ensures) (line-adds (c .before .before .before .before .before .is-spoken .result) p _ (l .loop .i) (l .loop .at) h (c .before .before .before .put-line .ensures)) (l .loop .inv .4) n,
-      within-more (length (a .l .now)) (a .at + 4 * length (a .l .now) + 4) (within-any (a .at + 4 * length (a .l .now) + 4) n (line-within (c .before .before .before .before .before .is-spoken .result) p _ (l .loop .i) (l .loop .at) h (c .before .before .before .put-line .ensures))) (omega (arith, sized m, within m)) (omega arith),
+      parts-stop (a .sign) (l .loop .role) (a .l .now) (l .loop .i) (m .mark-at .result) (c .before .before .before .before .before .before .before .before .loop-test .taken) (m .mark-at .ensures) (c .before .before .before .before .before .is-spoken .ensures) (w .put-line .ensures .0) (l .loop .inv .4) n,
+      within-more (length (a .l .now)) (a .at + 4 * length (a .l .now) + 4) (within-any (a .at + 4 * length (a .l .now) + 4) n (w .put-line .ensures .1)) (omega (arith, sized m, within m)) (omega arith),
     )
 
 next-role-requires : tie.Need-next-role-requires Inv-loop μ-loop
@@ -92,14 +85,12 @@ loop-again c =
     let s = c .before .before .before .before .before .before .before .before .before .before .before .before .before .before .before in
     let a = s .args in
     let m = c .before .before .before .before .before .before .before .before .before .before in
-    let p = take (m .mark-at .result - l .loop .i) (drop (l .loop .i) (a .l .now)) in
-    let h : length p ≤ 10000 = omega (arith, sized m, within m, s .pre) in
     let q = c .before .before in (
       search needs,
       omega (arith, within m),
       omega (arith, l .loop .inv, m .mark-at .ensures),
-      omega (arith, sized m, within m, l .loop .inv, m .mark-at .ensures, within-put (q .r .given .1) (line-within (c .before .before .before .before .before .before .before .before .is-spoken .result) p _ (l .loop .i) (l .loop .at) h (c .before .before .before .before .before .before .put-line .ensures))),
-      parts-on (a .sign) (l .loop .role) (a .l .now) (l .loop .i) (m .mark-at .result) (c .before .before .before .before .before .before .before .before .before .before .before .loop-test .taken) (m .mark-at .ensures) (c .before .before .before .before .before .before .before .before .is-spoken .ensures) (line-adds (c .before .before .before .before .before .before .before .before .is-spoken .result) p _ (l .loop .i) (l .loop .at) h (c .before .before .before .before .before .before .put-line .ensures)) (l .loop .inv .4) (q .r .given .1) (c .next-role .ensures),
+      omega (arith, sized m, within m, l .loop .inv, m .mark-at .ensures, within-put (q .r .given .1) (c .before .before .before .before .before .before .put-line .ensures .1)),
+      parts-on (a .sign) (l .loop .role) (a .l .now) (l .loop .i) (m .mark-at .result) (c .before .before .before .before .before .before .before .before .before .before .before .loop-test .taken) (m .mark-at .ensures) (c .before .before .before .before .before .before .before .before .is-spoken .ensures) (c .before .before .before .before .before .before .put-line .ensures .0) (l .loop .inv .4) (q .r .given .1) (c .next-role .ensures),
     )
 
 same-length-2 : tie.Need-same-length-2 Inv-loop μ-loop
@@ -121,8 +112,6 @@ put-parts-spec =
     part-p-start
     part-p-end
     is-spoken-requires
-    cast-put-line
-    cast-put-line-2
     put-line-requires
     enum-known-r
     same-length

@@ -1,4 +1,0 @@
-pub mod StepLaws
-pub mod TextLaws
-pub mod PurposeLaws
-pub mod Theorems

@@ -1,0 +1,77 @@
+// Details with their code.
+ghost use mathlib.Core.Path.{_≡_};
+ghost use mathlib.Core.Bool.{true};
+ghost use Prim.Native.Nat.{_+_, _≤_};
+ghost use lib.ListN.{length};
+ghost use Rattle.base.specs.Calls.{Puts};
+ghost use Rattle.base.specs.declared.Verdict.the-variants.{Fine};
+ghost use Rattle.fields.specs.Field.{laid};
+ghost use Rattle.roles.specs.Speech.{codeSize};
+ghost use Rattle.records.specs.Found.{piecesAt};
+ghost use Rattle.records.specs.Rule19.{detailed};
+ghost use Rattle.details.specs.Layouts.{sizeFor, linesFor};
+ghost use Rattle.writer.specs.Spread.{code};
+ghost use Rattle.writer.specs.Sheet.{isUnfit};
+ghost use Rattle.writer.specs.Steps.{Adds, Within, near, Tells};
+use super::Step;
+use super::texts::put_text;
+use base::bytes::put;
+use details::Place;
+use details::Size;
+use details::lay;
+use details::size_of;
+
+// The code with its VO digits; answers its size.
+fn put_code(sign: bool, vo: &[u8], out: &mut [u8]) -> usize
+    requires { ⌜ (length (now vo) ≡ 5) × (11 ≤ length (now out)) ⌝ }
+    ensures { λ r. ⌜ (r ≡ codeSize sign) × (r ≤ 11) × Puts (code sign (now (vo .entry))) (now (out .entry)) 0 r (now (out .exit)) ⌝ }
+{
+    if sign {
+        put(out, 0, b"'(VO");
+        put(out, 4, vo);
+        put(out, 9, b")'");
+        return 11;
+    }
+    put(out, 0, b"(VO");
+    put(out, 3, vo);
+    put(out, 8, b")");
+    9
+}
+
+// A text broken into the lines of its place.
+fn lay_lines(place: Place, least: usize, text: &[u8], out: &mut [u8], at: usize) -> Step
+    requires { ⌜ at ≤ near ⌝ }
+    ensures { λ r. ⌜ Adds Fine (isUnfit (sizeFor place least (now (text .entry)))) (laid (linesFor place least (now (text .entry)))) (now (out .entry)) at r (now (out .exit)) × Within r 0 (at + 250) ⌝ }
+{
+    let size = size_of(place, least, text);
+    let Size::Bytes(n) = size else {
+        return Step::Unfit;
+    };
+    lay(place, least, text, out, at);
+    put(out, at + n, b"\r\n");
+    Step::Put(at + n + 2)
+}
+
+// Details: from i on five VO digits, a tab, and the text up to the end. No place has room for more than 250 bytes.
+pub(crate) fn put_purpose(
+    sign: bool,
+    place: Place,
+    l: &[u8],
+    i: usize,
+    out: &mut [u8],
+    at: usize,
+) -> Step
+    requires { ⌜ (length (now l) ≤ 10000) × (at ≤ near) × (detailed (piecesAt 9 (now l) i) ≡ true) ⌝ }
+    ensures { λ r. ⌜ Tells sign place i (piecesAt 9 (now (l .entry)) i) (now (out .entry)) at r (now (out .exit)) × Within r (length (now (l .entry))) (at + 250) ⌝ }
+{
+    let mut line = [0u8; 250];
+    let least = put_code(sign, &l[i..i + 5], &mut line);
+    let r = put_text(sign, i + 6, &l[i + 6..], &mut line, least);
+    let Step::Put(n) = r else {
+        return r;
+    };
+    if 250 < n {
+        return Step::Unfit;
+    }
+    lay_lines(place, least, &line[..n], out, at)
+}
