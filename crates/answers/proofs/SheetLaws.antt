@@ -19,6 +19,8 @@ use Rattle.base.specs.declared.Outcome.the-variants.{Done, Refused}
 use Rattle.base.proofs.RuleLaws.{fine-broken, first-last, then-clean}
 use Rattle.base.proofs.CallLaws.{gives-one, gives-refused, gives-past, not-short, is-long}
 use Rattle.fields.specs.Frame.{limit, rule1}
+use Rattle.types.specs.Form.{formOf}
+use Rattle.types.specs.declared.Form.{Form}
 use Rattle.types.specs.Walk.{rule18}
 use Rattle.judge.specs.Message.{messageRules, verdictOf}
 use Rattle.judge.proofs.SmallLaws.{verdict-small}
@@ -28,7 +30,7 @@ use Rattle.sheets.specs.Gather.{sheetOf}
 use Rattle.sheets.specs.Calls.{readRules, SheetTo}
 use Rattle.trips.proofs.Theorems.{sheet-size}
 use Rattle.answers.specs.Line.{refusalLine, shown, Shows}
-use Rattle.answers.specs.Programs.{namesType, messageIn, typeRule, sheetVerdict, sheetAnswer, SheetAnswered, inputRead}
+use Rattle.answers.specs.Programs.{namesType, messageIn, typeRule, sheetVerdict, sheetAnswer, SheetAnswered, inputRead, formFor}
 use Rattle.answers.specs.Steps.{ReadsNamed, shownOf}
 use Rattle.answers.proofs.CallLaws.{shown-is, shows-done, shows-front}
 use Rattle.answers.proofs.Theorems.{line-fits}
@@ -40,36 +42,36 @@ sheet-answer-one i out g h = gives-one g h
 
 -- ---- the type in front
 pub reads-untyped : (i m : List ℕ) → namesType i ≡ false → ReadsNamed i m (Refused 18 0) m
-reads-untyped i m e = gives-refused _ _ m 18 0 (ap (λ (b : Bool). then (pick b Fine (Broken 18 0)) (first (readRules (number i) (messageIn i) m))) e)
+reads-untyped i m e = gives-refused _ _ m 18 0 (ap (λ (b : Bool). then (pick b Fine (Broken 18 0)) (first (readRules (formFor i) (messageIn i) m))) e)
 
-pub reads-typed : (i m : List ℕ) {kind : ℕ} {t after : List ℕ} {r : Outcome} → namesType i ≡ true → kind ≡ number i → t ≡ messageIn i → SheetTo kind t m r after → ReadsNamed i m r after
+pub reads-typed : (i m : List ℕ) {n : ℕ} {form : Form} {t after : List ℕ} {r : Outcome} → namesType i ≡ true → n ≡ number i → form ≡ formOf n → t ≡ messageIn i → SheetTo form t m r after → ReadsNamed i m r after
 unfolding SheetTo
-reads-typed i m {kind} {t} {after} {r} e k q g =
+reads-typed i m {n} {form} {t} {after} {r} e k f q g =
     gives-past (ap (λ (b : Bool). pick b Fine (Broken 18 0)) e)
-    (subst (λ (x : List ℕ). SheetTo (number i) x m r after) q (subst (λ (x : ℕ). SheetTo x t m r after) k g))
+    (subst (λ (x : List ℕ). SheetTo (formFor i) x m r after) q (subst (λ (x : Form). SheetTo x t m r after) (f ∙ ap formOf k) g))
 
 -- ---- with 10,000 bytes the room is never too short
-room-last : (i m : List ℕ) → length m ≡ limit → first (typeRule i ∷ readRules (number i) (messageIn i) m) ≡ sheetVerdict i
+room-last : (i m : List ℕ) → length m ≡ limit → first (typeRule i ∷ readRules (formFor i) (messageIn i) m) ≡ sheetVerdict i
 unfolding verdictOf
-room-last i m l = first-last (typeRule i ∷ messageRules (number i) (messageIn i)) (short (sheetOf (number i) (messageIn i)) m) ∙ go (sheetVerdict i) refl
+room-last i m l = first-last (typeRule i ∷ messageRules (formFor i) (messageIn i)) (short (sheetOf (formFor i) (messageIn i)) m) ∙ go (sheetVerdict i) refl
   where
-    go : (v : Verdict) → sheetVerdict i ≡ v → then v (short (sheetOf (number i) (messageIn i)) m) ≡ v
+    go : (v : Verdict) → sheetVerdict i ≡ v → then v (short (sheetOf (formFor i) (messageIn i)) m) ≡ v
     go (Broken n p) e = refl
     go Fine e =
-        not-short (sheetOf (number i) (messageIn i)) m
-        (omega (arith, sheet-size (number i) (messageIn i) (then-clean (typeRule i) (first (messageRules (number i) (messageIn i))) e .1)))
+        not-short (sheetOf (formFor i) (messageIn i)) m
+        (omega (arith, sheet-size (formFor i) (messageIn i) (then-clean (typeRule i) (first (messageRules (formFor i) (messageIn i))) e .1)))
 
 module _ (i old m : List ℕ) (l : length old ≡ limit) (a : Outcome) (g : ReadsNamed i old a m) where
   pub sheet-answered : {out after : List ℕ} {r : Outcome} → Shows (shownOf a m) out r after → SheetAnswered i out r after
   unfolding SheetAnswered sheetAnswer
   sheet-answered {out} {after} {r} h =
-      subst (λ (t : List ℕ). Shows t out r after) (shown-is _ _ old m g ∙ ap (λ (v : Verdict). shown v (sheetOf (number i) (messageIn i))) (room-last i old l)) h
+      subst (λ (t : List ℕ). Shows t out r after) (shown-is _ _ old m g ∙ ap (λ (v : Verdict). shown v (sheetOf (formFor i) (messageIn i))) (room-last i old l)) h
 
 -- ---- it fits 10,000 bytes
-fits-by : (i : List ℕ) (v : Verdict) → sheetVerdict i ≡ v → length (shown v (sheetOf (number i) (messageIn i))) ≤ limit
+fits-by : (i : List ℕ) (v : Verdict) → sheetVerdict i ≡ v → length (shown v (sheetOf (formFor i) (messageIn i))) ≤ limit
 unfolding verdictOf
-fits-by i Fine e = sheet-size (number i) (messageIn i) (then-clean (typeRule i) (first (messageRules (number i) (messageIn i))) e .1)
-fits-by i (Broken n p) e = go (namesType i) (first (messageRules (number i) (messageIn i))) (verdict-small (number i) (messageIn i)) e
+fits-by i Fine e = sheet-size (formFor i) (messageIn i) (then-clean (typeRule i) (first (messageRules (formFor i) (messageIn i))) e .1)
+fits-by i (Broken n p) e = go (namesType i) (first (messageRules (formFor i) (messageIn i))) (verdict-small (formFor i) (messageIn i)) e
   where
     go : (b : Bool) (v : Verdict) → verdicts.Small limit v → then (pick b Fine (Broken 18 0)) v ≡ Broken n p → length (refusalLine n p) ≤ limit
     go true Fine s f = absurd (fine-broken n p f)
@@ -89,13 +91,13 @@ unfolding SheetAnswered
 sheet-front i out after r k g e = shows-front (sheetAnswer i) out after r k g e
 
 -- ---- what stands behind the first 10,005 bytes changes nothing
-over-verdict : (kind : ℕ) (m : List ℕ) → limit < length m → verdictOf kind m ≡ then (rule18 kind) (Broken 1 limit)
+over-verdict : (form : Form) (m : List ℕ) → limit < length m → verdictOf form m ≡ then (rule18 form) (Broken 1 limit)
 unfolding verdictOf rule1
-over-verdict kind m h = rw (is-long limit m h)
+over-verdict form m h = rw (is-long limit m h)
 
-over-answer : (i : List ℕ) → limit < length (messageIn i) → sheetVerdict i ≡ then (typeRule i) (then (rule18 (number i)) (Broken 1 limit))
+over-answer : (i : List ℕ) → limit < length (messageIn i) → sheetVerdict i ≡ then (typeRule i) (then (rule18 (formFor i)) (Broken 1 limit))
 unfolding verdictOf
-over-answer i h = ap (then (typeRule i)) (over-verdict (number i) (messageIn i) h)
+over-answer i h = ap (then (typeRule i)) (over-verdict (formFor i) (messageIn i) h)
 
 never-fine : (v w : Verdict) (n p : ℕ) → then v (then w (Broken n p)) ≡ Fine → ⊥
 never-fine Fine Fine n p e = fine-broken n p (sym e)
@@ -130,8 +132,8 @@ sheet-answer-read i = go (decLt (limit + 5) (length i))
     same : (k : ℕ) → k < limit + 5 → byte j k ≡ byte i k
     same k h = same-front i (limit + 5) k h
 
-    kinds : number j ≡ number i
-    kinds = number-same i j (same 0 (omega arith)) (same 1 (omega arith)) (same 2 (omega arith))
+    forms : formFor j ≡ formFor i
+    forms = ap formOf (number-same i j (same 0 (omega arith)) (same 1 (omega arith)) (same 2 (omega arith)))
 
     types : namesType j ≡ namesType i
     types = type-same i j (same 0 (omega arith)) (same 1 (omega arith)) (same 2 (omega arith)) (same 3 (omega arith))
@@ -142,5 +144,5 @@ sheet-answer-read i = go (decLt (limit + 5) (length i))
         let a : limit < length (messageIn j) = omega (arith, length-drop 4 j, length-take-le (limit + 5) i (omega arith)) in
         let b : limit < length (messageIn i) = omega (arith, length-drop 4 i) in
         let v : sheetVerdict j ≡ sheetVerdict i =
-        over-answer j a ∙ ap₂ (λ (q : Bool) (k : ℕ). then (pick q Fine (Broken 18 0)) (then (rule18 k) (Broken 1 limit))) types kinds ∙ sym (over-answer i b) in
-        shown-same (sheetVerdict j) (sheetVerdict i) _ _ v (λ e. never-fine (typeRule j) (rule18 (number j)) 1 limit (sym (over-answer j a) ∙ e))
+        over-answer j a ∙ ap₂ (λ (q : Bool) (k : Form). then (pick q Fine (Broken 18 0)) (then (rule18 k) (Broken 1 limit))) types forms ∙ sym (over-answer i b) in
+        shown-same (sheetVerdict j) (sheetVerdict i) _ _ v (λ e. never-fine (typeRule j) (rule18 (formFor j)) 1 limit (sym (over-answer j a) ∙ e))

@@ -26,7 +26,7 @@ use Rattle.fields.specs.Field.{upto, past, message}
 use Rattle.fields.specs.Frame.{limit, rule1}
 use Rattle.fields.proofs.TagLaws.{upto-at, past-at}
 use Rattle.judge.proofs.RuleLaws.{accepted-rules}
-use Rattle.records.specs.Rule19.{sheetType}
+use Rattle.records.specs.Rule19.{sheetForm}
 use Rattle.values.specs.Number.{number}
 use Rattle.writer.specs.Sheet.{sheetRules, messageFor, ownRule, writeRules, MessageTo}
 use Rattle.written.proofs.OwnLaws.{own-fine}
@@ -122,7 +122,7 @@ module _ (s : List ℕ) where
   unfolding rule1
   message-fits e =
       let c = then-clean (first (sheetRules s)) (ownRule s) (sym (verdict-by s) ∙ e) in
-      within-limit limit (messageFor s) (accepted-rules (sheetType s) (messageFor s) (own-fine s (first-clean (sheetRules s) (c .0)) (c .1)) .pass .size)
+      within-limit limit (messageFor s) (accepted-rules (sheetForm s) (messageFor s) (own-fine s (first-clean (sheetRules s) (c .0)) (c .1)) .pass .size)
 
   pub answer-fits : length (messageAnswer s) ≤ limit
   unfolding messageAnswer

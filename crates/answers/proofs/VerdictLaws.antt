@@ -15,7 +15,7 @@ use Rattle.base.proofs.RuleLaws.{same-broken, first-last, first-clean}
 use Rattle.base.proofs.CallLaws.{is-long, is-short, not-short, short-within}
 use Rattle.fields.specs.Frame.{limit}
 use Rattle.types.specs.Walk.{rule18}
-use Rattle.records.specs.Rule19.{sheetType}
+use Rattle.records.specs.Rule19.{sheetForm}
 use Rattle.writer.specs.Sheet.{messageFor, sheetRules, atStart, ownRule, writeRules}
 use Rattle.written.specs.Sentences as why
 use Rattle.written.specs.Sentences.{Reason}
@@ -56,8 +56,8 @@ module _ (s : List ℕ) where
   pub never-17 : (p : ℕ) → messageVerdict s ≡ Broken 17 p → ⊥
   never-17 p e = no-room (verdict-reason 17 p e) refl (omega arith)
 
-  long-own : rule18 (sheetType s) ≡ Fine → limit < length (messageFor s) → ownRule s ≡ Broken 1 0
-  long-own e h = ap atStart (long-verdict (sheetType s) (messageFor s) e h)
+  long-own : rule18 (sheetForm s) ≡ Fine → limit < length (messageFor s) → ownRule s ≡ Broken 1 0
+  long-own e h = ap atStart (long-verdict (sheetForm s) (messageFor s) e h)
 
   module _ (out : List ℕ) where
     pub fine-verdict : first (writeRules s out) ≡ Fine → messageVerdict s ≡ Fine

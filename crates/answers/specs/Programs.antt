@@ -11,6 +11,8 @@ use Rattle.base.specs.declared.Verdict.{Verdict}
 use Rattle.base.specs.declared.Verdict.the-variants.{Fine, Broken}
 use Rattle.base.specs.declared.Outcome.{Outcome}
 use Rattle.fields.specs.Frame.{limit}
+use Rattle.types.specs.declared.Form.{Form}
+use Rattle.types.specs.Form.{formOf}
 use Rattle.judge.specs.Message.{messageRules}
 use Rattle.records.specs.Rule19.{number}
 use Rattle.writer.specs.Sheet.{sheetRules, messageFor, ownRule}
@@ -39,12 +41,15 @@ messageIn i = drop 4 i
 abbrev pub typeRule : List ℕ → Verdict
 typeRule i = pick (namesType i) Fine (Broken 18 0)
 
+abbrev pub formFor : List ℕ → Form
+formFor i = formOf (number i)
+
 abbrev pub sheetVerdict : List ℕ → Verdict
-sheetVerdict i = first (typeRule i ∷ messageRules (number i) (messageIn i))
+sheetVerdict i = first (typeRule i ∷ messageRules (formFor i) (messageIn i))
 
 -- the sheet of the message, or its refusal
 unfoldable pub sheetAnswer : List ℕ → List ℕ
-sheetAnswer i = shown (sheetVerdict i) (sheetOf (number i) (messageIn i))
+sheetAnswer i = shown (sheetVerdict i) (sheetOf (formFor i) (messageIn i))
 
 unfoldable pub SheetAnswered : List ℕ → List ℕ → Outcome → List ℕ → Type 0
 SheetAnswered i out r after = Shows (sheetAnswer i) out r after

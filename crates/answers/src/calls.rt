@@ -11,6 +11,7 @@ use base::bytes::is_digit;
 use base::bytes::past;
 use base::bytes::wide;
 use sheets::calls::to_sheet;
+use types::forms::form_of;
 use writer::calls::to_message;
 
 // Room of 10,000 bytes is too short only for a message that 1 refuses.
@@ -74,8 +75,7 @@ fn read_named(i: &[u8], m: &mut [u8]) -> Outcome
             place: 0,
         };
     }
-    let kind = type_of(i);
-    to_sheet(kind, past(i, 4), m)
+    to_sheet(form_of(type_of(i)), past(i, 4), m)
 }
 
 // What `tosheet` writes for its input.

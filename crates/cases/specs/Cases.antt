@@ -17,7 +17,8 @@ use Rattle.alphabets.specs.Parts.{extent, pieceText}
 use Rattle.alphabets.specs.Parts as parts
 use Rattle.alphabets.specs.declared.parts.Extent.{Extent}
 use Rattle.alphabets.specs.declared.parts.Extent.the-variants.{Takes, Halts}
-use Rattle.values.specs.Answers.{dayAt, kopecksOf}
+use Rattle.values.specs.Day.{realDay}
+use Rattle.values.specs.Answers.{kopecksOf}
 
 -- a sign's byte in windows-1251
 abbrev pub byteOf : ℕ → ℕ
@@ -60,8 +61,8 @@ Holds (sized s d e) = extent s (bytes d) ≡ e
 Holds (puts s d out at after) = placed (bytes out) at (parts.written s (bytes d)) ≡ bytes after
 Holds (hears s b d) = pieceText codes s (bytes b) ≡ bytes d
 Holds (worth a k) = kopecksOf (bytes "240229RUB" ++ bytes a) ≡ k
-Holds (isDay d) = dayAt (bytes d) 0 ≡ true
-Holds (noDay d) = dayAt (bytes d) 0 ≡ false
+Holds (isDay d) = realDay (bytes d) ≡ true
+Holds (noDay d) = realDay (bytes d) ≡ false
 
 unfoldable pub cases : List Case
 cases =

@@ -9,6 +9,8 @@ use message::calls::check;
 use message::calls::date;
 use message::calls::kopecks;
 use message::calls::span;
+use types::Form;
+use types::forms::form_of;
 
 // The longest list that is lent.
 pub(crate) const ROOM: usize = 64;
@@ -86,11 +88,11 @@ fn tell_fields(fields: usize, present: u32, list: &[u32; ROOM]) {
 }
 
 // The first numbers of a blank list are lent.
-fn tell_check(kind: u32, room: usize, m: &[u8])
+fn tell_check(form: Form, room: usize, m: &[u8])
     requires { ⌜ room ≤ 64 ⌝ }
 {
     let mut list = [BLANK; ROOM];
-    match check(kind, m, &mut list[..room]) {
+    match check(form, m, &mut list[..room]) {
         Checked::Accepted { fields, present } => tell_fields(fields, present, &list),
         Checked::Refused { number, place } => {
             tell_refusal(number, place);
@@ -111,28 +113,28 @@ fn tell_part(part: Span) {
     }
 }
 
-fn tell_parts(kind: u32, m: &[u8]) {
+fn tell_parts(form: Form, m: &[u8]) {
     io::write_all(STDOUT_FILENO, b"parts\t");
     let mut place = 0;
     while place < PLACES {
         part_from(place);
-        tell_part(span(kind, m, place));
+        tell_part(span(form, m, place));
         place += 1;
     }
     io::write_all(STDOUT_FILENO, b"\n");
 }
 
-fn tell_kopecks(kind: u32, m: &[u8]) {
+fn tell_kopecks(form: Form, m: &[u8]) {
     io::write_all(STDOUT_FILENO, b"kopecks\t");
-    match kopecks(kind, m) {
+    match kopecks(form, m) {
         Amount::Is(n) => tell(n, b"\n"),
         Amount::Refused { number, place } => tell_refusal(number, place),
     }
 }
 
-fn tell_date(kind: u32, m: &[u8]) {
+fn tell_date(form: Form, m: &[u8]) {
     io::write_all(STDOUT_FILENO, b"date\t");
-    match date(kind, m) {
+    match date(form, m) {
         Day::On { year, month, day } => {
             tell(year as u64, b" ");
             tell(month as u64, b" ");
@@ -145,8 +147,9 @@ fn tell_date(kind: u32, m: &[u8]) {
 pub(crate) fn answer(kind: u32, room: usize, m: &[u8])
     requires { ⌜ room ≤ 64 ⌝ }
 {
-    tell_check(kind, room, m);
-    tell_parts(kind, m);
-    tell_kopecks(kind, m);
-    tell_date(kind, m);
+    let form = form_of(kind);
+    tell_check(form, room, m);
+    tell_parts(form, m);
+    tell_kopecks(form, m);
+    tell_date(form, m);
 }

@@ -14,7 +14,7 @@ use Rattle.contents.specs.Lines.{PartyByBik, PartyByAccount}
 use Rattle.contents.specs.Fields.{IsOwnAccount, IsBic, IsParty, One, BankByBic}
 use Rattle.contents.specs.declared.lines.Party.{Party}
 use Rattle.contents.specs.declared.lines.Party.the-variants as party
-use Rattle.contents.specs.Answers.{cut, PartySaid, IsA, noParty}
+use Rattle.contents.specs.Answers.{cut, BikWith, PartySaid, IsA, noParty}
 use Rattle.contents.proofs.Laws.{Spot, spot, laid, Laid, made, behind-some}
 
 -- ---- 53B
@@ -95,16 +95,19 @@ pub account-made : (l : Text) → length l ≡ 21 → cut 0 1 l ≡ bytes "/" �
 account-made l e w d = record { number = d; line = made (spot 1 1 ∷ spot 20 21 ∷ []) l (refl, (refl, sym e)) ∙ rw w }
 
 module _ (l : Text) (w : cut 0 4 l ≡ bytes "//RU") (b : cut 4 2 l ≡ bytes "04") (c : Digits 9 (cut 4 9 l)) where
-  pub bik-short : length l ≡ 13 → PartyByBik (cut 4 9 l) [] l
-  bik-short e = record { code = c; begins = take-take 2 9 (drop 4 l) (omega arith) ∙ b; number = inl refl; line = made (spot 4 4 ∷ spot 9 13 ∷ spot 0 13 ∷ []) l (refl, (refl, (refl, sym e))) ∙ rw w }
+  pub bik-short : length l ≡ 13 → BikWith 0 l
+  bik-short e = (record { code = c; begins = take-take 2 9 (drop 4 l) (omega arith) ∙ b; number = inl refl; line = made (spot 4 4 ∷ spot 9 13 ∷ spot 0 13 ∷ []) l (refl, (refl, (refl, sym e))) ∙ rw w }, refl)
 
-  pub bik-long : length l ≡ 34 → cut 13 1 l ≡ bytes "." → Digits 20 (cut 14 20 l) → PartyByBik (cut 4 9 l) (cut 14 20 l) l
-  bik-long e p d = record {
-    code = c;
-    begins = take-take 2 9 (drop 4 l) (omega arith) ∙ b;
-    number = inr d;
-    line = made (spot 4 4 ∷ spot 9 13 ∷ spot 1 14 ∷ spot 20 34 ∷ []) l (refl, (refl, (refl, (refl, sym e)))) ∙ rw (w, p, behind-some "." (cut 14 20 l) (omega (arith, d .size)));
-  }
+  pub bik-long : length l ≡ 34 → cut 13 1 l ≡ bytes "." → Digits 20 (cut 14 20 l) → BikWith 20 l
+  bik-long e p d = (
+    record {
+      code = c;
+      begins = take-take 2 9 (drop 4 l) (omega arith) ∙ b;
+      number = inr d;
+      line = made (spot 4 4 ∷ spot 9 13 ∷ spot 1 14 ∷ spot 20 34 ∷ []) l (refl, (refl, (refl, (refl, sym e)))) ∙ rw (w, p, behind-some "." (cut 14 20 l) (omega (arith, d .size)));
+    },
+    d .size,
+  )
 
 -- a line of 21 bytes is no party line by BIK, and another none by account
 pub not-party : (l : Text) → ((bik account : Text) → Not (PartyByBik bik account l)) → ((account : Text) → Not (PartyByAccount account l)) → Not (IsParty l)

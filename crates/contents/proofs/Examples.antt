@@ -5,12 +5,11 @@ use Rattle.base.specs.Examples.{AllHold, _also_}
 use Rattle.fields.specs.Lines.{split}
 use Rattle.contents.specs.Words.{capitalOrDigit}
 use Rattle.contents.specs.Tags.{tags103, tags202, heldBy}
-use Rattle.contents.specs.Tests.{lead, ends, pair, isReference, isPurpose, isPayment, isOwnAccount, isPartyByBik, isParty, isBic, isAccount, isTax, looksTax, isRpp, details, right}
-use Rattle.contents.specs.Rule8.{rightContent}
+use Rattle.contents.specs.Tests.{lead, ends, pair, isReference, isPurpose, isPayment, isOwnAccount, isPartyByBik, isParty, isBic, isAccount, isTax, numbered, looksTax, isRpp, details, right}
 use Rattle.contents.specs.Cases.{Holds, cases}
 
 pub worked : AllHold Holds cases
-unfolding cases digit capital same split capitalOrDigit tags103 tags202 heldBy lead ends pair isReference isPurpose isPayment isOwnAccount isPartyByBik isParty isBic isAccount isTax looksTax isRpp details right rightContent
+unfolding cases digit capital same split capitalOrDigit tags103 tags202 heldBy lead ends pair isReference isPurpose isPayment isOwnAccount isPartyByBik isParty isBic isAccount isTax numbered looksTax isRpp details right
 worked =
     (refl, refl) also (refl, refl) also (refl, refl) also (refl, refl) also (refl, refl) also (refl, refl) also (refl, refl) also (refl, refl)
     also (refl, refl) also (refl, refl) also (refl, refl) also (refl, refl) also (refl, refl) also (refl, refl) also (refl, refl) also (refl, refl)

@@ -1,16 +1,19 @@
--- Names, accounts, and how a tax line begins. Assumes nothing.
-use Rattle.base.specs.Says.{Not}
-use Prim.Native.Nat.{_+_, _≤_}
+-- Accounts, and how a line begins: a word, and behind it a digit. Assumes nothing.
+use Rattle.base.specs.Says.{Not, Says}
+use Prim.Native.Nat.{ℕ, _+_, _≤_, _<_}
 use mathlib.Core.Path.{_≡_, sym, ap, ap₂, _∙_}
-use mathlib.Core.Bool.{true}
+use mathlib.Core.Bool.{Bool, true, false, _&&_, and-false}
 use mathlib.Core.List.{_∷_, _++_}
 use native.Mathlib.Omega.{arith}
-use lib.ListN.{length, drop, take-append-drop}
+use lib.ListN.{length, take, drop, length-take, take-append-drop, List·getD-eq-default}
 use lib.Seq.{drop-cons}
 use Rattle.base.specs.Bytes.{byte, digit}
 use Rattle.base.specs.Quoted.{bytes}
+use Rattle.base.proofs.ByteLaws.{same-not}
+use Rattle.base.proofs.SaysLaws.{says-same, says-text}
 use Rattle.contents.specs.Words.{Text}
 use Rattle.contents.specs.Fields.{IsAccount, LooksTax}
+use Rattle.contents.specs.Tests.{starts, numbered}
 use Rattle.contents.specs.Answers.{cut}
 use Rattle.contents.proofs.Laws.{head-tail}
 
@@ -33,16 +36,20 @@ is-account l h k e n =
     let z = ap length q in
     (drop 1 l, record { size = record { least = omega arith; most = omega arith }; first = λ p. n (ap (λ (x : Text). byte x 1) (q ∙ ap (λ (x : Text). 47 ∷ x) (p .1))); line = q })
 
--- ---- INN and a digit
-module _ (l : Text) (t : LooksTax l) where
-  pub looks-size : 4 ≤ length l
-  looks-size = let e = ap length (t .2 .line) in omega arith
+-- ---- a word at the front, and a digit behind it
+module _ (w s : Text) where
+  pub starts-short : length s < length w → starts w s ≡ false
+  starts-short h = same-not (take (length w) s) w (λ e. absurd (omega (arith, length-take (length w) s)))
 
-  pub looks-word : cut 0 3 l ≡ bytes "INN"
-  looks-word = ap (cut 0 3) (t .2 .line)
+  pub starts-by : {r : Bool} → Says (cut 0 (length w) s ≡ w) r → r ≡ starts w s
+  starts-by p = says-same p (says-text (take (length w) s) w)
 
-  pub looks-digit : digit (byte l 3) ≡ true
-  looks-digit = ap (λ (s : Text). digit (byte s 3)) (t .2 .line) ∙ t .2 .digit-first
+  pub numbered-short : length s ≤ length w → numbered w s ≡ false
+  unfolding digit
+  numbered-short h = ap (λ (x : ℕ). starts w s && digit x) (List·getD-eq-default s 0 h) ∙ and-false (starts w s)
+
+  pub numbered-by : {r : Bool} → r ≡ starts w s → (r && digit (byte s (length w))) ≡ numbered w s
+  numbered-by e = ap (λ (b : Bool). b && digit (byte s (length w))) e
 
 pub looks-tax : (l : Text) → 4 ≤ length l → cut 0 3 l ≡ bytes "INN" → digit (byte l 3) ≡ true → LooksTax l
 looks-tax l h w d = (byte l 3, drop 4 l, record { digit-first = d; line = go })

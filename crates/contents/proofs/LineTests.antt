@@ -9,7 +9,7 @@ use native.Mathlib.Nat.{div-add-mod'}
 use native.Mathlib.Omega.{arith}
 use lib.Dec.{eqb}
 use lib.ListN.{length, take, drop, length-append, take-append-drop}
-use lib.Seq.{take-at, drop-at, getD-drop}
+use lib.Seq.{take-at, drop-at, drop-nil, getD-drop}
 use borrow.Author.Tests.{eqb-true}
 use Rattle.base.specs.Choice.{all}
 use Rattle.base.specs.Bytes.{byte, digit, capital, begins, empty}
@@ -20,6 +20,7 @@ use Rattle.contents.specs.Words.{Text, Line, Size, Just, capitalOrDigit,
 use Rattle.contents.specs.Lines.{Reference, twoDigits, Purpose, Payment, PartyByBik, Bic, Inn, TaxLine, Way, RppLine}
 use Rattle.contents.specs.Fields.{IsPurpose, IsPayment, IsOwnAccount, IsParty, IsBic, IsAccount, IsTax, LooksTax, IsRpp}
 use Rattle.contents.specs.Tests.{sized, digits, piece, sizes, just, starts, perhaps, ends, pair, isReference, numberIn, isPurpose, paymentParts, paymentTest, isPayment, isOwnAccount, bikParts, isPartyByBik, isParty, bicParts, isBic, isAccount, isInn, taxParts, isTax, looksTax, isWay, rppParts, rppTest, isRpp}
+use Rattle.contents.specs.Parts.{unmarked}
 use Rattle.contents.proofs.CutLaws.{cut-whole, cut-once}
 
 -- ---- parts
@@ -201,6 +202,9 @@ looks-says l =
     says-third : {P : Type 0} → Says P (starts (bytes "INN") l && digit (byte (drop 3 l) 0)) → Says P (starts (bytes "INN") l && digit (byte l 3))
     says-third {P} p = subst (λ (b : ℕ). Says P (starts (bytes "INN") l && digit b)) (getD-drop 3 l 0 0) p
 
+pub looks-by : {l : Line} {r : Bool} → r ≡ looksTax l → Says (LooksTax l) r
+looks-by {l} e = subst (Says (LooksTax l)) (sym e) (looks-says l)
+
 -- ---- Cparty
 pub bik-parts : {bik account l : Text} → PartyByBik bik account l → bikParts l ≡ bytes "//RU" ∷ bik ∷ behind "." account ∷ []
 bik-parts {bik} {account} t =
@@ -368,20 +372,12 @@ rpp-says l = says-as (made (rppParts l) (cut-whole (sized 5 ∷ digits ∷ sized
         (refl, ((t .serial .least, (t .serial .most, t .serial .each)), (refl, (t .day, (refl, (t .order, (refl, (t .kind, (value, t .due, refl)))))))))
 
 -- ---- a line has its parts once: they are the pieces that it is cut into
+pub unmarked-behind : (mark : String) (s : Text) → unmarked mark (behind mark s) ≡ s
+unmarked-behind mark [] = drop-nil (length (bytes mark))
+unmarked-behind mark (x ∷ s) = drop-at (bytes mark) (x ∷ s) (length (bytes mark)) refl
+
 behind-once : (mark : String) (a b : Text) → behind mark a ≡ behind mark b → a ≡ b
-behind-once mark [] [] e = refl
-behind-once mark [] (y ∷ b) e = absurd (some (bytes mark) y b e)
-  where
-    some : (m : Text) (y : ℕ) (b : Text) → [] ≡ m ++ y ∷ b → ⊥
-    some [] y b e = true≢false (ap empty e)
-    some (x ∷ m) y b e = true≢false (ap empty e)
-behind-once mark (x ∷ a) [] e = absurd (none (bytes mark) x a e)
-  where
-    none : (m : Text) (x : ℕ) (a : Text) → m ++ x ∷ a ≡ [] → ⊥
-    none [] x a e = false≢true (ap empty e)
-    none (y ∷ m) x a e = false≢true (ap empty e)
-behind-once mark (x ∷ a) (y ∷ b) e =
-    sym (drop-at (bytes mark) (x ∷ a) (length (bytes mark)) refl) ∙ ap (drop (length (bytes mark))) e ∙ drop-at (bytes mark) (y ∷ b) (length (bytes mark)) refl
+behind-once mark a b e = sym (unmarked-behind mark a) ∙ ap (unmarked mark) e ∙ unmarked-behind mark b
 
 pub paid-once : {d c w m d′ c′ w′ m′ l : Text} → Payment d c w m l → Payment d′ c′ w′ m′ l → (d ≡ d′) × (c ≡ c′) × (w ≡ w′) × (m ≡ m′)
 paid-once t u =

@@ -9,7 +9,7 @@ use Rattle.base.specs.Bytes.{byte, digit}
 use Rattle.base.specs.Quoted.{bytes}
 use Rattle.contents.specs.Words.{Text, Digits, Capitals}
 use Rattle.contents.specs.Lines.{Payment}
-use Rattle.contents.specs.Answers.{cut, Leads}
+use Rattle.contents.specs.Answers.{cut, Leads, PaidWith}
 use Rattle.contents.proofs.Laws.{Spot, spot, laid, Laid, made, cut-length, mark-stops, run-once}
 
 abbrev spots : ℕ → ℕ → List Spot
@@ -65,19 +65,22 @@ paid-passes date currency whole decimals l n a t =
 
 -- what passes them is one
 pub paid-made : (n : ℕ) (l : Text) → PaidTests n l
-    → Payment (cut 0 6 l) (cut 6 3 l) (cut 9 n l) (cut (1 + (n + 9)) (length l - (1 + (n + 9))) l) l
+    → PaidWith n (length l - (1 + (n + 9))) l
 paid-made n l t =
     let d : ℕ = length l - (1 + (n + 9)) in
     let z = cut-length 9 n l (t .run .within) in
     let y = t .parts .size in
     let u = t .run .most in
     let v = t .most in
-    let w = t .there in
-    record {
-      day = t .day;
-      money = t .money;
-      units = record { least = omega (arith, t .some); each = t .run .each };
-      parts = record { least = omega arith; most = omega (arith, t .few); each = t .parts .each };
-      amount = simp length-append (omega arith);
-      line = made (spots n d) l (refl, (refl, (refl, (refl, (refl, omega arith))))) ∙ rw (t .comma);
-    }
+    let w = t .there in (
+      record {
+        day = t .day;
+        money = t .money;
+        units = record { least = omega (arith, t .some); each = t .run .each };
+        parts = record { least = omega arith; most = omega (arith, t .few); each = t .parts .each };
+        amount = simp length-append (omega arith);
+        line = made (spots n d) l (refl, (refl, (refl, (refl, (refl, omega arith))))) ∙ rw (t .comma);
+      },
+      z,
+      y,
+    )

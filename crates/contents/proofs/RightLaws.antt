@@ -3,7 +3,7 @@ use Rattle.base.specs.Says.{Not, Says}
 use Rattle.base.proofs.SaysLaws.{says-so, says-not}
 use Prim.Native.Nat.{ℕ, _+_, _≤_, _<_, min}
 use mathlib.Core.Path.{_≡_, refl, ap, _∙_}
-use mathlib.Core.Bool.{Bool, true, false, false≢true}
+use mathlib.Core.Bool.{Bool, true, false≢true}
 use mathlib.Core.Logic.{_⊎_, inl, inr, ⊎-elim}
 use mathlib.Core.List.{List, [], _∷_}
 use native.Mathlib.Omega.{arith}
@@ -31,17 +31,17 @@ use Rattle.contents.proofs.FieldLaws.{last-0, on-0}
 
 pub paid-is : (l : Line) (r : Paid) (b : Bool) → b ≡ isPaid r → PaidSaid l r → Says (IsPayment l) b
 paid-is l paid.Wrong b e s = rw e (says-not (λ x. s (x .0) (x .1) (x .2) (x .3) (x .4)))
-paid-is l (paid.Is n d) b e s = rw e (says-so (_, _, _, _, s))
+paid-is l (paid.Is n d) b e s = rw e (says-so (_, _, _, _, s .0))
 
 pub rpp-is : (l : Line) (r : Rpp) (b : Bool) → b ≡ isRpp r → RppSaid l r → Says (IsRpp l) b
 rpp-is l rpp.Wrong b e s = rw e (says-not (λ x. s (x .0) (x .1) (x .2) (x .3) (x .4) (x .5)))
-rpp-is l (rpp.Is n v) b e s = rw e (says-so (_, _, _, _, _, s))
+rpp-is l (rpp.Is n v) b e s = rw e (says-so (_, _, _, _, _, s .0))
 
 beside-is : (twelve : Bool) (at : ℕ) (ls : List Line) (r : Held) → isHeld r ≡ true → BesideSaid twelve at ls r → Beside twelve ls
 beside-is twelve at ls held.Wrong e s = absurd (false≢true e)
 beside-is twelve at ls held.Plain e s = inr s
 beside-is twelve at [] (held.Taxed p inn kpp) e s = absurd (s .1)
-beside-is twelve at (l ∷ ls) (held.Taxed p inn kpp) e s = inl ((_, _, s .1 .0), s .1 .1)
+beside-is twelve at (l ∷ ls) (held.Taxed p inn kpp) e s = inl ((_, _, s .1 .0 .0), s .1 .1)
 
 behind-is : (twelve : Bool) (ls : List Line) (r : Held) → isHeld r ≡ true → Behind twelve ls r → Customer twelve ls
 behind-is twelve [] r e s = s
@@ -61,7 +61,7 @@ payer-is ls (held.Taxed p inn kpp) b e s =
 party-is : (p : Party) (l : Line) → IsA p l → IsParty l
 party-is party.Wrong l s = absurd s
 party-is party.Account l s = inr (_, s)
-party-is (party.Bik n) l s = inl (_, _, s)
+party-is (party.Bik n) l s = inl (_, _, s .0)
 
 led-is : (Q : List Line → Type 0) (p : Party) (ls : List Line) → Then (IsA p) Q ls → Then IsParty Q ls
 led-is Q p [] s = s
@@ -79,7 +79,7 @@ name-is ls (bank.Led p) b e s = rw e (says-so (led-is (Names 4) p ls s))
 
 dated-is : (sign : Bool) (n v : ℕ) (ls : List Line) → Then (RppWith n v) (In72 sign 5) ls → Then IsRpp (In72 sign 5) ls
 dated-is sign n v [] s = s
-dated-is sign n v (l ∷ ls) s = ((_, _, _, _, _, s .0), s .1)
+dated-is sign n v (l ∷ ls) s = ((_, _, _, _, _, s .0 .0), s .1)
 
 pub note-is : (sign : Bool) (ls : List Line) (r : Note) (b : Bool) → b ≡ isNote r → NoteSaid sign ls r → Says (RppAndDetails sign ls) b
 note-is sign ls note.Wrong b e s = rw e (says-not s)

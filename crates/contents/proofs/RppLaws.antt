@@ -11,7 +11,7 @@ use Rattle.base.specs.Bytes.{byte, digit}
 use Rattle.base.specs.Quoted.{bytes}
 use Rattle.contents.specs.Words.{Text, Digits, Perhaps, join, behind}
 use Rattle.contents.specs.Lines.{RppLine}
-use Rattle.contents.specs.Answers.{cut, Leads, RppBody}
+use Rattle.contents.specs.Answers.{cut, Leads, RppBody, RppWith}
 use Rattle.contents.proofs.LineTests.{way-size}
 use Rattle.contents.proofs.Laws.{Spot, spot, laid, Laid, made, cut-one, cut-first, cut-length, mark-stops, run-once, behind-some}
 
@@ -107,12 +107,14 @@ module _ (n : ℕ) (l : Text) (w : cut 0 5 l ≡ bytes "/RPP/") (a : Leads 5 3 l
     line = e ∙ rw (w, point-at (n + 5) (omega arith) (b .point), point-at (7 + (n + 5)) (omega arith) (b .point2), point-at (9 + (n + 5)) (omega arith) (b .point3));
   }
 
-  pub rpp-short : length l ≡ 14 + (n + 5) → RppLine (cut 5 n l) (cut (1 + (n + 5)) 6 l) (cut (8 + (n + 5)) 1 l) (cut (10 + (n + 5)) 4 l) [] l
-  rpp-short e = rpp-made [] (inl refl) (made (short n) l (refl, (refl, (refl, (omega arith, (omega arith, (omega arith, (omega arith, (omega arith, (omega arith, sym e))))))))))
+  pub rpp-short : length l ≡ 14 + (n + 5) → RppWith n 0 l
+  rpp-short e = (rpp-made [] (inl refl) (made (short n) l (refl, (refl, (refl, (omega arith, (omega arith, (omega arith, (omega arith, (omega arith, (omega arith, sym e)))))))))), cut-length 5 n l (a .within), refl)
 
-  pub rpp-long : length l ≡ 21 + (n + 5) → byte l (14 + (n + 5)) ≡ 46 → Digits 6 (cut (15 + (n + 5)) 6 l)
-      → RppLine (cut 5 n l) (cut (1 + (n + 5)) 6 l) (cut (8 + (n + 5)) 1 l) (cut (10 + (n + 5)) 4 l) (cut (15 + (n + 5)) 6 l) l
-  rpp-long e p d =
-      rpp-made (cut (15 + (n + 5)) 6 l) (inr d)
-      (made (long n) l (refl, (refl, (refl, (omega arith, (omega arith, (omega arith, (omega arith, (omega arith, (omega arith, (omega arith, sym e))))))))))
-      ∙ rw (point-at (14 + (n + 5)) (omega arith) p, behind-some "." (cut (15 + (n + 5)) 6 l) (omega (arith, d .size))))
+  pub rpp-long : length l ≡ 21 + (n + 5) → byte l (14 + (n + 5)) ≡ 46 → Digits 6 (cut (15 + (n + 5)) 6 l) → RppWith n 6 l
+  rpp-long e p d = (
+    rpp-made (cut (15 + (n + 5)) 6 l) (inr d)
+        (made (long n) l (refl, (refl, (refl, (omega arith, (omega arith, (omega arith, (omega arith, (omega arith, (omega arith, (omega arith, sym e))))))))))
+        ∙ rw (point-at (14 + (n + 5)) (omega arith) p, behind-some "." (cut (15 + (n + 5)) 6 l) (omega (arith, d .size)))),
+    cut-length 5 n l (a .within),
+    d .size,
+  )

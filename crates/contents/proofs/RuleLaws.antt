@@ -21,31 +21,32 @@ use Rattle.fields.specs.Places.{sizeOf, startOf, nextOf}
 use Rattle.fields.specs.ByLines.{joined}
 use Rattle.fields.proofs.PlaceLaws.{size-append}
 use Rattle.fields.proofs.ContentLaws.{lines-joined}
-use Rattle.types.specs.Form.{Place, must, placesOf, forms, form103, form202}
+use Rattle.types.specs.declared.Form.{Form}
+use Rattle.types.specs.declared.Form.the-variants.{Other, Mt103, Mt202}
+use Rattle.types.specs.Form.{Place, must, placesOf, places103, places202}
 use Rattle.types.specs.Walk.{find, walked}
 use Rattle.types.specs.Sign.{firstLine, signOf}
 use Rattle.types.proofs.WalkLaws.{Seated, Accepted, seated, walked-accepted}
-use Rattle.types.proofs.TableLaws.{no-form}
 use Rattle.contents.specs.Tags.{heldBy, RightField}
 use Rattle.contents.specs.Tests as tests
-use Rattle.contents.specs.Rule8.{firstWrong, rightField, rule8, EachRight, FirstWrong, rightContent}
+use Rattle.contents.specs.Rule8.{firstWrong, rightField, rule8, EachRight, FirstWrong}
 use Rattle.contents.proofs.FieldTests.{right-says}
 
 -- ---- the test of a field is exact
-pub field-says : (kind : ℕ) (sign : Bool) (f : Field) → (rightField kind sign f ≡ true) ↔ RightField kind sign f
+pub field-says : (form : Form) (sign : Bool) (f : Field) → (rightField form sign f ≡ true) ↔ RightField form sign f
 unfolding rightField
-field-says kind sign (field t ls) = let s = right-says (heldBy kind t) sign ls in (s .so, is-so s)
+field-says form sign (field t ls) = let s = right-says (heldBy form t) sign ls in (s .so, is-so s)
 
-pub all-right : (kind : ℕ) (sign : Bool) (fs : List Field) → (all (rightField kind sign) fs ≡ true) ↔ EachRight kind sign fs
-all-right kind sign fs = (to fs, from fs)
+pub all-right : (form : Form) (sign : Bool) (fs : List Field) → (all (rightField form sign) fs ≡ true) ↔ EachRight form sign fs
+all-right form sign fs = (to fs, from fs)
   where
-    to : (fs : List Field) → all (rightField kind sign) fs ≡ true → EachRight kind sign fs
+    to : (fs : List Field) → all (rightField form sign) fs ≡ true → EachRight form sign fs
     to [] e = tt
-    to (f ∷ fs) e = (field-says kind sign f .0 (left (rightField kind sign f) _ e), to fs (right (rightField kind sign f) _ e))
+    to (f ∷ fs) e = (field-says form sign f .0 (left (rightField form sign f) _ e), to fs (right (rightField form sign f) _ e))
 
-    from : (fs : List Field) → EachRight kind sign fs → all (rightField kind sign) fs ≡ true
+    from : (fs : List Field) → EachRight form sign fs → all (rightField form sign) fs ≡ true
     from [] e = refl
-    from (f ∷ fs) e = both (field-says kind sign f .1 (e .0)) (from fs (e .1))
+    from (f ∷ fs) e = both (field-says form sign f .1 (e .0)) (from fs (e .1))
 
 -- ---- a rule that asks the same of every field
 module _ (n : ℕ) (test : Field → Bool) (place : ℕ → Field → ℕ) where
@@ -83,19 +84,19 @@ module _ (n : ℕ) (test : Field → Bool) (place : ℕ → Field → ℕ) where
       go false e r = cc
 
 -- ---- 8 in words
-pub rule8-fine : (kind : ℕ) (m : List ℕ) → (rule8 kind m ≡ Fine) ↔ (all (rightField kind (signOf (fields m))) (fields m) ≡ true)
+pub rule8-fine : (form : Form) (m : List ℕ) → (rule8 form m ≡ Fine) ↔ (all (rightField form (signOf (fields m))) (fields m) ≡ true)
 unfolding rule8
-rule8-fine kind m = (all-pass 8 (rightField kind (signOf (fields m))) startOf 5 (fields m), pass-all 8 (rightField kind (signOf (fields m))) startOf 5 (fields m))
+rule8-fine form m = (all-pass 8 (rightField form (signOf (fields m))) startOf 5 (fields m), pass-all 8 (rightField form (signOf (fields m))) startOf 5 (fields m))
 
 -- it is not broken exactly if every field is right
-pub rule8-right : (kind : ℕ) (m : List ℕ) → (rule8 kind m ≡ Fine) ↔ EachRight kind (signOf (fields m)) (fields m)
-rule8-right kind m =
-    let a = rule8-fine kind m in
-    let b = all-right kind (signOf (fields m)) (fields m) in
+pub rule8-right : (form : Form) (m : List ℕ) → (rule8 form m ≡ Fine) ↔ EachRight form (signOf (fields m)) (fields m)
+rule8-right form m =
+    let a = rule8-fine form m in
+    let b = all-right form (signOf (fields m)) (fields m) in
     (λ e. b .0 (a .0 e), λ e. a .1 (b .1 e))
 
-module _ (kind : ℕ) (sign : Bool) where
-  further : (o : ℕ) (f : Field) (fs : List Field) (p : ℕ) → RightField kind sign f → FirstWrong kind sign (nextOf o f) fs p → FirstWrong kind sign o (f ∷ fs) p
+module _ (form : Form) (sign : Bool) where
+  further : (o : ℕ) (f : Field) (fs : List Field) (p : ℕ) → RightField form sign f → FirstWrong form sign (nextOf o f) fs p → FirstWrong form sign o (f ∷ fs) p
   further o f fs p e w =
       let s = size-append (lined f) (linesOf (w .before)) in
       let z : nextOf o f + sizeOf (linesOf (w .before)) ≡ o + sizeOf (lined f ++ linesOf (w .before)) = omega arith in
@@ -109,14 +110,14 @@ module _ (kind : ℕ) (sign : Bool) where
         at = w .at ∙ ap (λ (k : ℕ). startOf k (w .this)) z;
       }
 
-  find-wrong : (o : ℕ) (fs : List Field) (p : ℕ) → firstWrong 8 (rightField kind sign) startOf o fs ≡ Broken 8 p → FirstWrong kind sign o fs p
+  find-wrong : (o : ℕ) (fs : List Field) (p : ℕ) → firstWrong 8 (rightField form sign) startOf o fs ≡ Broken 8 p → FirstWrong form sign o fs p
   unfolding firstWrong
   find-wrong o [] p e = absurd (fine-broken 8 p e)
-  find-wrong o (f ∷ fs) p e = go (rightField kind sign f) refl e (find-wrong (nextOf o f) fs p)
+  find-wrong o (f ∷ fs) p e = go (rightField form sign f) refl e (find-wrong (nextOf o f) fs p)
     where
-      go : (b : Bool) → rightField kind sign f ≡ b → pick b (firstWrong 8 (rightField kind sign) startOf (nextOf o f) fs) (Broken 8 (startOf o f)) ≡ Broken 8 p
-          → (firstWrong 8 (rightField kind sign) startOf (nextOf o f) fs ≡ Broken 8 p → FirstWrong kind sign (nextOf o f) fs p) → FirstWrong kind sign o (f ∷ fs) p
-      go true q e r = further o f fs p (field-says kind sign f .0 q) (r e)
+      go : (b : Bool) → rightField form sign f ≡ b → pick b (firstWrong 8 (rightField form sign) startOf (nextOf o f) fs) (Broken 8 (startOf o f)) ≡ Broken 8 p
+          → (firstWrong 8 (rightField form sign) startOf (nextOf o f) fs ≡ Broken 8 p → FirstWrong form sign (nextOf o f) fs p) → FirstWrong form sign o (f ∷ fs) p
+      go true q e r = further o f fs p (field-says form sign f .0 q) (r e)
       go false q e r =
           let s : p ≡ startOf o f = cc in
           let z : o ≡ o + 0 = omega arith in
@@ -126,32 +127,26 @@ module _ (kind : ℕ) (sign : Bool) where
             after = fs;
             list = refl;
             pass = tt;
-            wrong = λ x. false≢true (sym q ∙ field-says kind sign f .1 x);
+            wrong = λ x. false≢true (sym q ∙ field-says form sign f .1 x);
             at = s ∙ ap (λ (k : ℕ). startOf k f) z;
           }
 
-  not-right : (f : Field) → Not (RightField kind sign f) → rightField kind sign f ≡ false
-  not-right f n = go (rightField kind sign f) refl
+  not-right : (f : Field) → Not (RightField form sign f) → rightField form sign f ≡ false
+  not-right f n = go (rightField form sign f) refl
     where
-      go : (b : Bool) → rightField kind sign f ≡ b → b ≡ false
-      go true e = absurd (n (field-says kind sign f .0 e))
+      go : (b : Bool) → rightField form sign f ≡ b → b ≡ false
+      go true e = absurd (n (field-says form sign f .0 e))
       go false e = refl
 
 -- it is broken at p exactly if p is where the content of the first field starts that isn't right
-pub rule8-broken : (kind : ℕ) (m : List ℕ) (p : ℕ) → (rule8 kind m ≡ Broken 8 p) ↔ FirstWrong kind (signOf (fields m)) 5 (fields m) p
+pub rule8-broken : (form : Form) (m : List ℕ) (p : ℕ) → (rule8 form m ≡ Broken 8 p) ↔ FirstWrong form (signOf (fields m)) 5 (fields m) p
 unfolding rule8
-rule8-broken kind m p =
+rule8-broken form m p =
     let s : Bool = signOf (fields m) in (
-      find-wrong kind s 5 (fields m) p,
-      λ w. ap (firstWrong 8 (rightField kind s) startOf 5) (w .list) ∙ at-wrong 8 (rightField kind s) startOf 5 (w .before) (w .this) (w .after) (all-right kind s (w .before) .1 (w .pass)) (not-right kind s (w .this) (w .wrong))
+      find-wrong form s 5 (fields m) p,
+      λ w. ap (firstWrong 8 (rightField form s) startOf 5) (w .list) ∙ at-wrong 8 (rightField form s) startOf 5 (w .before) (w .this) (w .after) (all-right form s (w .before) .1 (w .pass)) (not-right form s (w .this) (w .wrong))
           ∙ ap (Broken 8) (sym (w .at)),
     )
-
--- the bytes of a content are right exactly if its lines are
-pub content-right : (kind : ℕ) (sign : Bool) (t l : List ℕ) (ls : List (List ℕ)) → all (without 13) (l ∷ ls) ≡ true
-    → rightContent kind sign t (joined (l ∷ ls)) ≡ rightField kind sign (field t (l ∷ ls))
-unfolding rightContent rightField
-content-right kind sign t l ls e = ap (tests.right (heldBy kind t) sign) (lines-joined l ls e)
 
 -- ---- the sign of a message whose walk is accepted: its first field is 20
 starts-20 : (t : List ℕ) (ps : List Place) → Seated (must (bytes "20" ∷ []) ∷ ps) 0 (find (must (bytes "20" ∷ []) ∷ ps) t) → same t (bytes "20") ≡ true
@@ -162,30 +157,20 @@ starts-20 t ps s = go (same t (bytes "20")) s
     go true s = refl
     go false s = absurd (s .free (record { at = 0; low = omega arith; high = omega arith; mandatory = refl }))
 
-by-103 : (t : List ℕ) → Seated (placesOf 103) 0 (find (placesOf 103) t) → same t (bytes "20") ≡ true
-unfolding placesOf forms form103 form202
-by-103 t s = starts-20 t (drop 1 (placesOf 103)) s
-
-by-202 : (t : List ℕ) → Seated (placesOf 202) 0 (find (placesOf 202) t) → same t (bytes "20") ≡ true
-unfolding placesOf forms form103 form202
-by-202 t s = starts-20 t (drop 1 (placesOf 202)) s
-
-first-20 : (kind : ℕ) (t : List ℕ) → Seated (placesOf kind) 0 (find (placesOf kind) t) → same t (bytes "20") ≡ true
-first-20 kind t s = go (eqb kind 103) (eqb kind 202) refl refl
-  where
-    go : (a b : Bool) → eqb kind 103 ≡ a → eqb kind 202 ≡ b → same t (bytes "20") ≡ true
-    go true b p q = by-103 t (subst (λ (k : ℕ). Seated (placesOf k) 0 (find (placesOf k) t)) (eqb-true kind 103 p) s)
-    go false true p q = by-202 t (subst (λ (k : ℕ). Seated (placesOf k) 0 (find (placesOf k) t)) (eqb-true kind 202 q) s)
-    go false false p q = absurd (omega (arith, s .within, ap length (no-form kind (eqb-false kind 103 p) (eqb-false kind 202 q))))
+first-20 : (form : Form) (t : List ℕ) → Seated (placesOf form) 0 (find (placesOf form) t) → same t (bytes "20") ≡ true
+unfolding places103 places202
+first-20 Mt103 t s = starts-20 t (drop 1 places103) s
+first-20 Mt202 t s = starts-20 t (drop 1 places202) s
+first-20 Other t s = absurd (omega (arith, s .within))
 
 abbrev pub firstOf : List Field → List ℕ
 firstOf [] = []
 firstOf (field t ls ∷ fs) = firstLine ls
 
-pub sign-first : (kind : ℕ) (m : List ℕ) → walked kind m ≡ Fine → signOf (fields m) ≡ begins 43 (firstOf (fields m))
+pub sign-first : (form : Form) (m : List ℕ) → walked form m ≡ Fine → signOf (fields m) ≡ begins 43 (firstOf (fields m))
 unfolding signOf
-sign-first kind m w = go (fields m) (walked-accepted kind m .0 w)
+sign-first form m w = go (fields m) (walked-accepted form m .0 w)
   where
-    go : (fs : List Field) → Accepted (placesOf kind) 0 fs → signOf fs ≡ begins 43 (firstOf fs)
+    go : (fs : List Field) → Accepted (placesOf form) 0 fs → signOf fs ≡ begins 43 (firstOf fs)
     go [] a = refl
-    go (field t ls ∷ fs) a = rw (first-20 kind t (seated (placesOf kind) 0 t (a .fine .0)))
+    go (field t ls ∷ fs) a = rw (first-20 form t (seated (placesOf form) 0 t (a .fine .0)))

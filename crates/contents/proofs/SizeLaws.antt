@@ -12,6 +12,7 @@ use Rattle.base.specs.Quoted.{bytes}
 use Rattle.base.specs.Says.{_or_}
 use Rattle.fields.specs.Field.{field}
 use Rattle.fields.specs.Places.{sizeOf}
+use Rattle.types.specs.declared.Form.{Form}
 use Rattle.types.specs.Sign.{firstLine}
 use Rattle.contents.specs.declared.Content.{Content}
 use Rattle.contents.specs.declared.Content.the-variants as holds
@@ -159,8 +160,8 @@ names-some [] p = absurd (omega (arith, p .least))
 names-some ([] ∷ ls) p = absurd (omega (arith, p .each .0 .least))
 names-some ((x ∷ l) ∷ ls) p = refl
 
-pub right-nonempty : (kind : ℕ) (sign : Bool) (t : List ℕ) (ls : List (List ℕ)) → rightField kind sign (field t ls) ≡ true → empty (firstLine ls) ≡ false
-right-nonempty kind sign t ls e = names-some ls (right-names (heldBy kind t) sign ls (field-says kind sign (field t ls) .0 e))
+pub right-nonempty : (form : Form) (sign : Bool) (t : List ℕ) (ls : List (List ℕ)) → rightField form sign (field t ls) ≡ true → empty (firstLine ls) ≡ false
+right-nonempty form sign t ls e = names-some ls (right-names (heldBy form t) sign ls (field-says form sign (field t ls) .0 e))
 
 lines-size : (ls : List Line) → Each Name ls → sizeOf ls ≤ 37 * length ls
 lines-size [] e = omega arith

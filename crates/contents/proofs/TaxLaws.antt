@@ -10,7 +10,7 @@ use lib.ListN.{length}
 use Rattle.base.specs.Quoted.{bytes}
 use Rattle.contents.specs.Words.{Text, Digits, Perhaps}
 use Rattle.contents.specs.Lines.{Inn, TaxLine}
-use Rattle.contents.specs.Answers.{cut, InnSize, InnBy}
+use Rattle.contents.specs.Answers.{cut, InnSize, InnBy, TaxWith}
 use Rattle.contents.proofs.Laws.{Spot, spot, laid, Laid, made, behind-some}
 
 inn-size : (twelve : Bool) (inn : Text) → Inn twelve inn → InnSize twelve (length inn) × Digits (length inn) inn
@@ -85,16 +85,20 @@ module _ (twelve : Bool) (l : Text) (n : ℕ) (b : InnBy twelve (length l) n) wh
       go (inr e) = sym e
 
   -- and what passes them is one
-  pub tax-inn : Not (n ≡ 0) → cut 0 3 l ≡ bytes "INN" → Digits n (cut 3 n l) → length l ≡ n + 3 → TaxLine twelve (cut 3 n l) [] l
-  tax-inn z w d e = record { person = inn-made twelve n (cut 3 n l) (b .found z .0) d; reason = inl refl; line = made (inn-spots n) l (refl, (refl, (omega arith, sym e))) ∙ rw w }
+  pub tax-inn : Not (n ≡ 0) → cut 0 3 l ≡ bytes "INN" → Digits n (cut 3 n l) → length l ≡ n + 3 → TaxWith twelve n 0 l
+  tax-inn z w d e = (record { person = inn-made twelve n (cut 3 n l) (b .found z .0) d; reason = inl refl; line = made (inn-spots n) l (refl, (refl, (omega arith, sym e))) ∙ rw w }, d .size, refl)
 
   pub tax-both : Not (n ≡ 0) → cut 0 3 l ≡ bytes "INN" → Digits n (cut 3 n l) → Not (length l ≡ n + 3) → cut (n + 3) 4 l ≡ bytes ".KPP"
-      → Digits 9 (cut (4 + (n + 3)) 9 l) → TaxLine twelve (cut 3 n l) (cut (4 + (n + 3)) 9 l) l
-  tax-both z w d off v k = record {
-    person = inn-made twelve n (cut 3 n l) (b .found z .0) d;
-    reason = inr k;
-    line = made (kpp-spots n) l (refl, (refl, (refl, (omega arith, tax-long z off)))) ∙ rw (w, v, behind-some ".KPP" (cut (4 + (n + 3)) 9 l) (omega (arith, k .size)));
-  }
+      → Digits 9 (cut (4 + (n + 3)) 9 l) → TaxWith twelve n 9 l
+  tax-both z w d off v k = (
+    record {
+      person = inn-made twelve n (cut 3 n l) (b .found z .0) d;
+      reason = inr k;
+      line = made (kpp-spots n) l (refl, (refl, (refl, (omega arith, tax-long z off)))) ∙ rw (w, v, behind-some ".KPP" (cut (4 + (n + 3)) 9 l) (omega (arith, k .size)));
+    },
+    d .size,
+    k .size,
+  )
 
 -- ---- the size of an INN by the size of its line
 pub inn-by-10 : (twelve : Bool) (size : ℕ) → (size ≡ 13) or (size ≡ 26) → InnBy twelve size 10

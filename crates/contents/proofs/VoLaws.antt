@@ -10,7 +10,7 @@ use lib.ListN.{length, drop, length-map, length-drop, take-append-drop}
 use Rattle.base.specs.Quoted.{bytes}
 use Rattle.contents.specs.Words.{Text, Line, Size, Digits, join}
 use Rattle.contents.specs.Lines.{opening, closing}
-use Rattle.contents.specs.Fields.{Names, Each, Several, Details, In70, In72}
+use Rattle.contents.specs.Fields.{Names, Each, Several, In70, In72}
 use Rattle.contents.specs.Answers.{cut, VoFirst, textAt, IsMarked, NzpFirst, RppWith}
 use Rattle.contents.proofs.Laws.{Spot, spot, laid, made}
 use Rattle.contents.proofs.RppLaws.{rpp-front}
@@ -208,7 +208,7 @@ marked-made l a b w = (drop 2 l, sym (take-append-drop 2 l) ∙ rw w, record { l
 -- an RPP line is no first line of details
 pub rpp-not-nzp : (sign : Bool) (most n value : ℕ) (l : Line) (ms : List Line) → RppWith n value l → Not (In72 sign most (l ∷ ms))
 rpp-not-nzp sign most n value l ms t d =
-    let a = rpp-front _ _ _ _ _ l t .0 in
+    let a = rpp-front _ _ _ _ _ l (t .0) .0 in
     let b = nzp-tests sign l (in72-nzp sign most l ms d) .2 in
     let e = ap (λ (s : Text). byte s 1) (sym a ∙ b) in
     absurd (omega arith)

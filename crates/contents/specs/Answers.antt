@@ -28,9 +28,12 @@ use Rattle.contents.specs.declared.whole.Note.the-variants as note
 use Rattle.contents.specs.declared.lines.Rpp.{Rpp}
 use Rattle.contents.specs.declared.lines.Rpp.the-variants as rpp
 
--- n bytes of the text from i on
+-- n bytes of the text from i on, and that there are so many
 abbrev pub cut : ℕ → ℕ → Text → Text
 cut i n s = take n (drop i s)
+
+abbrev pub Stand : ℕ → ℕ → Text → Type 0
+Stand i n s = length (cut i n s) ≡ n
 
 -- r bytes from i on are digits, and no more than n are asked for: the next is none, or r is n, or the text ends
 pub record Leads (i n : ℕ) (s : Text) (r : ℕ) : Type 0 where
@@ -57,28 +60,39 @@ pub record RppBody (i : ℕ) (l : Line) : Type 0 where
   pub point3 : byte l (9 + i) ≡ 46
   pub kind : Way (cut (10 + i) 4 l)
 
--- ---- lines with their parts
+-- ---- lines with their parts, of these sizes
+abbrev pub TaxWith : Bool → ℕ → ℕ → Line → Type 0
+TaxWith twelve inn kpp l = TaxLine twelve (cut 3 inn l) (cut (4 + (inn + 3)) kpp l) l × Stand 3 inn l × Stand (4 + (inn + 3)) kpp l
+
 abbrev pub TaxSaid : Bool → Line → Tax → Type 0
 TaxSaid twelve l tax.Wrong = (inn kpp : Text) → Not (TaxLine twelve inn kpp l)
-TaxSaid twelve l (tax.Is inn kpp) = TaxLine twelve (cut 3 inn l) (cut (4 + (inn + 3)) kpp l) l
+TaxSaid twelve l (tax.Is inn kpp) = TaxWith twelve inn kpp l
+
+abbrev pub BikWith : ℕ → Line → Type 0
+BikWith n l = PartyByBik (cut 4 9 l) (cut 14 n l) l × Stand 14 n l
 
 abbrev pub PartySaid : Line → Party → Type 0
 PartySaid l party.Wrong = Not (IsParty l)
 PartySaid l party.Account = PartyByAccount (cut 1 20 l) l
-PartySaid l (party.Bik n) = PartyByBik (cut 4 9 l) (cut 14 n l) l
+PartySaid l (party.Bik n) = BikWith n l
+
+abbrev pub PaidWith : ℕ → ℕ → Line → Type 0
+PaidWith whole decimals l = Payment (cut 0 6 l) (cut 6 3 l) (cut 9 whole l) (cut (1 + (whole + 9)) decimals l) l × Stand 9 whole l × Stand (1 + (whole + 9)) decimals l
 
 abbrev pub PaidSaid : Line → Paid → Type 0
 PaidSaid l paid.Wrong = (date currency whole decimals : Text) → Not (Payment date currency whole decimals l)
-PaidSaid l (paid.Is whole decimals) = Payment (cut 0 6 l) (cut 6 3 l) (cut 9 whole l) (cut (1 + (whole + 9)) decimals l) l
+PaidSaid l (paid.Is whole decimals) = PaidWith whole decimals l
+
+abbrev pub RppWith : ℕ → ℕ → Line → Type 0
+RppWith n value l =
+    RppLine (cut 5 n l) (cut (1 + (n + 5)) 6 l) (cut (8 + (n + 5)) 1 l) (cut (10 + (n + 5)) 4 l) (cut (15 + (n + 5)) value l) l
+    × Stand 5 n l × Stand (15 + (n + 5)) value l
 
 abbrev pub RppSaid : Line → Rpp → Type 0
 RppSaid l rpp.Wrong = (number date turn way value : Text) → Not (RppLine number date turn way value l)
-RppSaid l (rpp.Is n value) = RppLine (cut 5 n l) (cut (1 + (n + 5)) 6 l) (cut (8 + (n + 5)) 1 l) (cut (10 + (n + 5)) 4 l) (cut (15 + (n + 5)) value l) l
+RppSaid l (rpp.Is n value) = RppWith n value l
 
 -- ---- fields with the parts of their tax line; at: where the first of the lines begins
-abbrev pub TaxWith : Bool → ℕ → ℕ → Line → Type 0
-TaxWith twelve inn kpp l = TaxLine twelve (cut 3 inn l) (cut (4 + (inn + 3)) kpp l) l
-
 abbrev pub BesideSaid : Bool → ℕ → List Line → Held → Type 0
 BesideSaid twelve at ls held.Wrong = Not (Beside twelve ls)
 BesideSaid twelve at ls held.Plain = Not (Then LooksTax Any ls) × Names 4 ls
@@ -117,7 +131,7 @@ noParty (party.Bik n) = false
 abbrev pub IsA : Party → Line → Type 0
 IsA party.Wrong l = ⊥
 IsA party.Account l = PartyByAccount (cut 1 20 l) l
-IsA (party.Bik n) l = PartyByBik (cut 4 9 l) (cut 14 n l) l
+IsA (party.Bik n) l = BikWith n l
 
 abbrev pub BicSaid : List Line → Bank → Type 0
 BicSaid ls bank.Wrong = Not (BankByBic ls)
@@ -148,9 +162,6 @@ pub record NzpFirst (sign : Bool) (l : Line) : Type 0 where
 -- where the VO code ends
 abbrev pub textAt : Bool → ℕ
 textAt sign = length (closing sign) + (5 + length (opening sign))
-
-abbrev pub RppWith : ℕ → ℕ → Line → Type 0
-RppWith n value l = RppSaid l (rpp.Is n value)
 
 abbrev pub NoteSaid : Bool → List Line → Note → Type 0
 NoteSaid sign ls note.Wrong = Not (RppAndDetails sign ls)

@@ -8,7 +8,10 @@ use mathlib.Core.List.{List, [], _∷_}
 use lib.Dec.{eqb}
 use Rattle.base.specs.Choice.{pick, all}
 use Rattle.base.specs.Quoted.{bytes}
-use Rattle.contents.specs.Rule8.{rightContent}
+use Rattle.fields.specs.Lines.{linesIn}
+use Rattle.types.specs.Form.{formOf}
+use Rattle.contents.specs.Tags.{heldBy}
+use Rattle.contents.specs.Tests.{right}
 
 -- type, sign, tag, right contents, wrong contents
 pub data Case : Type 0 where
@@ -25,7 +28,7 @@ spread [] = []
 spread (x ∷ s) = pick (eqb x 124) (13 ∷ 10 ∷ spread s) (x ∷ spread s)
 
 abbrev pub isRight : ℕ → Bool → String → String → Bool
-isRight kind sign t s = rightContent kind sign (bytes t) (spread (bytes s))
+isRight kind sign t s = right (heldBy (formOf kind) (bytes t)) sign (linesIn (spread (bytes s)))
 
 abbrev pub Holds : Case → Type 0
 Holds (case kind sign t rights wrongs) = (all (isRight kind sign t) rights ≡ true) × (all (λ s. not (isRight kind sign t s)) wrongs ≡ true)

@@ -3,6 +3,7 @@ pub mod Lines
 pub mod Fields
 pub mod Tags
 pub mod Tests
+pub mod Parts
 pub mod Rule8
 pub mod Answers
 pub mod Cases

@@ -9,9 +9,8 @@ use Rattle.base.specs.declared.Verdict.{Verdict}
 use Rattle.base.specs.declared.Verdict.the-variants.{Fine, Broken}
 use Rattle.fields.specs.Field.{Field, field, linesOf, fields}
 use Rattle.fields.specs.Places.{sizeOf, startOf, nextOf}
-use Rattle.fields.specs.Lines.{linesIn}
+use Rattle.types.specs.declared.Form.{Form}
 use Rattle.types.specs.Sign.{signOf}
-use Rattle.contents.specs.Words.{Text}
 use Rattle.contents.specs.Tags.{heldBy, RightField}
 use Rattle.contents.specs.Tests.{right}
 
@@ -22,27 +21,23 @@ firstWrong n test place o [] = Fine
 firstWrong n test place o (f ∷ fs) = pick (test f) (firstWrong n test place (nextOf o f) fs) (Broken n (place o f))
 
 -- ---- 8, computed
-unfoldable pub rightField : ℕ → Bool → Field → Bool
-rightField kind sign (field t ls) = right (heldBy kind t) sign ls
+unfoldable pub rightField : Form → Bool → Field → Bool
+rightField form sign (field t ls) = right (heldBy form t) sign ls
 
-unfoldable pub rule8 : ℕ → List ℕ → Verdict
-rule8 kind m = firstWrong 8 (rightField kind (signOf (fields m))) startOf 5 (fields m)
+unfoldable pub rule8 : Form → List ℕ → Verdict
+rule8 form m = firstWrong 8 (rightField form (signOf (fields m))) startOf 5 (fields m)
 
 -- ---- 8, in words
-abbrev pub EachRight : ℕ → Bool → List Field → Type 0
-EachRight kind sign [] = Unit {0}
-EachRight kind sign (f ∷ fs) = RightField kind sign f × EachRight kind sign fs
+abbrev pub EachRight : Form → Bool → List Field → Type 0
+EachRight form sign [] = Unit {0}
+EachRight form sign (f ∷ fs) = RightField form sign f × EachRight form sign fs
 
 -- p is where the content of the first field starts that isn't right
-pub record FirstWrong (kind : ℕ) (sign : Bool) (o : ℕ) (fs : List Field) (p : ℕ) : Type 0 where
+pub record FirstWrong (form : Form) (sign : Bool) (o : ℕ) (fs : List Field) (p : ℕ) : Type 0 where
   pub before : List Field
   pub this : Field
   pub after : List Field
   pub list : fs ≡ before ++ this ∷ after
-  pub pass : EachRight kind sign before
-  pub wrong : Not (RightField kind sign this)
+  pub pass : EachRight form sign before
+  pub wrong : Not (RightField form sign this)
   pub at : p ≡ startOf (o + sizeOf (linesOf before)) this
-
--- the same of a tag and the bytes of a content
-unfoldable pub rightContent : ℕ → Bool → Text → List ℕ → Bool
-rightContent kind sign t c = right (heldBy kind t) sign (linesIn c)

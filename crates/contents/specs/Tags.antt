@@ -1,13 +1,13 @@
--- What each tag of a type holds (section C). Assumes nothing.
-use Prim.Native.Nat.{ℕ}
+-- What each tag of a form holds (section C). Assumes nothing.
 use Prim.Native.String.{String}
 use mathlib.Core.Bool.{Bool}
 use mathlib.Core.List.{List, [], _∷_}
-use lib.Dec.{eqb}
 use Rattle.base.specs.Choice.{pick}
 use Rattle.base.specs.Bytes.{same}
 use Rattle.base.specs.Quoted.{bytes}
 use Rattle.fields.specs.Field.{Field, field}
+use Rattle.types.specs.declared.Form.{Form}
+use Rattle.types.specs.declared.Form.the-variants.{Other, Mt103, Mt202}
 use Rattle.contents.specs.declared.Content.{Content}
 use Rattle.contents.specs.declared.Content.the-variants as holds
 use Rattle.contents.specs.Words.{Text}
@@ -52,17 +52,19 @@ tags202 =
     ∷ tag "72" holds.DocumentAndDetails
     ∷ []
 
--- a tag that the type has not, and every tag of no form's type, holds nothing that is known
+-- a tag that the form has not holds nothing that is known
 abbrev pub heldIn : List Tag → Text → Content
 heldIn [] t = holds.Unknown
 heldIn (tag u c ∷ ts) t = pick (same t (bytes u)) c (heldIn ts t)
 
-abbrev pub tagsOf : ℕ → List Tag
-tagsOf kind = pick (eqb kind 103) tags103 (pick (eqb kind 202) tags202 [])
+abbrev pub tagsOf : Form → List Tag
+tagsOf Mt103 = tags103
+tagsOf Mt202 = tags202
+tagsOf Other = []
 
-unfoldable pub heldBy : ℕ → Text → Content
-heldBy kind t = heldIn (tagsOf kind) t
+unfoldable pub heldBy : Form → Text → Content
+heldBy form t = heldIn (tagsOf form) t
 
--- a field is right by its type, the sign and its tag
-abbrev pub RightField : ℕ → Bool → Field → Type 0
-RightField kind sign (field t ls) = Right (heldBy kind t) sign ls
+-- a field is right by its form, the sign and its tag
+abbrev pub RightField : Form → Bool → Field → Type 0
+RightField form sign (field t ls) = Right (heldBy form t) sign ls

@@ -2,7 +2,6 @@
 -- Fields, put to the parts that a line is cut into. What a reader has to believe is the grammar there; that these tests are exact is proved
 -- (proofs/LineTests, proofs/FieldTests). Assumes nothing.
 use Prim.Native.Nat.{ℕ, _+_, _-_, _*_}
-use Prim.Native.String.{String}
 use mathlib.Core.Bool.{Bool, true, false, not, _&&_, _||_}
 use mathlib.Core.List.{List, [], _∷_, _++_}
 use lib.Dec.{eqb, leb}
@@ -41,6 +40,10 @@ just kind n s = eqb (length s) n && all kind s
 
 abbrev pub starts : Text → Text → Bool
 starts w s = same (take (length w) s) w
+
+-- a word, and a digit behind it
+abbrev pub numbered : Text → Text → Bool
+numbered w s = starts w s && digit (byte s (length w))
 
 -- perhaps a mark, and behind it such a part
 abbrev pub perhaps : Text → (Text → Bool) → Text → Bool
@@ -119,7 +122,7 @@ unfoldable pub isTax : Bool → Line → Bool
 isTax twelve l = same (piece 0 (taxParts l)) (bytes "INN") && (isInn twelve (piece 1 (taxParts l)) && perhaps (bytes ".KPP") (just digit 9) (piece 2 (taxParts l)))
 
 unfoldable pub looksTax : Line → Bool
-looksTax l = starts (bytes "INN") l && digit (byte l 3)
+looksTax l = numbered (bytes "INN") l
 
 abbrev pub isName : Line → Bool
 isName l = sizes 1 35 l

@@ -2,7 +2,8 @@
 ghost use mathlib.Core.Path.{_≡_};
 ghost use Prim.Native.Nat.{_+_, _-_, _*_, _≤_};
 ghost use lib.ListN.{length};
-ghost use Rattle.contents.specs.Fields.{IsPurpose, IsAccount, IsOwnAccount, IsBic, LooksTax};
+ghost use Rattle.contents.specs.Fields.{IsPurpose, IsAccount, IsOwnAccount, IsBic};
+ghost use Rattle.contents.specs.Tests.{looksTax};
 ghost use Rattle.contents.specs.Lines.{Name, Way, Reference};
 ghost use Rattle.base.specs.Says.{Says};
 ghost use Rattle.contents.specs.Answers.{cut, HasPair, RppBody, PartySaid, InnBy, TaxSaid, PaidSaid, RppSaid};
@@ -12,7 +13,7 @@ use super::pieces::are_digits;
 use super::pieces::digits_from;
 use super::pieces::has_word;
 use super::pieces::is_just;
-use base::bytes::is_digit;
+use super::pieces::is_numbered;
 
 // How wide a line may be, and an account behind its slash.
 pub(crate) const WIDTH: usize = 35;
@@ -39,11 +40,11 @@ const TEN_AND_KPP: usize = WITH_TEN + KPP_MARK + KPP;
 const TWELVE_AND_KPP: usize = WITH_TWELVE + KPP_MARK + KPP;
 
 // 32A: a date, a currency, and an amount, of which a comma is one byte.
-const DATE: usize = 6;
+pub const DATE: usize = 6;
 
 const CURRENCY: usize = 3;
 
-const COMMA: usize = 1;
+pub const COMMA: usize = 1;
 
 const AMOUNT: usize = 15;
 
@@ -51,14 +52,14 @@ const MOST_DIGITS: usize = AMOUNT - COMMA;
 
 const MOST_DECIMALS: usize = 2;
 
-const MONEY: usize = DATE + CURRENCY;
+pub const MONEY: usize = DATE + CURRENCY;
 
 const SHORTEST_PAID: usize = MONEY + 1 + COMMA;
 
 const LONGEST_PAID: usize = MONEY + AMOUNT;
 
 // An RPP line behind its mark and its number: point, date, point, digit, point, way; and perhaps point and date.
-const RPP_MARK: usize = 5;
+pub const RPP_MARK: usize = 5;
 
 const MOST_NUMBER: usize = 3;
 
@@ -68,7 +69,7 @@ const TURN: usize = 1;
 
 const WAY: usize = 4;
 
-const RPP_DATE: usize = POINT;
+pub const RPP_DATE: usize = POINT;
 
 const SECOND_POINT: usize = RPP_DATE + DATE;
 
@@ -80,7 +81,7 @@ const RPP_WAY: usize = THIRD_POINT + POINT;
 
 const RPP_BODY: usize = RPP_WAY + WAY;
 
-const RPP_VALUE: usize = RPP_BODY + POINT;
+pub const RPP_VALUE: usize = RPP_BODY + POINT;
 
 const RPP_WHOLE: usize = RPP_VALUE + DATE;
 
@@ -115,11 +116,11 @@ const BIK_MARK: usize = 4;
 
 const BIK: usize = 9;
 
-const BY_BIK: usize = BIK_MARK + BIK;
+pub const BY_BIK: usize = BIK_MARK + BIK;
 
 const BIK_ACCOUNT: usize = BY_BIK + POINT;
 
-const BY_BOTH: usize = BIK_ACCOUNT + ACCOUNT;
+pub const BY_BOTH: usize = BIK_ACCOUNT + ACCOUNT;
 
 // A reference, and the numbers of purposes.
 const REFERENCE: usize = 16;
@@ -175,16 +176,11 @@ pub fn is_account(l: &[u8]) -> bool
     l[1] != b'/'
 }
 
+// Whether a line in the tax place is taken for a tax line: it begins INN and a digit.
 pub fn looks_tax(l: &[u8]) -> bool
-    ensures { λ r. ⌜ Says (LooksTax (now (l .entry))) r ⌝ }
+    ensures { λ r. ⌜ r ≡ looksTax (now (l .entry)) ⌝ }
 {
-    if l.len() < 4 {
-        return false;
-    }
-    if !has_word(l, 0, b"INN") {
-        return false;
-    }
-    is_digit(l[INN_MARK])
+    is_numbered(l, b"INN")
 }
 
 fn inn_size(twelve: bool, size: usize) -> usize

@@ -5,6 +5,8 @@ ghost use lib.ListN.{length};
 ghost use Rattle.contents.specs.Words.{Digits, Capitals, CapitalsOrDigits, capitalOrDigit};
 ghost use Rattle.base.specs.Says.{Says};
 ghost use Rattle.contents.specs.Answers.{cut, Leads};
+ghost use Rattle.contents.specs.Tests.{starts, numbered};
+ghost use Rattle.contents.specs.Parts.{opensRpp};
 use base::bytes::is_capital;
 use base::bytes::is_digit;
 
@@ -102,4 +104,34 @@ pub fn is_just(s: &[u8], w: &[u8]) -> bool
         return false;
     }
     has_word(s, 0, w)
+}
+
+fn starts_with(s: &[u8], word: &[u8]) -> bool
+    ensures { λ r. ⌜ r ≡ starts (now (word .entry)) (now (s .entry)) ⌝ }
+{
+    if s.len() < word.len() {
+        return false;
+    }
+    has_word(s, 0, word)
+}
+
+// Whether a text begins with this word and a digit.
+pub fn is_numbered(s: &[u8], word: &[u8]) -> bool
+    ensures { λ r. ⌜ r ≡ numbered (now (word .entry)) (now (s .entry)) ⌝ }
+{
+    let n = word.len();
+    if s.len() <= n {
+        return false;
+    }
+    if !has_word(s, 0, word) {
+        return false;
+    }
+    is_digit(s[n])
+}
+
+// Whether a line, or a content, begins as an RPP line does.
+pub fn opens_rpp(s: &[u8]) -> bool
+    ensures { λ r. ⌜ r ≡ opensRpp (now (s .entry)) ⌝ }
+{
+    starts_with(s, b"/RPP/")
 }

@@ -1,10 +1,9 @@
-// What a field holds, by the type and the packed tag, and whether it is right.
+// What a field holds, by its form and its tag.
 ghost use mathlib.Core.Path.{_≡_};
 ghost use Rattle.fields.specs.Shapes.{unpack};
 ghost use Rattle.contents.specs.Tags.{tags103, tags202, heldIn, heldBy};
-ghost use Rattle.contents.specs.Rule8.{rightContent};
 use super::Content;
-use super::whole::is_right;
+use types::Form;
 use types::tags::TAG_20;
 use types::tags::TAG_21;
 use types::tags::TAG_23B;
@@ -69,21 +68,12 @@ fn held_202(tag: u32) -> Content
     }
 }
 
-pub fn held_by(kind: u32, tag: u32) -> Content
-    ensures { λ r. ⌜ r ≡ heldBy kind (unpack tag) ⌝ }
+pub fn held_by(form: Form, tag: u32) -> Content
+    ensures { λ r. ⌜ r ≡ heldBy form (unpack tag) ⌝ }
 {
-    if kind == 103 {
-        return held_103(tag);
+    match form {
+        Form::Other => Content::Unknown,
+        Form::Mt103 => held_103(tag),
+        Form::Mt202 => held_202(tag),
     }
-    if kind == 202 {
-        return held_202(tag);
-    }
-    Content::Unknown
-}
-
-// 8 at one field: whether the content is as its tag asks.
-pub fn is_right_field(kind: u32, sign: bool, tag: u32, content: &[u8]) -> bool
-    ensures { λ r. ⌜ r ≡ rightContent kind sign (unpack tag) (now (content .entry)) ⌝ }
-{
-    is_right(held_by(kind, tag), sign, content)
 }

@@ -24,6 +24,7 @@ use Rattle.fields.specs.Field.{fields}
 use Rattle.fields.specs.Frame.{limit}
 use Rattle.fields.specs.Places.{listed}
 use Rattle.fields.proofs.PlaceLaws.{listed-length}
+use Rattle.types.specs.declared.Form.{Form}
 use Rattle.types.proofs.TableLaws.{few-places}
 use Rattle.types.specs.Form.{placesOf}
 use Rattle.types.specs.Walk.{find}
@@ -35,7 +36,8 @@ use Rattle.listing.specs.declared.Span.{Span}
 use Rattle.listing.specs.declared.Span.the-variants.{Part, Nothing}
 use Rattle.values.specs.Number.{onward, number}
 use Rattle.values.specs.Day.{yearOf, dated}
-use Rattle.values.specs.Values.{part}
+use Rattle.contents.specs.Tests.{isPayment}
+use Rattle.contents.specs.Parts.{paidDate}
 use Rattle.values.specs.Answers.{kopecksOf, dateOf}
 use Rattle.values.proofs.MoneyLaws.{kopecks-of-small}
 use Rattle.judge.specs.Message.{messageRules, verdictOf}
@@ -73,62 +75,69 @@ room-small t out h = go (ltb (length out) (length t))
     go true = fits 17 (length t) (omega arith, h)
     go false = omega (arith, h)
 
-pub sheet-small : (kind : ℕ) (m out : List ℕ) (r : Outcome) (after : List ℕ) → SheetTo kind m out r after → SmallOutcome r
+pub sheet-small : (form : Form) (m out : List ℕ) (r : Outcome) (after : List ℕ) → SheetTo form m out r after → SmallOutcome r
 unfolding SheetTo verdictOf
-sheet-small kind m out r after g =
-    subst SmallOutcome (sym (g .answers ∙ ap (λ (v : Verdict). outcome v (length (sheetOf kind m))) (first-last (messageRules kind m) (short (sheetOf kind m) out))))
-    (go (first (messageRules kind m)) refl (verdict-small kind m))
+sheet-small form m out r after g =
+    subst SmallOutcome (sym (g .answers ∙ ap (λ (v : Verdict). outcome v (length (sheetOf form m))) (first-last (messageRules form m) (short (sheetOf form m) out))))
+    (go (first (messageRules form m)) refl (verdict-small form m))
   where
-    go : (v : Verdict) → verdictOf kind m ≡ v → verdicts.Small limit v → SmallOutcome (outcome (then v (short (sheetOf kind m) out)) (length (sheetOf kind m)))
-    go Fine e s = room-small (sheetOf kind m) out (sheet-size kind m e)
+    go : (v : Verdict) → verdictOf form m ≡ v → verdicts.Small limit v → SmallOutcome (outcome (then v (short (sheetOf form m) out)) (length (sheetOf form m)))
+    go Fine e s = room-small (sheetOf form m) out (sheet-size form m e)
     go (Broken n p) e s = fits n p s
 
 -- ---- the check
-fine-small : (kind : ℕ) (m list : List ℕ) → verdictOf kind m ≡ Fine → SmallCheck (checkedBy (short (listed 5 (fields m)) list) (length (fields m)) (wordOf kind m))
+fine-small : (form : Form) (m list : List ℕ) → verdictOf form m ≡ Fine → SmallCheck (checkedBy (short (listed 5 (fields m)) list) (length (fields m)) (wordOf form m))
 unfolding short
-fine-small kind m list e = go (ltb (length list) (length (listed 5 (fields m))))
+fine-small form m list e = go (ltb (length list) (length (listed 5 (fields m))))
   where
-    go : (q : Bool) → SmallCheck (checkedBy (pick q (Broken 17 (length (listed 5 (fields m)))) Fine) (length (fields m)) (wordOf kind m))
-    go true = let t = taken kind m (frame-clean kind m e) in (omega arith, omega (arith, t .few, listed-length 5 (fields m)))
-    go false = let t = taken kind m (frame-clean kind m e) in (omega (arith, t .few), omega (arith, t .sound .below, pow-mono {j = 14} (few-places kind)))
+    go : (q : Bool) → SmallCheck (checkedBy (pick q (Broken 17 (length (listed 5 (fields m)))) Fine) (length (fields m)) (wordOf form m))
+    go true = let t = taken form m (frame-clean form m e) in (omega arith, omega (arith, t .few, listed-length 5 (fields m)))
+    go false = let t = taken form m (frame-clean form m e) in (omega (arith, t .few), omega (arith, t .sound .below, pow-mono {j = 14} (few-places form)))
 
-pub check-small : (kind : ℕ) (m list : List ℕ) (r : Checked) (after : List ℕ) → Checks kind m list r after → SmallCheck r
+pub check-small : (form : Form) (m list : List ℕ) (r : Checked) (after : List ℕ) → Checks form m list r after → SmallCheck r
 unfolding verdictOf
-check-small kind m list r after g =
-    subst SmallCheck (sym (g .answers ∙ ap (λ (v : Verdict). checkedBy v (length (fields m)) (wordOf kind m)) (first-last (messageRules kind m) (short (listed 5 (fields m)) list))))
-    (go (first (messageRules kind m)) refl (verdict-small kind m))
+check-small form m list r after g =
+    subst SmallCheck (sym (g .answers ∙ ap (λ (v : Verdict). checkedBy v (length (fields m)) (wordOf form m)) (first-last (messageRules form m) (short (listed 5 (fields m)) list))))
+    (go (first (messageRules form m)) refl (verdict-small form m))
   where
-    go : (v : Verdict) → verdictOf kind m ≡ v → verdicts.Small limit v → SmallCheck (checkedBy (then v (short (listed 5 (fields m)) list)) (length (fields m)) (wordOf kind m))
-    go Fine e s = fine-small kind m list e
+    go : (v : Verdict) → verdictOf form m ≡ v → verdicts.Small limit v → SmallCheck (checkedBy (then v (short (listed 5 (fields m)) list)) (length (fields m)) (wordOf form m))
+    go Fine e s = fine-small form m list e
     go (Broken n p) e s = fits n p s
+
+-- ---- a call on a form, said of the type that it is the form of
+pub checks-as : {f g : Form} {m list a : List ℕ} {r : Checked} → f ≡ g → Checks f m list r a → Checks g m list r a
+checks-as {m = m} {list = list} {a = a} {r = r} e c = subst (λ (x : Form). Checks x m list r a) e c
+
+pub sheet-as : (m out a : List ℕ) (r : Outcome) {f g : Form} → f ≡ g → SheetTo f m out r a → SheetTo g m out r a
+sheet-as m out a r e c = subst (λ (x : Form). SheetTo x m out r a) e c
 
 -- ---- the part of a place
 inside-small : (m : List ℕ) (s : Span) → length m ≤ limit → Inside m s → SmallSpan s
 inside-small m (Part start end) h i = (i .0, omega (arith, i .1))
 inside-small m Nothing h i = tt
 
-pub span-small : (kind : ℕ) (m : List ℕ) (place : ℕ) → SmallSpan (spanOf kind m place)
+pub span-small : (form : Form) (m : List ℕ) (place : ℕ) → SmallSpan (spanOf form m place)
 unfolding spanOf
-span-small kind m place = go (verdictOf kind m) refl
+span-small form m place = go (verdictOf form m) refl
   where
-    go : (v : Verdict) → verdictOf kind m ≡ v → SmallSpan (spanBy v (partAt (placesOf kind) place 5 (fields m)))
+    go : (v : Verdict) → verdictOf form m ≡ v → SmallSpan (spanBy v (partAt (placesOf form) place 5 (fields m)))
     go (Broken n p) e = tt
-    go Fine e = inside-small m (partAt (placesOf kind) place 5 (fields m)) (taken kind m (frame-clean kind m e) .within) (inside-clean kind m e place)
+    go Fine e = inside-small m (partAt (placesOf form) place 5 (fields m)) (taken form m (frame-clean form m e) .within) (inside-clean form m e place)
 
 -- ---- kopecks and the date
-pub amount-small : (kind : ℕ) (m : List ℕ) → SmallAmount (amountOf kind m)
+pub amount-small : (form : Form) (m : List ℕ) → SmallAmount (amountOf form m)
 unfolding amountOf
-amount-small kind m = go (verdictOf kind m) (verdict-small kind m)
+amount-small form m = go (verdictOf form m) (verdict-small form m)
   where
-    go : (v : Verdict) → verdicts.Small limit v → SmallAmount (amountBy v (kopecksOf (paid kind m)))
+    go : (v : Verdict) → verdicts.Small limit v → SmallAmount (amountBy v (kopecksOf (paid form m)))
     go Fine s = tt
     go (Broken n p) s = fits n p s
 
-pub day-small : (kind : ℕ) (m : List ℕ) → SmallDay (dayOf kind m)
+pub day-small : (form : Form) (m : List ℕ) → SmallDay (dayOf form m)
 unfolding dayOf
-day-small kind m = go (verdictOf kind m) (verdict-small kind m)
+day-small form m = go (verdictOf form m) (verdict-small form m)
   where
-    go : (v : Verdict) → verdicts.Small limit v → SmallDay (dayBy v (dateOf (paid kind m)))
+    go : (v : Verdict) → verdicts.Small limit v → SmallDay (dayBy v (dateOf (paid form m)))
     go Fine s = tt
     go (Broken n p) s = fits n p s
 
@@ -139,20 +148,20 @@ take-bytes (suc n) [] b i = omega arith
 take-bytes (suc n) (x ∷ s) b zero = b 0
 take-bytes (suc n) (x ∷ s) b (suc i) = take-bytes n s (λ j. b (suc j)) i
 
-part-bytes : (i n : ℕ) (s : List ℕ) → Bytes s → Bytes (part i n s)
+part-bytes : (i n : ℕ) (s : List ℕ) → Bytes s → Bytes (take n (drop i s))
 part-bytes i n s b = take-bytes n (drop i s) (λ j. subst (λ (x : ℕ). x < 256) (sym (getD-drop i s j 0)) (b (i + j)))
 
-paid-bytes : (kind : ℕ) (m : List ℕ) → Bytes m → Bytes (paid kind m)
+paid-bytes : (form : Form) (m : List ℕ) → Bytes m → Bytes (paid form m)
 unfolding paid contentOf
-paid-bytes kind m b = go (spanOf kind m (find (placesOf kind) (bytes "32A")))
+paid-bytes form m b = go (spanOf form m (find (placesOf form) (bytes "32A")))
   where
     go : (s : Span) → Bytes (partOf m s)
     go (Part start end) = part-bytes start (end - start) m b
     go Nothing = λ i. omega arith
 
 -- the kopecks fit
-pub kopecks-fit : (kind : ℕ) (m : List ℕ) → Bytes m → kopecksOf (paid kind m) < 2 ^ 63
-kopecks-fit kind m b = kopecks-of-small (paid kind m) (paid-bytes kind m b)
+pub kopecks-fit : (form : Form) (m : List ℕ) → Bytes m → kopecksOf (paid form m) < 2 ^ 63
+kopecks-fit form m b = kopecks-of-small (paid form m)
 
 -- and so does the date
 two-small : (s : List ℕ) → Bytes s → number (take 2 s) < 2300
@@ -177,10 +186,10 @@ dated-small s b =
     let d = two-small (drop 4 s) (λ j. subst (λ (x : ℕ). x < 256) (sym (getD-drop 4 s j 0)) (b (4 + j))) in
     omega arith
 
-pub date-fits : (kind : ℕ) (m : List ℕ) → Bytes m → dateOf (paid kind m) < 4294967296
+pub date-fits : (form : Form) (m : List ℕ) → Bytes m → dateOf (paid form m) < 4294967296
 unfolding dateOf
-date-fits kind m b = go (leb 6 (length (paid kind m)))
+date-fits form m b = go (isPayment (paid form m))
   where
-    go : (q : Bool) → pick q (dated (part 0 6 (paid kind m))) 0 < 4294967296
-    go true = dated-small (part 0 6 (paid kind m)) (part-bytes 0 6 (paid kind m) (paid-bytes kind m b))
+    go : (q : Bool) → pick q (dated (paidDate (paid form m))) 0 < 4294967296
+    go true = dated-small (paidDate (paid form m)) (take-bytes 6 (paid form m) (paid-bytes form m b))
     go false = omega arith

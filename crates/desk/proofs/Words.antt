@@ -7,6 +7,7 @@ use mathlib.Core.Logic.{_↔_}
 use native.Mathlib.Omega.{arith}
 use lib.Dec.{eqb}
 use borrow.Author.Tests.{ne-eqb}
+use Rattle.types.specs.declared.Form.{Form}
 use Rattle.base.specs.declared.Outcome.{Outcome}
 use Rattle.base.specs.declared.Outcome.the-variants.{Done, Refused}
 use Rattle.alphabets.proofs.Outcomes.{read-one, write-one, read-small, write-small}
@@ -69,14 +70,14 @@ read-word-one sign bank out = one-word (read-one (isOn sign) bank out)
 pub write-word-one : (sign : ℕ) (text out : List ℕ) {r q : ℕ} {a b : List ℕ} → WrittenWord sign text out r a → WrittenWord sign text out q b → (r ≡ q) × (a ≡ b)
 write-word-one sign text out = one-word (write-one (isOn sign) text out)
 
-pub check-word-one : (kind : ℕ) (m list : List ℕ) {r q : ℕ} {a b : List ℕ} → CheckWord kind m list r a → CheckWord kind m list q b → (r ≡ q) × (a ≡ b)
-check-word-one kind m list = one-word (λ x y a b c d. checks-one c d)
+pub check-word-one : (form : Form) (m list : List ℕ) {r q : ℕ} {a b : List ℕ} → CheckWord form m list r a → CheckWord form m list q b → (r ≡ q) × (a ≡ b)
+check-word-one form m list = one-word (λ x y a b c d. checks-one c d)
 
 pub message-word-one : (s out : List ℕ) {r q : ℕ} {a b : List ℕ} → MessageWord s out r a → MessageWord s out q b → (r ≡ q) × (a ≡ b)
 message-word-one s out = one-word (λ x y a b c d. message-one s out c d)
 
-pub sheet-word-one : (kind : ℕ) (m out : List ℕ) {r q : ℕ} {a b : List ℕ} → SheetWord kind m out r a → SheetWord kind m out q b → (r ≡ q) × (a ≡ b)
-sheet-word-one kind m out = one-word (λ x y a b c d. sheet-one kind m out c d)
+pub sheet-word-one : (form : Form) (m out : List ℕ) {r q : ℕ} {a b : List ℕ} → SheetWord form m out r a → SheetWord form m out q b → (r ≡ q) × (a ≡ b)
+sheet-word-one form m out = one-word (λ x y a b c d. sheet-one form m out c d)
 
 pub read-fits : (sign : ℕ) (bank out : List ℕ) {r : ℕ} {a : List ℕ} (m : ReadWord sign bank out r a) → SmallOutcome (m .answer)
 read-fits sign bank out = word-fits SmallOutcome (λ x a c. text-small x (read-small (isOn sign) bank out x a c))
@@ -84,14 +85,14 @@ read-fits sign bank out = word-fits SmallOutcome (λ x a c. text-small x (read-s
 pub write-fits : (sign : ℕ) (text out : List ℕ) {r : ℕ} {a : List ℕ} (m : WrittenWord sign text out r a) → SmallOutcome (m .answer)
 write-fits sign text out = word-fits SmallOutcome (λ x a c. text-small x (write-small (isOn sign) text out x a c))
 
-pub check-fits : (kind : ℕ) (m list : List ℕ) {r : ℕ} {a : List ℕ} (x : CheckWord kind m list r a) → SmallCheck (x .answer)
-check-fits kind m list = word-fits SmallCheck (check-small kind m list)
+pub check-fits : (form : Form) (m list : List ℕ) {r : ℕ} {a : List ℕ} (x : CheckWord form m list r a) → SmallCheck (x .answer)
+check-fits form m list = word-fits SmallCheck (check-small form m list)
 
 pub message-fits : (s out : List ℕ) {r : ℕ} {a : List ℕ} (m : MessageWord s out r a) → SmallOutcome (m .answer)
 message-fits s out = word-fits SmallOutcome (message-small s out)
 
-pub sheet-fits : (kind : ℕ) (m out : List ℕ) {r : ℕ} {a : List ℕ} (x : SheetWord kind m out r a) → SmallOutcome (x .answer)
-sheet-fits kind m out = word-fits SmallOutcome (sheet-small kind m out)
+pub sheet-fits : (form : Form) (m out : List ℕ) {r : ℕ} {a : List ℕ} (x : SheetWord form m out r a) → SmallOutcome (x .answer)
+sheet-fits form m out = word-fits SmallOutcome (sheet-small form m out)
 
 -- a check's answer is told by its word, too
 pub checked-one : (c d : Checked) → SmallCheck c → SmallCheck d → checkedWord c ≡ checkedWord d → c ≡ d
@@ -118,22 +119,22 @@ checked-below-iff (checked.Refused k p) a = ((λ h. absurd (omega arith)), (λ h
     apart n w e = let z : _≡_ {A = ℕ} 0 1 = cc in omega arith
 
 -- kopecks and a date come out below 2^63 exactly if the message is accepted
-pub amount-below-iff : (kind : ℕ) (m : List ℕ) → Bytes m → (amountWord (amountOf kind m) < 9223372036854775808) ↔ (verdictOf kind m ≡ Fine)
+pub amount-below-iff : (form : Form) (m : List ℕ) → Bytes m → (amountWord (amountOf form m) < 9223372036854775808) ↔ (verdictOf form m ≡ Fine)
 unfolding amountOf
-amount-below-iff kind m b = go (verdictOf kind m)
+amount-below-iff form m b = go (verdictOf form m)
   where
-    go : (v : Verdict) → (amountWord (amountBy v (kopecksOf (paid kind m))) < 9223372036854775808) ↔ (v ≡ Fine)
-    go Fine = (λ h. refl, λ e. omega (arith, kopecks-fit kind m b))
+    go : (v : Verdict) → (amountWord (amountBy v (kopecksOf (paid form m))) < 9223372036854775808) ↔ (v ≡ Fine)
+    go Fine = (λ h. refl, λ e. omega (arith, kopecks-fit form m b))
     go (Broken n p) = (λ h. absurd (omega arith), λ e. absurd (fine-broken n p (sym e)))
 
 -- a date split is the date
 pub date-whole : (n : ℕ) → dayWord (daySplit n) ≡ n
 date-whole n = omega arith
 
-pub day-below-iff : (kind : ℕ) (m : List ℕ) → Bytes m → (dayWord (dayOf kind m) < 9223372036854775808) ↔ (verdictOf kind m ≡ Fine)
+pub day-below-iff : (form : Form) (m : List ℕ) → Bytes m → (dayWord (dayOf form m) < 9223372036854775808) ↔ (verdictOf form m ≡ Fine)
 unfolding dayOf
-day-below-iff kind m b = go (verdictOf kind m)
+day-below-iff form m b = go (verdictOf form m)
   where
-    go : (v : Verdict) → (dayWord (dayBy v (dateOf (paid kind m))) < 9223372036854775808) ↔ (v ≡ Fine)
-    go Fine = (λ h. refl, λ e. omega (arith, date-fits kind m b, date-whole (dateOf (paid kind m))))
+    go : (v : Verdict) → (dayWord (dayBy v (dateOf (paid form m))) < 9223372036854775808) ↔ (v ≡ Fine)
+    go Fine = (λ h. refl, λ e. omega (arith, date-fits form m b, date-whole (dateOf (paid form m))))
     go (Broken n p) = (λ h. absurd (omega arith), λ e. absurd (fine-broken n p (sym e)))

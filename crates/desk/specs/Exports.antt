@@ -2,6 +2,7 @@
 use Prim.Native.Nat.{ℕ}
 use mathlib.Core.Path.{_≡_}
 use mathlib.Core.List.{List}
+use Rattle.types.specs.declared.Form.{Form}
 use Rattle.alphabets.specs.Text.{ReadTo, WrittenTo}
 use Rattle.message.specs.Calls.{Checks}
 use Rattle.writer.specs.Sheet.{MessageTo}
@@ -20,11 +21,11 @@ ReadWord sign bank out = WordOf word (ReadTo (isOn sign) bank out)
 abbrev pub WrittenWord : ℕ → List ℕ → List ℕ → ℕ → List ℕ → Type 0
 WrittenWord sign text out = WordOf word (WrittenTo (isOn sign) text out)
 
-abbrev pub CheckWord : ℕ → List ℕ → List ℕ → ℕ → List ℕ → Type 0
-CheckWord kind message list = WordOf checkedWord (Checks kind message list)
+abbrev pub CheckWord : Form → List ℕ → List ℕ → ℕ → List ℕ → Type 0
+CheckWord form message list = WordOf checkedWord (Checks form message list)
 
 abbrev pub MessageWord : List ℕ → List ℕ → ℕ → List ℕ → Type 0
 MessageWord sheet out = WordOf word (MessageTo sheet out)
 
-abbrev pub SheetWord : ℕ → List ℕ → List ℕ → ℕ → List ℕ → Type 0
-SheetWord kind message out = WordOf word (SheetTo kind message out)
+abbrev pub SheetWord : Form → List ℕ → List ℕ → ℕ → List ℕ → Type 0
+SheetWord form message out = WordOf word (SheetTo form message out)

@@ -1,5 +1,6 @@
 // The exports for C and Rust. A slice passes as a pointer and a length.
 ghost use mathlib.Core.Path.{_≡_};
+ghost use Rattle.types.specs.Form.{formOf};
 ghost use Rattle.message.specs.Calls.{spanOf, amountOf, dayOf};
 ghost use Rattle.desk.specs.Answer.{refusedWord, word, checkedWord, spanWord, amountWord, dayWord, isOn};
 ghost use Rattle.desk.specs.Exports.{ReadWord, WrittenWord, CheckWord, MessageWord, SheetWord};
@@ -9,6 +10,7 @@ use listing::Span;
 use message::Amount;
 use message::Checked;
 use message::Day;
+use types::forms::form_of;
 
 fn is_on(sign: u32) -> bool
     ensures { λ r. ⌜ r ≡ isOn sign ⌝ }
@@ -93,34 +95,34 @@ pub extern "C" fn desk_write_text(sign: u32, text: &[u8], out: &mut [u8]) -> u64
 // The check of a message: the list of its fields.
 #[no_mangle]
 pub extern "C" fn desk_check(kind: u32, message: &[u8], list: &mut [u32]) -> u64
-    ensures { λ r. ⌜ CheckWord kind (now (message .entry)) (now (list .entry)) r (now (list .exit)) ⌝ }
+    ensures { λ r. ⌜ CheckWord (formOf kind) (now (message .entry)) (now (list .entry)) r (now (list .exit)) ⌝ }
 {
-    let c = message::calls::check(kind, message, list);
+    let c = message::calls::check(form_of(kind), message, list);
     checked_of(c)
 }
 
 // Where the content of a place stands.
 #[no_mangle]
 pub extern "C" fn desk_content(kind: u32, message: &[u8], place: u32) -> u64
-    ensures { λ r. ⌜ r ≡ spanWord (spanOf kind (now (message .entry)) place) ⌝ }
+    ensures { λ r. ⌜ r ≡ spanWord (spanOf (formOf kind) (now (message .entry)) place) ⌝ }
 {
-    let s = message::calls::span(kind, message, place as usize);
+    let s = message::calls::span(form_of(kind), message, place as usize);
     span_of(s)
 }
 
 #[no_mangle]
 pub extern "C" fn desk_kopecks(kind: u32, message: &[u8]) -> u64
-    ensures { λ r. ⌜ r ≡ amountWord (amountOf kind (now (message .entry))) ⌝ }
+    ensures { λ r. ⌜ r ≡ amountWord (amountOf (formOf kind) (now (message .entry))) ⌝ }
 {
-    let a = message::calls::kopecks(kind, message);
+    let a = message::calls::kopecks(form_of(kind), message);
     amount_of(a)
 }
 
 #[no_mangle]
 pub extern "C" fn desk_date(kind: u32, message: &[u8]) -> u64
-    ensures { λ r. ⌜ r ≡ dayWord (dayOf kind (now (message .entry))) ⌝ }
+    ensures { λ r. ⌜ r ≡ dayWord (dayOf (formOf kind) (now (message .entry))) ⌝ }
 {
-    let d = message::calls::date(kind, message);
+    let d = message::calls::date(form_of(kind), message);
     day_of(d)
 }
 
@@ -136,8 +138,8 @@ pub extern "C" fn desk_to_message(sheet: &[u8], out: &mut [u8]) -> u64
 // A message as a clerk's sheet.
 #[no_mangle]
 pub extern "C" fn desk_to_sheet(kind: u32, message: &[u8], out: &mut [u8]) -> u64
-    ensures { λ r. ⌜ SheetWord kind (now (message .entry)) (now (out .entry)) r (now (out .exit)) ⌝ }
+    ensures { λ r. ⌜ SheetWord (formOf kind) (now (message .entry)) (now (out .entry)) r (now (out .exit)) ⌝ }
 {
-    let o = sheets::calls::to_sheet(kind, message, out);
+    let o = sheets::calls::to_sheet(form_of(kind), message, out);
     word_of(o)
 }

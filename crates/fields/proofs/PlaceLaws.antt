@@ -16,7 +16,7 @@ use Rattle.fields.specs.Field.{Field, field, closing, laid, lined, lines
 use Rattle.fields.specs.Frame.{rule2, rule3, rule4}
 use Rattle.fields.specs.Places.{sizeOf, startOf, nextOf, endOf, colonsOf, listed}
 use Rattle.fields.specs.Shapes.{shaped, shapedTag, lineable, pack}
-use Rattle.fields.specs.ByLines.{colonsAt, joined, startAt, tagAt, firstOr, listedBy}
+use Rattle.fields.specs.ByLines.{colonsAt, joined, startAt, tagAt, firstOr, listedBy, Standing}
 use Rattle.base.proofs.Bools.{left, right}
 use Rattle.fields.proofs.TagLaws.{Shape, plain, lettered, shape-of, tag-long, no-colon}
 use Rattle.fields.proofs.ByLines.{colons-body}
@@ -35,11 +35,9 @@ pub laid-joined : (l : List ℕ) (ls : List (List ℕ)) → laid (l ∷ ls) ≡ 
 laid-joined l [] = refl
 laid-joined l (k ∷ ls) = ap (λ (x : List ℕ). l ++ 13 ∷ 10 ∷ x) (laid-joined k ls) ∙ sym (append-assoc l (13 ∷ 10 ∷ joined (k ∷ ls)) (13 ∷ 10 ∷ []))
 
-pub record Standing (m : List ℕ) (o : ℕ) (fs : List Field) : Type 0 where
-  pub bytes : drop o m ≡ laid (linesOf fs) ++ closing
-  pub dash : o + sizeOf (linesOf fs) ≡ length m - 2
-  pub able : all lineable fs ≡ true
-  pub tags : all shapedTag fs ≡ true
+-- how many bytes a content takes
+pub joined-length : (l : List ℕ) (ls : List (List ℕ)) → length (joined (l ∷ ls)) + 2 ≡ sizeOf (l ∷ ls)
+joined-length l ls = let a = length-append (joined (l ∷ ls)) (13 ∷ 10 ∷ []) in let b = ap length (laid-joined l ls) in omega (arith, laid-size (l ∷ ls))
 
 -- the bytes from a tag's colon on
 tag-byte : (m : List ℕ) (o : ℕ) (t r : List ℕ) → drop o m ≡ 58 ∷ (t ++ 58 ∷ r) → (u : List ℕ) (i : ℕ) → t ≡ u → byte m (o + i) ≡ byte (58 ∷ (u ++ 58 ∷ r)) i

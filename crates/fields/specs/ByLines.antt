@@ -1,12 +1,15 @@
 -- The fields found line by line, as code goes: where they open, and a walk over them (F4, F5, K2). Assumes nothing.
 use Prim.Native.Nat.{ℕ, _+_, _-_, _*_}
+use mathlib.Core.Path.{_≡_}
+use mathlib.Core.Bool.{true}
 use mathlib.Core.List.{List, [], _∷_, _++_, tail}
 use lib.Dec.{eqb, ltb}
-use lib.ListN.{length}
-use Rattle.base.specs.Choice.{pick}
+use lib.ListN.{length, drop}
+use Rattle.base.specs.Choice.{pick, all}
 use Rattle.base.specs.Bytes.{byte, begins}
-use Rattle.fields.specs.Field.{Field, tagOf, upto}
-use Rattle.fields.specs.Places.{nextOf}
+use Rattle.fields.specs.Field.{Field, closing, laid, linesOf, tagOf, upto}
+use Rattle.fields.specs.Places.{sizeOf, nextOf}
+use Rattle.fields.specs.Shapes.{shapedTag, lineable}
 
 -- the colons that open a field, in lines that stand from o on
 unfoldable pub colonsAt : ℕ → List (List ℕ) → List ℕ
@@ -48,3 +51,10 @@ firstOr e (o ∷ os) = o
 unfoldable pub listedBy : List ℕ → ℕ → List ℕ → List ℕ
 listedBy m e [] = []
 listedBy m e (o ∷ os) = o ∷ startAt m o ∷ (firstOr e os - 2) ∷ listedBy m e os
+
+-- ---- from o on these fields stand in a message, and the - behind them
+pub record Standing (m : List ℕ) (o : ℕ) (fs : List Field) : Type 0 where
+  pub bytes : drop o m ≡ laid (linesOf fs) ++ closing
+  pub dash : o + sizeOf (linesOf fs) ≡ length m - 2
+  pub able : all lineable fs ≡ true
+  pub tags : all shapedTag fs ≡ true

@@ -27,11 +27,12 @@ use Rattle.fields.proofs.TagLaws.{head-tag}
 use Rattle.fields.proofs.FieldLaws.{Stands, opens, goes, stands, on-follows, headed-begins}
 use Rattle.fields.proofs.PackLaws.{pack-some, packed-tag, packed-headed}
 use Rattle.fields.proofs.ByLines.{walk-body, colons-body, colons-count}
+use Rattle.types.specs.declared.Form.{Form}
 use Rattle.types.specs.Form.{Place, placesOf}
 use Rattle.types.specs.Walk.{find, skips, wrong, walk, walked, word}
-use Rattle.types.specs.Tables.{padded, TablesOf, told, stepIn}
+use Rattle.types.specs.Tables.{padded, StepFor}
 use Rattle.types.specs.declared.Step.{Step}
-use Rattle.types.proofs.TableLaws.{few-places, step-of-form}
+use Rattle.types.proofs.TableLaws.{few-places}
 use Rattle.types.proofs.WalkLaws.{Seated, wrong-seated}
 use Rattle.frame.specs.Frame.{capacity, wordOf, spotsOf, bare, frameBy}
 use Rattle.frame.specs.Rest.{rest, Tail, Line, after3, after4}
@@ -71,8 +72,8 @@ word-fields ps o (f ∷ fs) = ap (λ (x : ℕ). 2 ^ find ps (tagOf f) + x) (word
 abbrev pub judgedFrom : List Place → Bool → ℕ → ℕ → List ℕ → Verdict
 judgedFrom ps isFirst next o b = then (scan false o b) (then (badLine isFirst o (lines b)) (walkLines ps next o (lines b)))
 
-abbrev pub body567 : ℕ → List ℕ → Verdict
-body567 kind m = then (rule3 m) (then (rule4 m) (walked kind m))
+abbrev pub body567 : Form → List ℕ → Verdict
+body567 form m = then (rule3 m) (then (rule4 m) (walked form m))
 
 module _ {m : List ℕ} {at end : ℕ} {l : List ℕ} (w : Line m at end l) where
   pub bad-on : (f : Bool) → lineBad f l ≡ false → badLine f at (lines (rest m at)) ≡ badLine false (end + 2) (lines (rest m (end + 2)))
@@ -119,11 +120,11 @@ rest-body : (m : List ℕ) → rest m 5 ≡ body m
 unfolding body
 rest-body m = let z : length m - 2 - 5 ≡ length m - 7 = omega arith in ap (λ (n : ℕ). take n (drop 5 m)) z
 
-by-lines : (kind : ℕ) (m : List ℕ) → body567 kind m ≡ judgedFrom (placesOf kind) true 0 5 (body m)
+by-lines : (form : Form) (m : List ℕ) → body567 form m ≡ judgedFrom (placesOf form) true 0 5 (body m)
 unfolding rule3 rule4 walked
-by-lines kind m =
-    ap (then (rule3 m)) (then-under (rule4 m) (walked kind m) (walkLines (placesOf kind) 0 5 (lines (body m)))
-    (λ e4. walk-fields (placesOf kind) 0 5 (fields m) ∙ walk-body m e4 (walkEnd (placesOf kind)) (walkStep (placesOf kind)) 0))
+by-lines form m =
+    ap (then (rule3 m)) (then-under (rule4 m) (walked form m) (walkLines (placesOf form) 0 5 (lines (body m)))
+    (λ e4. walk-fields (placesOf form) 0 5 (fields m) ∙ walk-body m e4 (walkEnd (placesOf form)) (walkStep (placesOf form)) 0))
 
 -- ---- before each line
 abbrev zeros : List ℕ
@@ -133,19 +134,19 @@ zeros = replicate capacity 0
 abbrev marks : List ℕ → ℕ → List ℕ
 marks m o = colonsAt o (lines (rest m o)) ++ (length m - 2) ∷ []
 
-pub record Going (kind : ℕ) (m s : List ℕ) (at n next w : ℕ) : Type 0 where
+pub record Going (form : Form) (m s : List ℕ) (at n next w : ℕ) : Type 0 where
   pub tail : Tail m at
   pub low : 5 ≤ at
   pub few : n ≤ next
-  pub many : next ≤ length (placesOf kind)
+  pub many : next ≤ length (placesOf form)
   pub small : w < 2 ^ next
-  pub judged : body567 kind m ≡ judgedFrom (placesOf kind) (eqb at 5) next at (rest m at)
-  pub bits : wordLines (placesOf kind) 5 (lines (body m)) ≡ w + wordLines (placesOf kind) at (lines (rest m at))
+  pub judged : body567 form m ≡ judgedFrom (placesOf form) (eqb at 5) next at (rest m at)
+  pub bits : wordLines (placesOf form) 5 (lines (body m)) ≡ w + wordLines (placesOf form) at (lines (rest m at))
   pub kept : sets zeros 0 (marks m 5) ≡ sets s n (marks m at)
   pub met : length (colonsAt 5 (lines (rest m 5))) ≡ n + length (colonsAt at (lines (rest m at)))
 
-pub begin : (kind : ℕ) (m : List ℕ) → rule2 m ≡ Fine → Going kind m zeros 5 0 0 0
-begin kind m e2 =
+pub begin : (form : Form) (m : List ℕ) → rule2 m ≡ Fine → Going form m zeros 5 0 0 0
+begin form m e2 =
     let f = rule2-fine m .0 e2 in
     let l = framed-long m f in
     record {
@@ -154,8 +155,8 @@ begin kind m e2 =
       few = omega arith;
       many = omega arith;
       small = omega arith;
-      judged = by-lines kind m ∙ ap (judgedFrom (placesOf kind) true 0 5) (sym (rest-body m));
-      bits = ap (λ (b : List ℕ). wordLines (placesOf kind) 5 (lines b)) (sym (rest-body m)) ∙ sym (zero-add (wordLines (placesOf kind) 5 (lines (rest m 5))));
+      judged = by-lines form m ∙ ap (judgedFrom (placesOf form) true 0 5) (sym (rest-body m));
+      bits = ap (λ (b : List ℕ). wordLines (placesOf form) 5 (lines b)) (sym (rest-body m)) ∙ sym (zero-add (wordLines (placesOf form) 5 (lines (rest m 5))));
       kept = refl;
       met = sym (zero-add (length (colonsAt 5 (lines (rest m 5)))));
     }
@@ -172,35 +173,34 @@ pub opened : (l : List ℕ) → (packed l ≡ 0 → ⊥) → begins 58 l ≡ tru
 opened l z = headed-begins (packed-headed l z)
 
 -- its field's place, and what is wrong there
-pub stepped : {kind : ℕ} {tags : List ℕ} {musts : List Bool} {count : ℕ} → TablesOf kind tags musts count → (next tag : ℕ) (l : List ℕ) (r : Step)
-    → tag ≡ packed l → (tag ≡ 0 → ⊥) → r ≡ stepIn (told tags musts count) next (unpack tag)
-    → (r .place ≡ find (placesOf kind) (upto 58 (tail l))) × (r .wrong ≡ wrong (placesOf kind) next (find (placesOf kind) (upto 58 (tail l))))
-stepped {kind} lent next tag l r p z e =
+pub stepped : (form : Form) (next tag : ℕ) (l : List ℕ) (r : Step) → tag ≡ packed l → (tag ≡ 0 → ⊥) → StepFor form next tag r
+    → (r .place ≡ find (placesOf form) (upto 58 (tail l))) × (r .wrong ≡ wrong (placesOf form) next (find (placesOf form) (upto 58 (tail l))))
+stepped form next tag l r p z s =
     let h = packed-headed l (λ q. z (p ∙ q)) in
     let t = head-tag h in
-    let s = step-of-form lent next (upto 58 (tail l)) tag (ap shaped t ∙ h .shape) (ap pack t ∙ sym (packed-tag h) ∙ sym p) in
-    (ap (λ (x : Step). x .place) (e ∙ s), ap (λ (x : Step). x .wrong) (e ∙ s))
+    let e = s (upto 58 (tail l)) (ap shaped t ∙ h .shape) (ap pack t ∙ sym (packed-tag h) ∙ sym p) in
+    (ap (λ (x : Step). x .place) e, ap (λ (x : Step). x .wrong) e)
 
 -- ---- nothing but a refusal
-pub bare-broken : (kind : ℕ) (m : List ℕ) {v : Verdict} {n p : ℕ} → v ≡ Broken n p → bare (Broken n p) ≡ frameBy v kind m
+pub bare-broken : (form : Form) (m : List ℕ) {v : Verdict} {n p : ℕ} → v ≡ Broken n p → bare (Broken n p) ≡ frameBy v form m
 unfolding frameBy
-bare-broken kind m e = ap (λ (u : Verdict). frameBy u kind m) (sym e)
+bare-broken form m e = ap (λ (u : Verdict). frameBy u form m) (sym e)
 
-bare-then : (kind : ℕ) (m : List ℕ) (v w : Verdict) → bare w ≡ frameBy w kind m → bare (then v w) ≡ frameBy (then v w) kind m
+bare-then : (form : Form) (m : List ℕ) (v w : Verdict) → bare w ≡ frameBy w form m → bare (then v w) ≡ frameBy (then v w) form m
 unfolding frameBy
-bare-then kind m Fine w e = e
-bare-then kind m (Broken n p) w e = refl
+bare-then form m Fine w e = e
+bare-then form m (Broken n p) w e = refl
 
-pub bare-after3 : (kind : ℕ) (m : List ℕ) {v u : Verdict} (i n p : ℕ) → v ≡ after3 m i (Broken n p) → u ≡ after3 m i (Broken n p) → bare u ≡ frameBy v kind m
+pub bare-after3 : (form : Form) (m : List ℕ) {v u : Verdict} (i n p : ℕ) → v ≡ after3 m i (Broken n p) → u ≡ after3 m i (Broken n p) → bare u ≡ frameBy v form m
 unfolding after3
-bare-after3 kind m i n p e q =
-    ap bare q ∙ bare-then kind m (scan false i (rest m i)) (Broken n p) (bare-broken kind m refl) ∙ ap (λ (u : Verdict). frameBy u kind m) (sym e)
+bare-after3 form m i n p e q =
+    ap bare q ∙ bare-then form m (scan false i (rest m i)) (Broken n p) (bare-broken form m refl) ∙ ap (λ (u : Verdict). frameBy u form m) (sym e)
 
-pub bare-after4 : (kind : ℕ) (m : List ℕ) {v u : Verdict} (i n p : ℕ) → v ≡ after4 m i (Broken n p) → u ≡ after4 m i (Broken n p) → bare u ≡ frameBy v kind m
+pub bare-after4 : (form : Form) (m : List ℕ) {v u : Verdict} (i n p : ℕ) → v ≡ after4 m i (Broken n p) → u ≡ after4 m i (Broken n p) → bare u ≡ frameBy v form m
 unfolding after3 after4
-bare-after4 kind m i n p e q =
-    ap bare q ∙ bare-then kind m (scan false i (rest m i)) (then (badLine false i (lines (rest m i))) (Broken n p))
-    (bare-then kind m (badLine false i (lines (rest m i))) (Broken n p) (bare-broken kind m refl)) ∙ ap (λ (u : Verdict). frameBy u kind m) (sym e)
+bare-after4 form m i n p e q =
+    ap bare q ∙ bare-then form m (scan false i (rest m i)) (then (badLine false i (lines (rest m i))) (Broken n p))
+    (bare-then form m (badLine false i (lines (rest m i))) (Broken n p) (bare-broken form m refl)) ∙ ap (λ (u : Verdict). frameBy u form m) (sym e)
 
 -- ---- the spots, zeros behind
 drop-same : (x j n : ℕ) → drop j (replicate n x) ≡ replicate (n - j) x
@@ -214,29 +214,29 @@ sets-zeros xs h =
     sets-eq xs zeros 0 (omega arith) ∙ ap (λ (k : ℕ). xs ++ drop k zeros) z ∙ ap (λ (l : List ℕ). xs ++ l) (drop-same 0 (length xs) capacity)
 
 -- ---- what a line does, and each way out
-module _ {kind : ℕ} {m s : List ℕ} {at n next w : ℕ} (g : Going kind m s at n next w) where
+module _ {form : Form} {m s : List ℕ} {at n next w : ℕ} (g : Going form m s at n next w) where
   abbrev ps : List Place
-  ps = placesOf kind
+  ps = placesOf form
 
-  pub stop-3 : {end : ℕ} → scan false at (rest m at) ≡ Broken 3 end → body567 kind m ≡ Broken 3 end
+  pub stop-3 : {end : ℕ} → scan false at (rest m at) ≡ Broken 3 end → body567 form m ≡ Broken 3 end
   stop-3 q = g .judged ∙ ap (λ (v : Verdict). then v (then (badLine (eqb at 5) at (lines (rest m at))) (walkLines ps next at (lines (rest m at))))) q
 
   module _ {end : ℕ} {l : List ℕ} (r : Line m at end l) where
     -- a bad line
-    pub stop-4 : lineBad (eqb at 5) l ≡ true → body567 kind m ≡ after3 m (end + 2) (Broken 4 at)
+    pub stop-4 : lineBad (eqb at 5) l ≡ true → body567 form m ≡ after3 m (end + 2) (Broken 4 at)
     unfolding after3
     stop-4 b = g .judged ∙ ap₂ (λ (u v : Verdict). then u (then v (walkLines ps next at (lines (rest m at))))) (line-scan r) (bad-stop r (eqb at 5) b)
 
     -- 3 and 4 go on behind a good one
     goes-on : lineBad (eqb at 5) l ≡ false
-        → body567 kind m ≡ then (scan false (end + 2) (rest m (end + 2))) (then (badLine false (end + 2) (lines (rest m (end + 2)))) (walkLines ps next at (lines (rest m at))))
+        → body567 form m ≡ then (scan false (end + 2) (rest m (end + 2))) (then (badLine false (end + 2) (lines (rest m (end + 2)))) (walkLines ps next at (lines (rest m at))))
     goes-on b = g .judged ∙ ap₂ (λ (u v : Verdict). then u (then v (walkLines ps next at (lines (rest m at))))) (line-scan r) (bad-on r (eqb at 5) b)
 
     abbrev then-walk : Verdict → Verdict
     then-walk v = then (scan false (end + 2) (rest m (end + 2))) (then (badLine false (end + 2) (lines (rest m (end + 2)))) v)
 
     -- a field with which something is wrong
-    pub stop-5 : {x : ℕ} → lineBad (eqb at 5) l ≡ false → begins 58 l ≡ true → x ≡ wrong ps next (find ps (upto 58 (tail l))) → (x ≡ 0 → ⊥) → body567 kind m ≡ after4 m (end + 2) (Broken x at)
+    pub stop-5 : {x : ℕ} → lineBad (eqb at 5) l ≡ false → begins 58 l ≡ true → x ≡ wrong ps next (find ps (upto 58 (tail l))) → (x ≡ 0 → ⊥) → body567 form m ≡ after4 m (end + 2) (Broken x at)
     unfolding after3 after4
     stop-5 {x} b o e z =
         goes-on b ∙ ap then-walk (open-on r (walkEnd ps) (walkStep ps) next o
@@ -250,7 +250,7 @@ module _ {kind : ℕ} {m s : List ℕ} {at n next w : ℕ} (g : Going kind m s a
     further = let z = r .size in let y = g .low in omega arith
 
     -- a line that goes on in a field
-    pub on-line : lineBad (eqb at 5) l ≡ false → begins 58 l ≡ false → Going kind m s (end + 2) n next w
+    pub on-line : lineBad (eqb at 5) l ≡ false → begins 58 l ≡ false → Going form m s (end + 2) n next w
     on-line b o =
         let c = colons-pass r o in
         record {
@@ -267,7 +267,7 @@ module _ {kind : ℕ} {m s : List ℕ} {at n next w : ℕ} (g : Going kind m s a
 
     -- a line that opens a field with which nothing is wrong
     pub on-field : {v q : ℕ} → lineBad (eqb at 5) l ≡ false → begins 58 l ≡ true → q ≡ find ps (upto 58 (tail l)) → wrong ps next q ≡ 0 → v ≡ 2 ^ q
-        → Going kind m (set s n at) (end + 2) (n + 1) (q + 1) (w + v)
+        → Going form m (set s n at) (end + 2) (n + 1) (q + 1) (w + v)
     on-field {v} {q} b o p z y =
         let c = colons-open r o in
         let k : Seated ps next q = wrong-seated ps next q z in
@@ -301,7 +301,7 @@ module _ {kind : ℕ} {m s : List ℕ} {at n next w : ℕ} (g : Going kind m s a
     dash : at ≡ length m - 2
     dash = let t = g .tail .within in omega arith
 
-    pub finish : {t : Bool} → skips ps next (length ps) ≡ t → body567 kind m ≡ pick t (Broken 7 (length m - 2)) Fine
+    pub finish : {t : Bool} → skips ps next (length ps) ≡ t → body567 form m ≡ pick t (Broken 7 (length m - 2)) Fine
     unfolding scan badLine byLines Rattle.fields.specs.Field.cut
     finish {t} q =
         g .judged ∙ ap (judgedFrom ps (eqb at 5) next at) none-left
@@ -315,9 +315,9 @@ module _ {kind : ℕ} {m s : List ℕ} {at n next w : ℕ} (g : Going kind m s a
     unfolding byLines Rattle.fields.specs.Field.cut
     no-bits = ap (λ (b : List ℕ). wordLines ps at (lines b)) none-left
 
-    module _ (fine : body567 kind m ≡ Fine) where
+    module _ (fine : body567 form m ≡ Fine) where
       lines-fine : rule4 m ≡ Fine
-      lines-fine = then-clean (rule4 m) (walked kind m) (then-clean (rule3 m) (then (rule4 m) (walked kind m)) fine .1) .0
+      lines-fine = then-clean (rule4 m) (walked form m) (then-clean (rule3 m) (then (rule4 m) (walked form m)) fine .1) .0
 
       colons-are : colonsAt 5 (lines (rest m 5)) ≡ colonsOf 5 (fields m)
       colons-are = ap (λ (b : List ℕ). colonsAt 5 (lines b)) (rest-body m) ∙ colons-body m lines-fine
@@ -329,7 +329,7 @@ module _ {kind : ℕ} {m s : List ℕ} {at n next w : ℕ} (g : Going kind m s a
           let c = ap (λ (b : List ℕ). length (colonsAt 5 (lines b))) (rest-body m) ∙ colons-count m lines-fine in
           omega arith
 
-      word-is : w ≡ wordOf kind m
+      word-is : w ≡ wordOf form m
       word-is =
           let a = g .bits in
           let b = no-bits in
@@ -340,7 +340,7 @@ module _ {kind : ℕ} {m s : List ℕ} {at n next w : ℕ} (g : Going kind m s a
       spots-are : set s n (length m - 2) ≡ padded capacity 0 (spotsOf m)
       unfolding spotsOf
       spots-are =
-          let p = few-places kind in
+          let p = few-places form in
           let k = g .few in
           let j = g .many in
           let c = ap length (ap (λ (os : List ℕ). os ++ (length m - 2) ∷ []) colons-are) in
@@ -350,9 +350,9 @@ module _ {kind : ℕ} {m s : List ℕ} {at n next w : ℕ} (g : Going kind m s a
           sym (sym (ap (λ (os : List ℕ). sets zeros 0 (os ++ (length m - 2) ∷ [])) colons-are) ∙ g .kept ∙ ap (λ (os : List ℕ). sets s n (os ++ (length m - 2) ∷ [])) no-colons)
           ∙ sets-zeros (colonsOf 5 (fields m) ++ (length m - 2) ∷ []) (omega arith)
 
-      pub accept : record { verdict = Fine; fields = n; present = w; spots = set s n (length m - 2) } ≡ frameBy (body567 kind m) kind m
+      pub accept : record { verdict = Fine; fields = n; present = w; spots = set s n (length m - 2) } ≡ frameBy (body567 form m) form m
       unfolding frameBy
       accept =
           ap₂ (λ (k x : ℕ). record { verdict = Fine; fields = k; present = x; spots = set s n (length m - 2) }) count-is word-is
-          ∙ ap (λ (t : List ℕ). record { verdict = Fine; fields = length (fields m); present = wordOf kind m; spots = t }) spots-are
-          ∙ ap (λ (v : Verdict). frameBy v kind m) (sym fine)
+          ∙ ap (λ (t : List ℕ). record { verdict = Fine; fields = length (fields m); present = wordOf form m; spots = t }) spots-are
+          ∙ ap (λ (v : Verdict). frameBy v form m) (sym fine)

@@ -20,6 +20,7 @@ use Rattle.fields.proofs.FrameLaws.{rule2-fine, body-length, body-ended}
 use Rattle.fields.proofs.LineLaws.{laid-lines}
 use Rattle.fields.proofs.FieldLaws.{laid-size, fields-dash}
 use Rattle.fields.proofs.PlaceLaws.{size-append}
+use Rattle.types.specs.declared.Form.{Form}
 use Rattle.types.specs.Form.{Place, placesOf}
 use Rattle.types.specs.Walk.{find, skips, wrong, walk, rule18, walked}
 use Rattle.frame.specs.Frame.{refusal}
@@ -69,10 +70,10 @@ walk-small b ps next o (f ∷ fs) h =
     pick-small b (eqb (wrong ps next q) 0) (walk ps (suc q) (nextOf o f) fs) (Broken (wrong ps next q) o)
     (walk-small b ps (suc q) (nextOf o f) fs (omega arith)) (omega (arith, wrong-small ps next q), omega arith)
 
-pub refusal-small : (kind : ℕ) (m : List ℕ) → Small limit (refusal kind m)
+pub refusal-small : (form : Form) (m : List ℕ) → Small limit (refusal form m)
 unfolding refusal rule18 rule1 rule2 rule3 rule4 walked long
-refusal-small kind m =
-    then-small limit (rule18 kind) _ (pick-small limit (empty (placesOf kind)) (Broken 18 0) Fine (omega arith, omega arith) tt) (λ e18.
+refusal-small form m =
+    then-small limit (rule18 form) _ (pick-small limit (empty (placesOf form)) (Broken 18 0) Fine (omega arith, omega arith) tt) (λ e18.
     then-small limit (rule1 m) _ (pick-small limit (ltb limit (length m)) (Broken 1 limit) Fine (omega arith, omega arith) tt) (λ e1.
     let l : length m ≤ limit = within-limit limit m e1 in
     then-small limit (rule2 m) _ (pick-small limit (framed m) Fine (Broken 2 0) tt (omega arith, omega arith)) (λ e2.
@@ -82,4 +83,4 @@ refusal-small kind m =
     let d : sizeOf (lines (body m)) ≡ length (body m) = sym (laid-size (lines (body m))) ∙ ap length (laid-lines 5 (body m) (body-ended m w) e3) in
     then-small limit (rule4 m) _ (line-small limit true 5 (lines (body m)) (omega arith)) (λ e4.
     let f : 5 + sizeOf (linesOf (fields m)) ≡ length m - 2 = fields-dash m e2 e3 e4 in
-    then-small limit (walked kind m) Fine (walk-small limit (placesOf kind) 0 5 (fields m) (omega arith)) (λ e5. tt))))))
+    then-small limit (walked form m) Fine (walk-small limit (placesOf form) 0 5 (fields m) (omega arith)) (λ e5. tt))))))

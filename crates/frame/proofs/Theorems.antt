@@ -11,6 +11,7 @@ use Rattle.base.specs.declared.Verdict.the-variants.{Fine, Broken}
 use Rattle.base.proofs.RuleLaws.{Clean, FirstOf, accepted-iff, refused-iff}
 use Rattle.base.proofs.CallLaws.{one-answer}
 use Rattle.fields.specs.Field.{fields}
+use Rattle.types.specs.declared.Form.{Form}
 use Rattle.types.specs.Form.{placesOf}
 use Rattle.types.proofs.WordLaws.{Present}
 use Rattle.frame.specs.declared.Frame.{Frame}
@@ -18,32 +19,32 @@ use Rattle.frame.specs.Frame.{frameRules, refusal, capacity, frameOf}
 use Rattle.frame.proofs.CallLaws.{taken, verdict-is, found, fields-counted}
 
 -- any two outcomes are equal
-pub frame-one : (kind : ℕ) (m : List ℕ) {f g : Frame} → f ≡ frameOf kind m → g ≡ frameOf kind m → f ≡ g
-frame-one kind m p q = one-answer p q
+pub frame-one : (form : Form) (m : List ℕ) {f g : Frame} → f ≡ frameOf form m → g ≡ frameOf form m → f ≡ g
+frame-one form m p q = one-answer p q
 
-module _ (kind : ℕ) (m : List ℕ) where
+module _ (form : Form) (m : List ℕ) where
   -- accepted exactly if no rule is broken, and refused exactly by the first that is
-  pub frame-accepts : (frameOf kind m .verdict ≡ Fine) ↔ Clean (frameRules kind m)
+  pub frame-accepts : (frameOf form m .verdict ≡ Fine) ↔ Clean (frameRules form m)
   unfolding refusal
-  frame-accepts = (λ e. accepted-iff (frameRules kind m) .0 (sym (verdict-is kind m refl) ∙ e), λ c. verdict-is kind m refl ∙ accepted-iff (frameRules kind m) .1 c)
+  frame-accepts = (λ e. accepted-iff (frameRules form m) .0 (sym (verdict-is form m refl) ∙ e), λ c. verdict-is form m refl ∙ accepted-iff (frameRules form m) .1 c)
 
-  pub frame-refuses : (n p : ℕ) → (frameOf kind m .verdict ≡ Broken n p) ↔ FirstOf (frameRules kind m) n p
+  pub frame-refuses : (n p : ℕ) → (frameOf form m .verdict ≡ Broken n p) ↔ FirstOf (frameRules form m) n p
   unfolding refusal
-  frame-refuses n p = (λ e. refused-iff (frameRules kind m) n p .0 (sym (verdict-is kind m refl) ∙ e), λ f. verdict-is kind m refl ∙ refused-iff (frameRules kind m) n p .1 f)
+  frame-refuses n p = (λ e. refused-iff (frameRules form m) n p .0 (sym (verdict-is form m refl) ∙ e), λ f. verdict-is form m refl ∙ refused-iff (frameRules form m) n p .1 f)
 
 -- an accepted message: its fields are counted, the spots have room for them, and the word has a one for each, at the places present
-pub record Sized (kind : ℕ) (m : List ℕ) (f : Frame) : Type 0 where
+pub record Sized (form : Form) (m : List ℕ) (f : Frame) : Type 0 where
   pub count : f .fields ≡ length (fields m)
-  pub few : f .fields ≤ length (placesOf kind)
+  pub few : f .fields ≤ length (placesOf form)
   pub fits : f .fields + 1 ≤ capacity
   pub as-many-ones : ones (f .present) ≡ f .fields
-  pub bits : (i : ℕ) → (bit (f .present) i ≡ 1) ↔ Present (placesOf kind) (fields m) i
+  pub bits : (i : ℕ) → (bit (f .present) i ≡ 1) ↔ Present (placesOf form) (fields m) i
 
-pub frame-sized : (kind : ℕ) (m : List ℕ) {f : Frame} → f ≡ frameOf kind m → f .verdict ≡ Fine → Sized kind m f
-frame-sized kind m {f} e q =
-    let d = found kind m e q in
-    let t = taken kind m (d .clean) in
-    let c = fields-counted kind m e q in
+pub frame-sized : (form : Form) (m : List ℕ) {f : Frame} → f ≡ frameOf form m → f .verdict ≡ Fine → Sized form m f
+frame-sized form m {f} e q =
+    let d = found form m e q in
+    let t = taken form m (d .clean) in
+    let c = fields-counted form m e q in
     let s = t .sound in
     let w = d .word-is in
     record {
@@ -51,5 +52,5 @@ frame-sized kind m {f} e q =
       few = omega (arith, s .few-fields);
       fits = omega (arith, t .few);
       as-many-ones = ap ones w ∙ s .as-many ∙ sym c;
-      bits = λ i. subst (λ (x : ℕ). (bit x i ≡ 1) ↔ Present (placesOf kind) (fields m) i) (sym w) (s .bits i);
+      bits = λ i. subst (λ (x : ℕ). (bit x i ≡ 1) ↔ Present (placesOf form) (fields m) i) (sym w) (s .bits i);
     }

@@ -5,6 +5,7 @@ use mathlib.Core.Path.{_≡_}
 use mathlib.Core.List.{List, [], _∷_}
 use Rattle.base.specs.Quoted.{bytes}
 use Rattle.base.specs.declared.Verdict.the-variants.{Fine, Broken}
+use Rattle.types.specs.Form.{formOf}
 use Rattle.types.specs.Tables.{padded}
 use Rattle.frame.specs.Frame.{capacity, bare, frameOf}
 
@@ -15,8 +16,8 @@ pub data Case : Type 0 where
   refuses : ℕ → String → ℕ → ℕ → Case
 
 abbrev pub Holds : Case → Type 0
-Holds (finds kind s n w spots) = frameOf kind (bytes s) ≡ record { verdict = Fine; fields = n; present = w; spots = padded capacity 0 spots }
-Holds (refuses kind s number place) = frameOf kind (bytes s) ≡ bare (Broken number place)
+Holds (finds kind s n w spots) = frameOf (formOf kind) (bytes s) ≡ record { verdict = Fine; fields = n; present = w; spots = padded capacity 0 spots }
+Holds (refuses kind s number place) = frameOf (formOf kind) (bytes s) ≡ bare (Broken number place)
 
 -- the example of the rules
 abbrev pub sample : String

@@ -7,6 +7,7 @@ use super::pass::refused;
 use base::Verdict;
 use base::xset::x_classes;
 use fields::is_framed;
+use types::Form;
 use types::forms::count_of;
 use types::forms::musts_of;
 use types::forms::tags_of;
@@ -14,10 +15,10 @@ use types::forms::tags_of;
 const LIMIT: usize = 10000;
 
 // 18, 1 and 2, and then the lines.
-pub fn frame(kind: u32, m: &[u8]) -> Frame
-    ensures { λ r. ⌜ r ≡ frameOf kind (now (m .entry)) ⌝ }
+pub fn frame(form: Form, m: &[u8]) -> Frame
+    ensures { λ r. ⌜ r ≡ frameOf form (now (m .entry)) ⌝ }
 {
-    let count = count_of(kind);
+    let count = count_of(form);
     if count == 0 {
         return refused(Verdict::Broken {
             number: 18,
@@ -37,7 +38,7 @@ pub fn frame(kind: u32, m: &[u8]) -> Frame
         });
     }
     let t = x_classes();
-    let tags = tags_of(kind);
-    let musts = musts_of(kind);
-    pass(kind, &t, &tags, &musts, count, m)
+    let tags = tags_of(form);
+    let musts = musts_of(form);
+    pass(form, &t, &tags, &musts, count, m)
 }

@@ -6,7 +6,7 @@ ghost use Rattle.base.specs.Bytes.{classes};
 ghost use Rattle.base.specs.Rules.{then};
 ghost use Rattle.fields.specs.Frame.{rule2, rule3, rule4};
 ghost use Rattle.types.specs.Walk.{walked};
-ghost use Rattle.types.specs.Tables.{TablesOf};
+ghost use Rattle.types.specs.Tables.{TablesOf, StepFor};
 ghost use Rattle.frame.specs.Frame.{bare, frameBy};
 use super::Frame;
 use super::SPOTS;
@@ -18,7 +18,9 @@ use super::lines::is_ended;
 use base::Verdict;
 use base::bits::bit_of;
 use fields::line_tag;
+use types::Form;
 use types::PLACES;
+use types::Step;
 use types::TAGS;
 use types::steps::is_missing;
 use types::steps::step_of;
@@ -35,16 +37,31 @@ pub fn refused(verdict: Verdict) -> Frame
     }
 }
 
+// The step of a field with that tag, by its form's own tables.
+fn field_step(
+    form: Form,
+    tags: &[u32; TAGS],
+    musts: &[bool; PLACES],
+    count: usize,
+    next: usize,
+    tag: u32,
+) -> Step
+    requires { ⌜ TablesOf form (now tags) (now musts) count ⌝ }
+    ensures { λ r. ⌜ StepFor form next tag r ⌝ }
+{
+    step_of(tags, musts, count, next, tag)
+}
+
 pub(crate) fn pass(
-    kind: u32,
+    form: Form,
     t: &[u8; 256],
     tags: &[u32; TAGS],
     musts: &[bool; PLACES],
     count: usize,
     m: &[u8],
 ) -> Frame
-    requires { ⌜ (now t ≡ classes) × TablesOf kind (now tags) (now musts) count × (length (now m) ≤ 10000) × (rule2 (now m) ≡ Verdict.Fine) ⌝ }
-    ensures { λ r. ⌜ r ≡ frameBy (then (rule3 (now (m .entry))) (then (rule4 (now (m .entry))) (walked kind (now (m .entry))))) kind (now (m .entry)) ⌝ }
+    requires { ⌜ (now t ≡ classes) × TablesOf form (now tags) (now musts) count × (length (now m) ≤ 10000) × (rule2 (now m) ≡ Verdict.Fine) ⌝ }
+    ensures { λ r. ⌜ r ≡ frameBy (then (rule3 (now (m .entry))) (then (rule4 (now (m .entry))) (walked form (now (m .entry))))) form (now (m .entry)) ⌝ }
 {
     let e = m.len() - 2;
     let mut spots = [0u32; SPOTS];
@@ -69,7 +86,7 @@ pub(crate) fn pass(
             at = end + 2;
             continue;
         }
-        let s = step_of(tags, musts, count, next, tag);
+        let s = field_step(form, tags, musts, count, next, tag);
         let q = s.place;
         let w = s.wrong;
         if w != 0 {

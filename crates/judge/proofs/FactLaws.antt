@@ -1,12 +1,12 @@
 -- What 9 to 13 need of the fields, found field by field, comes to those rules. Assumes nothing.
 use Prim.Native.Nat.{ℕ, zero, suc, _+_, _-_, _≤_}
 use mathlib.Core.Path.{_≡_, refl, sym, ap, ap₂, _∙_}
-use mathlib.Core.Bool.{Bool, true, false, not, _&&_, _||_, or-false}
+use mathlib.Core.Bool.{Bool, true, false, not, _&&_, _||_, or-false, and-false}
 use mathlib.Core.List.{List, [], _∷_}
 use native.Mathlib.Omega.{arith}
 use lib.Dec.{eqb}
 use lib.ListN.{length}
-use borrow.Author.Tests.{eq-eqb, ne-eqb}
+use borrow.Author.Tests.{eq-eqb, ne-eqb, not-true}
 use Rattle.base.specs.Choice.{pick}
 use Rattle.base.specs.Bytes.{same}
 use Rattle.base.specs.Quoted.{bytes}
@@ -14,20 +14,24 @@ use Rattle.base.specs.Rules.{then, first}
 use Rattle.base.specs.declared.Verdict.{Verdict}
 use Rattle.base.specs.declared.Verdict.the-variants.{Fine, Broken}
 use Rattle.base.proofs.RuleLaws.{then-fine, fine-broken}
-use Rattle.fields.specs.Field.{Field, tagOf}
+use Rattle.fields.specs.Field.{Field, field, tagOf}
 use Rattle.fields.specs.Places.{startOf, nextOf}
-use Rattle.fields.specs.Shapes.{unpack}
+use Rattle.fields.specs.Shapes.{pack, unpack}
+use Rattle.fields.specs.ByLines.{joined}
 use Rattle.fields.proofs.PackLaws.{same-unpack}
+use Rattle.types.specs.declared.Form.{Form}
 use Rattle.types.specs.Walk.{among}
-use Rattle.values.specs.Values.{Kind, tag, partyTags, Value, placeOf, kindOf, valuesOf, contentOf, valuesIn}
-use Rattle.values.specs.Judged.{firstBad, has, noDay, foreign, apart, tagged, kppIn, is56, is57, is26T, is77B, tags56, tags57, rule9, rule10, rule11, rule12, rule13}
-use Rattle.values.specs.Answers.{faultOf, answered, kppOf}
+use Rattle.contents.specs.declared.Content.{Content}
+use Rattle.values.specs.declared.Finds.{Finds}
+use Rattle.values.specs.Values.{Kind, tag, Value, placeOf, kindOf, valuesOf, valuesIn}
+use Rattle.values.specs.Judged.{firstBad, has, noDay, foreign, apart, tagged, hasKpp, kppIn, is56, is57, is26T, is77B, tags56, tags57, rule9, rule10, rule11, rule12, rule13}
+use Rattle.values.specs.Answers.{faultOf, answered}
+use Rattle.values.specs.Steps.{finds}
 use Rattle.values.proofs.JudgedLaws.{Ordered, none, next}
 use Rattle.values.proofs.ValueLaws.{values-order}
-use Rattle.values.proofs.StepLaws.{first-field, first-tag, has-tag, has-kpp, kpp-payer, kpp-payee, kpp-other, rule11-by, rule13-by}
+use Rattle.values.proofs.StepLaws.{among-two, first-field, first-tag, has-tag, has-kpp, rule11-by, rule13-by}
 use Rattle.judge.specs.declared.facts.Facts.{Facts}
-use Rattle.values.proofs.FaultLaws.{no-date, no-money, no-party, among-two, among-party}
-use Rattle.judge.specs.Facts.{orElse, within, marked, toldAs, nothingYet, noted, Idle, factsFrom, openBank, taxTag, taxed, bothTaxed, taxRule, valueRules}
+use Rattle.judge.specs.Facts.{orElse, within, marked, kppAt, toldAs, nothingYet, markedBy, notedBy, Unmarked, valuesFor, noted, factsFrom, openBank, taxRule, valueRules}
 
 -- ---- places
 pub else-old : {a : ℕ} (b : ℕ) → (a ≡ 0 → ⊥) → a ≡ orElse a b
@@ -60,7 +64,7 @@ told-some number {p = zero} h = absurd (h refl)
 told-some number {p = suc p} h = let z : suc p - 1 ≡ p = omega arith in ap (Broken number) z
 
 -- a content's faults stand in it
-pub fault-within : (bad : Kind → Bool) {o e : ℕ} {vs : List Value} → Ordered o vs e → faultOf bad vs ≤ suc e
+fault-within : (bad : Kind → Bool) {o e : ℕ} {vs : List Value} → Ordered o vs e → faultOf bad vs ≤ suc e
 unfolding faultOf
 fault-within bad (none h) = omega arith
 fault-within bad {e = e} (next {v = v} {vs = vs} h r) = go (bad (kindOf v)) (fault-within bad r) (above r)
@@ -73,27 +77,29 @@ fault-within bad {e = e} (next {v = v} {vs = vs} h r) = go (bad (kindOf v)) (fau
     go true h k = omega arith
     go false h k = h
 
-pub faults-in : (bad : Kind → Bool) (t c : List ℕ) → faultOf bad (valuesOf t c) ≤ suc (length c)
-faults-in bad t c = fault-within bad (values-order t c)
+pub faults-in : (bad : Kind → Bool) (t : List ℕ) (c : Content) (ls : List (List ℕ)) → faultOf bad (valuesOf t c ls) ≤ suc (length (joined ls))
+faults-in bad t c ls = fault-within bad (values-order t c ls)
 
 -- ---- one field more
-pub made : (f : Facts) (o s : ℕ) (t c : List ℕ) {d m b p u g : ℕ} {w : Bool}
-    → d ≡ orElse (f .day) (within s (faultOf noDay (valuesOf t c))) → m ≡ orElse (f .currency) (within s (faultOf foreign (valuesOf t c)))
-    → b ≡ orElse (f .bank) (marked (among t tags56) o) → w ≡ (f .through || among t tags57) → p ≡ orElse (f .party) (within s (faultOf apart (valuesOf t c)))
+pub made-marked : (f : Facts) (o : ℕ) (t : List ℕ) {b u g : ℕ} {w : Bool}
+    → b ≡ orElse (f .bank) (marked (among t tags56) o) → w ≡ (f .through || among t tags57)
     → u ≡ orElse (f .purpose) (marked (same t (bytes "26T")) o) → g ≡ orElse (f .budget) (marked (same t (bytes "77B")) o)
-    → _≡_ {A = Facts} (record { day = d; currency = m; bank = b; through = w; party = p; purpose = u; budget = g }) (noted f o s t c)
-unfolding noted
-made f o s t c d m b w p u g = rw (d, m, b, w, p, u, g)
+    → _≡_ {A = Facts} (record { day = f .day; currency = f .currency; bank = b; through = w; party = f .party; payer = f .payer; payee = f .payee; purpose = u; budget = g }) (markedBy f o t)
+unfolding markedBy
+made-marked f o t b w u g = rw (b, w, u, g)
 
--- none at all, by the tag's number
+pub made-noted : (f : Facts) (s : ℕ) (t : List ℕ) (x : Finds) {d m p : ℕ} {y e : Bool}
+    → d ≡ orElse (f .day) (within s (x .day)) → m ≡ orElse (f .currency) (within s (x .currency)) → p ≡ orElse (f .party) (within s (x .party))
+    → y ≡ (f .payer || kppAt (x .kpp) t (bytes "50K")) → e ≡ (f .payee || kppAt (x .kpp) t (bytes "59"))
+    → _≡_ {A = Facts} (record { day = d; currency = m; bank = f .bank; through = f .through; party = p; payer = y; payee = e; purpose = f .purpose; budget = f .budget }) (notedBy f s t x)
+unfolding notedBy
+made-noted f s t x d m p y e = rw (d, m, p, y, e)
+
+-- none at all
 else-none : (a : ℕ) → a ≡ orElse a 0
 unfolding orElse
 else-none zero = refl
 else-none (suc a) = refl
-
-no-fault : (a s : ℕ) {k : ℕ} → k ≡ 0 → a ≡ orElse a (within s k)
-unfolding within
-no-fault a s e = else-none a ∙ ap (λ (k : ℕ). orElse a (within s k)) (sym e)
 
 no-mark : (a o : ℕ) {b : Bool} → b ≡ false → a ≡ orElse a (marked b o)
 unfolding marked
@@ -105,43 +111,59 @@ other n k h = same-unpack n k ∙ ne-eqb n k h
 two-others : (n a b : ℕ) → (n ≡ a → ⊥) → (n ≡ b → ⊥) → among (unpack n) (unpack a ∷ unpack b ∷ []) ≡ false
 two-others n a b h k = sym (among-two n a b (sym (ap₂ _||_ (ne-eqb n a h) (ne-eqb n b k))))
 
-pub idle : (n : ℕ) → (n ≡ 3290708 → ⊥) → (n ≡ 3355201 → ⊥) → (n ≡ 3486273 → ⊥) → (n ≡ 3487297 → ⊥) → (n ≡ 3487300 → ⊥) → (n ≡ 3487553 → ⊥) → (n ≡ 3487556 → ⊥) → (n ≡ 3617280 → ⊥)
-    → (n ≡ 3618626 → ⊥) → Idle (unpack n)
-idle n h26 h32 h52 h56a h56d h57a h57d h72 h77 f o s c =
-    let party : among (unpack n) partyTags ≡ false =
-    sym (among-party n (sym (ap₂ _||_ (ne-eqb n 3486273 h52) (ap₂ _||_ (ne-eqb n 3487297 h56a) (ap₂ _||_ (ne-eqb n 3487300 h56d) (ap₂ _||_ (ne-eqb n 3487553 h57a) (ne-eqb n 3487556 h57d))))))) in
-    made f o s (unpack n) c (no-fault (f .day) s (no-date n c h32 h72)) (no-fault (f .currency) s (no-money n c h32)) (no-mark (f .bank) o (two-others n 3487297 3487300 h56a h56d))
-    (sym (ap (λ (b : Bool). f .through || b) (two-others n 3487553 3487556 h57a h57d) ∙ or-false (f .through))) (no-fault (f .party) s (no-party (unpack n) c party))
-    (no-mark (f .purpose) o (other n 3290708 h26)) (no-mark (f .budget) o (other n 3618626 h77))
+-- by the tag's number
+pub unmarked : (n : ℕ) → (n ≡ pack (bytes "26T") → ⊥) → (n ≡ pack (bytes "56A") → ⊥) → (n ≡ pack (bytes "56D") → ⊥) → (n ≡ pack (bytes "57A") → ⊥) → (n ≡ pack (bytes "57D") → ⊥)
+    → (n ≡ pack (bytes "77B") → ⊥) → Unmarked (unpack n)
+unmarked n h26 h56a h56d h57a h57d h77 f o =
+    made-marked f o (unpack n) (no-mark (f .bank) o (two-others n (pack (bytes "56A")) (pack (bytes "56D")) h56a h56d))
+    (sym (ap (λ (b : Bool). f .through || b) (two-others n (pack (bytes "57A")) (pack (bytes "57D")) h57a h57d) ∙ or-false (f .through)))
+    (no-mark (f .purpose) o (other n (pack (bytes "26T")) h26)) (no-mark (f .budget) o (other n (pack (bytes "77B")) h77))
+
+-- where nothing is found
+pub found-nothing : (x : Finds) → x .day ≡ 0 → x .currency ≡ 0 → x .party ≡ 0 → not (x .kpp) ≡ true → x ≡ finds 0 0 0 false
+found-nothing x d c p k = go
+  where
+    go : finds (x .day) (x .currency) (x .party) (x .kpp) ≡ finds 0 0 0 false
+    go = rw (d, c, p, not-true (x .kpp) k) refl
+
+pub nothing-noted : (f : Facts) (s : ℕ) (t : List ℕ) {x : Finds} → x ≡ finds 0 0 0 false → f ≡ notedBy f s t x
+unfolding notedBy within
+nothing-noted f s t e = go ∙ ap (notedBy f s t) (sym e)
+  where
+    go : f ≡ notedBy f s t (finds 0 0 0 false)
+    go =
+        made-noted f s t (finds 0 0 0 false) (else-none (f .day)) (else-none (f .currency)) (else-none (f .party))
+        (sym (ap (λ (b : Bool). f .payer || b) (and-false (same t (bytes "50K"))) ∙ or-false (f .payer)))
+        (sym (ap (λ (b : Bool). f .payee || b) (and-false (same t (bytes "59"))) ∙ or-false (f .payee)))
 
 -- ---- the fields' facts, one by one: any place, and any test
-module _ (get : Facts → ℕ) (place : ℕ → Field → ℕ) (number : ℕ) (bad : Kind → Bool)
-    (turn : (f : Facts) (o : ℕ) (g : Field) → get (noted f o (startOf o g) (tagOf g) (contentOf g)) ≡ orElse (get f) (place o g))
-    (step : (o : ℕ) (g : Field) (gs : List Field) → firstBad number bad (valuesIn o (g ∷ gs)) ≡ then (toldAs number (place o g)) (firstBad number bad (valuesIn (nextOf o g) gs))) where
+module _ (form : Form) (get : Facts → ℕ) (place : ℕ → Field → ℕ) (number : ℕ) (bad : Kind → Bool)
+    (turn : (f : Facts) (o : ℕ) (g : Field) → get (noted form f o g) ≡ orElse (get f) (place o g))
+    (step : (o : ℕ) (g : Field) (gs : List Field) → firstBad number bad (valuesIn form o (g ∷ gs)) ≡ then (toldAs number (place o g)) (firstBad number bad (valuesIn form (nextOf o g) gs))) where
   then-else : (a b : ℕ) (v : Verdict) → then (toldAs number (orElse a b)) v ≡ then (toldAs number a) (then (toldAs number b) v)
   unfolding orElse
   then-else zero b v = refl
   then-else (suc a) b v = refl
 
-  pub place-from : (f : Facts) (o : ℕ) (gs : List Field) → toldAs number (get (factsFrom f o gs)) ≡ then (toldAs number (get f)) (firstBad number bad (valuesIn o gs))
+  pub place-from : (f : Facts) (o : ℕ) (gs : List Field) → toldAs number (get (factsFrom form f o gs)) ≡ then (toldAs number (get f)) (firstBad number bad (valuesIn form o gs))
   unfolding factsFrom firstBad
   place-from f o [] = sym (then-fine (toldAs number (get f)))
   place-from f o (g ∷ gs) =
-      place-from (noted f o (startOf o g) (tagOf g) (contentOf g)) (nextOf o g) gs
-      ∙ ap (λ (k : ℕ). then (toldAs number k) (firstBad number bad (valuesIn (nextOf o g) gs))) (turn f o g)
-      ∙ then-else (get f) (place o g) (firstBad number bad (valuesIn (nextOf o g) gs))
+      place-from (noted form f o g) (nextOf o g) gs
+      ∙ ap (λ (k : ℕ). then (toldAs number k) (firstBad number bad (valuesIn form (nextOf o g) gs))) (turn f o g)
+      ∙ then-else (get f) (place o g) (firstBad number bad (valuesIn form (nextOf o g) gs))
       ∙ ap (then (toldAs number (get f))) (sym (step o g gs))
 
-module _ (get : Facts → Bool) (test : Field → Bool) (t : Kind → Bool)
-    (turn : (f : Facts) (o : ℕ) (g : Field) → get (noted f o (startOf o g) (tagOf g) (contentOf g)) ≡ (get f || test g))
-    (step : (o : ℕ) (g : Field) (gs : List Field) → has t (valuesIn o (g ∷ gs)) ≡ (test g || has t (valuesIn (nextOf o g) gs))) where
-  pub test-from : (f : Facts) (o : ℕ) (gs : List Field) → get (factsFrom f o gs) ≡ (get f || has t (valuesIn o gs))
+module _ (form : Form) (get : Facts → Bool) (test : Field → Bool) (t : Kind → Bool)
+    (turn : (f : Facts) (o : ℕ) (g : Field) → get (noted form f o g) ≡ (get f || test g))
+    (step : (o : ℕ) (g : Field) (gs : List Field) → has t (valuesIn form o (g ∷ gs)) ≡ (test g || has t (valuesIn form (nextOf o g) gs))) where
+  pub test-from : (f : Facts) (o : ℕ) (gs : List Field) → get (factsFrom form f o gs) ≡ (get f || has t (valuesIn form o gs))
   unfolding factsFrom
   test-from f o [] = sym (or-false (get f))
   test-from f o (g ∷ gs) =
-      test-from (noted f o (startOf o g) (tagOf g) (contentOf g)) (nextOf o g) gs
-      ∙ ap (λ (b : Bool). b || has t (valuesIn (nextOf o g) gs)) (turn f o g)
-      ∙ or-or (get f) (test g) (has t (valuesIn (nextOf o g) gs))
+      test-from (noted form f o g) (nextOf o g) gs
+      ∙ ap (λ (b : Bool). b || has t (valuesIn form (nextOf o g) gs)) (turn f o g)
+      ∙ or-or (get f) (test g) (has t (valuesIn form (nextOf o g) gs))
       ∙ ap (λ (b : Bool). get f || b) (sym (step o g gs))
     where
       or-or : (a b c : Bool) → ((a || b) || c) ≡ (a || (b || c))
@@ -159,55 +181,73 @@ unfolding marked
 by-mark number true o v = refl
 by-mark number false o v = refl
 
-abbrev told : (number : ℕ) → (Facts → ℕ) → List Field → Verdict
-told number get fs = toldAs number (get (factsFrom nothingYet 5 fs))
-
-fault-step : (number : ℕ) (bad : Kind → Bool) → ((t : List ℕ) → bad (tag t) ≡ false) → (o : ℕ) (g : Field) (gs : List Field)
-    → firstBad number bad (valuesIn o (g ∷ gs)) ≡ then (toldAs number (within (startOf o g) (faultOf bad (valuesOf (tagOf g) (contentOf g))))) (firstBad number bad (valuesIn (nextOf o g) gs))
-fault-step number bad h o g gs =
-    first-field number bad h o g gs
-    ∙ ap (λ (v : Verdict). then v (firstBad number bad (valuesIn (nextOf o g) gs))) (by-fault number (startOf o g) (faultOf bad (valuesOf (tagOf g) (contentOf g))))
-
-tag-step : (number : ℕ) (ts : List (List ℕ)) (o : ℕ) (g : Field) (gs : List Field)
-    → firstBad number (tagged ts) (valuesIn o (g ∷ gs)) ≡ then (toldAs number (marked (among (tagOf g) ts) o)) (firstBad number (tagged ts) (valuesIn (nextOf o g) gs))
-tag-step number ts o g gs = first-tag number ts o g gs ∙ by-mark number (among (tagOf g) ts) o (firstBad number (tagged ts) (valuesIn (nextOf o g) gs))
-
 -- one tag
 one-tag : (t u : List ℕ) → same t u ≡ among t (u ∷ [])
 one-tag t u = sym (or-false (same t u))
 
-module _ (fs : List Field) where
-  day-told : told 9 (λ f. f .day) fs ≡ rule9 fs
-  unfolding nothingYet noted rule9
-  day-told = place-from (λ f. f .day) (λ o g. within (startOf o g) (faultOf noDay (valuesOf (tagOf g) (contentOf g)))) 9 noDay (λ f o g. refl) (fault-step 9 noDay (λ t. refl)) nothingYet 5 fs
+module _ (form : Form) where
+  abbrev told : (number : ℕ) → (Facts → ℕ) → List Field → Verdict
+  told number get fs = toldAs number (get (factsFrom form nothingYet 5 fs))
 
-  currency-told : told 10 (λ f. f .currency) fs ≡ rule10 fs
-  unfolding nothingYet noted rule10
-  currency-told = place-from (λ f. f .currency) (λ o g. within (startOf o g) (faultOf foreign (valuesOf (tagOf g) (contentOf g)))) 10 foreign (λ f o g. refl) (fault-step 10 foreign (λ t. refl)) nothingYet 5 fs
+  fault-step : (number : ℕ) (bad : Kind → Bool) → ((t : List ℕ) → bad (tag t) ≡ false) → (o : ℕ) (g : Field) (gs : List Field)
+      → firstBad number bad (valuesIn form o (g ∷ gs)) ≡ then (toldAs number (within (startOf o g) (faultOf bad (valuesFor form g)))) (firstBad number bad (valuesIn form (nextOf o g) gs))
+  fault-step number bad h o (field t ls) gs =
+      first-field form o t ls gs number bad h
+      ∙ ap (λ (v : Verdict). then v (firstBad number bad (valuesIn form (nextOf o (field t ls)) gs))) (by-fault number (startOf o (field t ls)) (faultOf bad (valuesFor form (field t ls))))
 
-  party-told : told 12 (λ f. f .party) fs ≡ rule12 fs
-  unfolding nothingYet noted rule12
-  party-told = place-from (λ f. f .party) (λ o g. within (startOf o g) (faultOf apart (valuesOf (tagOf g) (contentOf g)))) 12 apart (λ f o g. refl) (fault-step 12 apart (λ t. refl)) nothingYet 5 fs
+  tag-step : (number : ℕ) (ts : List (List ℕ)) (o : ℕ) (g : Field) (gs : List Field)
+      → firstBad number (tagged ts) (valuesIn form o (g ∷ gs)) ≡ then (toldAs number (marked (among (tagOf g) ts) o)) (firstBad number (tagged ts) (valuesIn form (nextOf o g) gs))
+  tag-step number ts o (field t ls) gs = first-tag form o t ls gs number ts ∙ by-mark number (among t ts) o (firstBad number (tagged ts) (valuesIn form (nextOf o (field t ls)) gs))
 
-  bank-told : told 11 (λ f. f .bank) fs ≡ firstBad 11 is56 (valuesIn 5 fs)
-  unfolding nothingYet noted
-  bank-told = place-from (λ f. f .bank) (λ o g. marked (among (tagOf g) tags56) o) 11 is56 (λ f o g. refl) (tag-step 11 tags56) nothingYet 5 fs
+  has-step : (ts : List (List ℕ)) (o : ℕ) (g : Field) (gs : List Field) → has (tagged ts) (valuesIn form o (g ∷ gs)) ≡ (among (tagOf g) ts || has (tagged ts) (valuesIn form (nextOf o g) gs))
+  has-step ts o (field t ls) gs = has-tag form o t ls gs ts
 
-  purpose-told : told 13 (λ f. f .purpose) fs ≡ firstBad 13 is26T (valuesIn 5 fs)
-  unfolding nothingYet noted
-  purpose-told =
-      place-from (λ f. f .purpose) (λ o g. marked (among (tagOf g) (bytes "26T" ∷ [])) o) 13 is26T
-      (λ f o g. ap (λ (b : Bool). orElse (f .purpose) (marked b o)) (one-tag (tagOf g) (bytes "26T"))) (tag-step 13 (bytes "26T" ∷ [])) nothingYet 5 fs
+  kpp-step : (u : List ℕ) (o : ℕ) (g : Field) (gs : List Field)
+      → has (kppIn u) (valuesIn form o (g ∷ gs)) ≡ (kppAt (has hasKpp (valuesFor form g)) (tagOf g) u || has (kppIn u) (valuesIn form (nextOf o g) gs))
+  kpp-step u o (field t ls) gs = has-kpp form o t ls gs u
 
-  budget-told : told 13 (λ f. f .budget) fs ≡ firstBad 13 is77B (valuesIn 5 fs)
-  unfolding nothingYet noted
-  budget-told =
-      place-from (λ f. f .budget) (λ o g. marked (among (tagOf g) (bytes "77B" ∷ [])) o) 13 is77B
-      (λ f o g. ap (λ (b : Bool). orElse (f .budget) (marked b o)) (one-tag (tagOf g) (bytes "77B"))) (tag-step 13 (bytes "77B" ∷ [])) nothingYet 5 fs
+  module _ (fs : List Field) where
+    day-told : told 9 (λ f. f .day) fs ≡ rule9 form fs
+    unfolding nothingYet notedBy markedBy rule9
+    day-told = place-from form (λ f. f .day) (λ o g. within (startOf o g) (faultOf noDay (valuesFor form g))) 9 noDay (λ f o g. refl) (fault-step 9 noDay (λ t. refl)) nothingYet 5 fs
 
-  through-is : factsFrom nothingYet 5 fs .through ≡ has is57 (valuesIn 5 fs)
-  unfolding nothingYet noted
-  through-is = test-from (λ f. f .through) (λ g. among (tagOf g) tags57) is57 (λ f o g. refl) (has-tag tags57) nothingYet 5 fs
+    currency-told : told 10 (λ f. f .currency) fs ≡ rule10 form fs
+    unfolding nothingYet notedBy markedBy rule10
+    currency-told = place-from form (λ f. f .currency) (λ o g. within (startOf o g) (faultOf foreign (valuesFor form g))) 10 foreign (λ f o g. refl) (fault-step 10 foreign (λ t. refl)) nothingYet 5 fs
+
+    party-told : told 12 (λ f. f .party) fs ≡ rule12 form fs
+    unfolding nothingYet notedBy markedBy rule12
+    party-told = place-from form (λ f. f .party) (λ o g. within (startOf o g) (faultOf apart (valuesFor form g))) 12 apart (λ f o g. refl) (fault-step 12 apart (λ t. refl)) nothingYet 5 fs
+
+    bank-told : told 11 (λ f. f .bank) fs ≡ firstBad 11 is56 (valuesIn form 5 fs)
+    unfolding nothingYet notedBy markedBy
+    bank-told = place-from form (λ f. f .bank) (λ o g. marked (among (tagOf g) tags56) o) 11 is56 (λ f o g. refl) (tag-step 11 tags56) nothingYet 5 fs
+
+    purpose-told : told 13 (λ f. f .purpose) fs ≡ firstBad 13 is26T (valuesIn form 5 fs)
+    unfolding nothingYet notedBy markedBy
+    purpose-told =
+        place-from form (λ f. f .purpose) (λ o g. marked (among (tagOf g) (bytes "26T" ∷ [])) o) 13 is26T
+        (λ f o g. ap (λ (b : Bool). orElse (f .purpose) (marked b o)) (one-tag (tagOf g) (bytes "26T"))) (tag-step 13 (bytes "26T" ∷ [])) nothingYet 5 fs
+
+    budget-told : told 13 (λ f. f .budget) fs ≡ firstBad 13 is77B (valuesIn form 5 fs)
+    unfolding nothingYet notedBy markedBy
+    budget-told =
+        place-from form (λ f. f .budget) (λ o g. marked (among (tagOf g) (bytes "77B" ∷ [])) o) 13 is77B
+        (λ f o g. ap (λ (b : Bool). orElse (f .budget) (marked b o)) (one-tag (tagOf g) (bytes "77B"))) (tag-step 13 (bytes "77B" ∷ [])) nothingYet 5 fs
+
+    through-is : factsFrom form nothingYet 5 fs .through ≡ has is57 (valuesIn form 5 fs)
+    unfolding nothingYet notedBy markedBy
+    through-is = test-from form (λ f. f .through) (λ g. among (tagOf g) tags57) is57 (λ f o g. refl) (has-step tags57) nothingYet 5 fs
+
+    payer-is : factsFrom form nothingYet 5 fs .payer ≡ has (kppIn (bytes "50K")) (valuesIn form 5 fs)
+    unfolding nothingYet notedBy markedBy
+    payer-is =
+        test-from form (λ f. f .payer) (λ g. kppAt (has hasKpp (valuesFor form g)) (tagOf g) (bytes "50K")) (kppIn (bytes "50K")) (λ f o g. refl) (kpp-step (bytes "50K")) nothingYet 5 fs
+
+    payee-is : factsFrom form nothingYet 5 fs .payee ≡ has (kppIn (bytes "59")) (valuesIn form 5 fs)
+    unfolding nothingYet notedBy markedBy
+    payee-is =
+        test-from form (λ f. f .payee) (λ g. kppAt (has hasKpp (valuesFor form g)) (tagOf g) (bytes "59")) (kppIn (bytes "59")) (λ f o g. refl) (kpp-step (bytes "59")) nothingYet 5 fs
 
 -- ---- a place is told exactly if some value passes
 data Marks (number : ℕ) : Bool → Verdict → Type 0 where
@@ -229,29 +269,31 @@ told-marks number (suc p) none-there e = absurd (fine-broken number p (sym e))
 told-marks number zero (one-there q) e = absurd (fine-broken number q e)
 told-marks number (suc p) (one-there q) e = ne-eqb (suc p) 0 (λ z. omega arith)
 
-module _ (fs : List Field) where
+module _ (form : Form) (fs : List Field) where
   abbrev F : Facts
-  F = factsFrom nothingYet 5 fs
+  F = factsFrom form nothingYet 5 fs
 
   abbrev vs : List Value
-  vs = valuesIn 5 fs
+  vs = valuesIn form 5 fs
 
-  bank-rule : toldAs 11 (openBank (F .through) (F .bank)) ≡ rule11 fs
+  bank-rule : toldAs 11 (openBank (F .through) (F .bank)) ≡ rule11 form fs
   unfolding openBank
-  bank-rule = go (F .through) ∙ ap₂ (λ (b : Bool) (v : Verdict). pick b Fine v) (through-is fs) (bank-told fs) ∙ sym (rule11-by fs)
+  bank-rule = go (F .through) ∙ ap₂ (λ (b : Bool) (v : Verdict). pick b Fine v) (through-is form fs) (bank-told form fs) ∙ sym (rule11-by form fs)
     where
       go : (b : Bool) → toldAs 11 (pick b 0 (F .bank)) ≡ pick b Fine (toldAs 11 (F .bank))
       go true = refl
       go false = refl
 
-  tax-rule : taxRule (F .purpose) (F .budget) (bothTaxed fs) ≡ rule13 fs
+  tax-rule : taxRule (F .purpose) (F .budget) (F .payer && F .payee) ≡ rule13 form fs
   unfolding taxRule
   tax-rule =
-      ap₂ (λ (a b : Bool). pick a (toldAs 13 (F .budget)) (pick b (toldAs 13 (F .purpose)) (pick (bothTaxed fs) Fine (toldAs 13 (F .purpose)))))
-      (told-marks 13 (F .purpose) (marks 13 is26T vs) (purpose-told fs)) (told-marks 13 (F .budget) (marks 13 is77B vs) (budget-told fs))
-      ∙ ap₂ (λ (u w : Verdict). pick (not (has is26T vs)) w (pick (not (has is77B vs)) u (pick (bothTaxed fs) Fine u))) (purpose-told fs) (budget-told fs)
+      let k : Bool = F .payer && F .payee in
+      ap₂ (λ (a b : Bool). pick a (toldAs 13 (F .budget)) (pick b (toldAs 13 (F .purpose)) (pick k Fine (toldAs 13 (F .purpose)))))
+      (told-marks 13 (F .purpose) (marks 13 is26T vs) (purpose-told form fs)) (told-marks 13 (F .budget) (marks 13 is77B vs) (budget-told form fs))
+      ∙ ap₂ (λ (u w : Verdict). pick (not (has is26T vs)) w (pick (not (has is77B vs)) u (pick k Fine u))) (purpose-told form fs) (budget-told form fs)
+      ∙ ap₂ (λ (x y : Bool). pick (not (has is26T vs)) (firstBad 13 is77B vs) (pick (not (has is77B vs)) (firstBad 13 is26T vs) (pick (x && y) Fine (firstBad 13 is26T vs)))) (payer-is form fs) (payee-is form fs)
       ∙ go (has is26T vs) (has is77B vs) (has (kppIn (bytes "50K")) vs && has (kppIn (bytes "59")) vs) (firstBad 13 is26T vs) (firstBad 13 is77B vs)
-      ∙ sym (rule13-by fs)
+      ∙ sym (rule13-by form fs)
     where
       go : (a b k : Bool) (u w : Verdict) → pick (not a) w (pick (not b) u (pick k Fine u)) ≡ pick a (pick (b && k) Fine u) w
       go true true k u w = refl
@@ -259,9 +301,9 @@ module _ (fs : List Field) where
       go false b k u w = refl
 
   -- so they come to the rules
-  pub values-told : valueRules F (bothTaxed fs) ≡ first (rule9 fs ∷ rule10 fs ∷ rule11 fs ∷ rule12 fs ∷ rule13 fs ∷ [])
+  pub values-told : valueRules F ≡ first (rule9 form fs ∷ rule10 form fs ∷ rule11 form fs ∷ rule12 form fs ∷ rule13 form fs ∷ [])
   unfolding valueRules
-  values-told = rw (day-told fs, currency-told fs, bank-rule, party-told fs, tax-rule)
+  values-told = rw (day-told form fs, currency-told form fs, bank-rule, party-told form fs, tax-rule)
 
 -- ---- the first of them
 pub then-told : (number : ℕ) {p : ℕ} (v : Verdict) → (p ≡ 0 → ⊥) → toldAs number p ≡ then (toldAs number p) v
@@ -294,18 +336,3 @@ module _ {p : ℕ} (b : ℕ) (w : Bool) where
       pub tax-part : w ≡ false → toldAs 13 p ≡ taxRule p b w
       unfolding taxRule
       tax-part e = rw (ne-eqb p 0 h, ne-eqb b 0 k, e)
-
--- ---- a KPP, by the tag's number
-module _ (n : ℕ) (c : List ℕ) where
-  pub not-taxed : (payer : Bool) {k : ℕ} → k ≡ pick payer 3485771 3488000 → (n ≡ k → ⊥) → false ≡ has (kppIn (taxTag payer)) (valuesOf (unpack n) c)
-  not-taxed true e h = sym (kpp-other (bytes "50K") (unpack n) c (other n 3485771 (λ q. h (q ∙ sym e))))
-  not-taxed false e h = sym (kpp-other (bytes "59") (unpack n) c (other n 3488000 (λ q. h (q ∙ sym e))))
-
-  pub taxed-by : (payer : Bool) {k : ℕ} → k ≡ pick payer 3485771 3488000 → n ≡ k → kppOf payer c ≡ has (kppIn (taxTag payer)) (valuesOf (unpack n) c)
-  taxed-by true e h = sym (ap (λ (k : ℕ). has (kppIn (bytes "50K")) (valuesOf (unpack k) c)) (h ∙ e) ∙ kpp-payer c)
-  taxed-by false e h = sym (ap (λ (k : ℕ). has (kppIn (bytes "59")) (valuesOf (unpack k) c)) (h ∙ e) ∙ kpp-payee c)
-
--- a field more
-pub taxed-next : (payer : Bool) (o : ℕ) (g : Field) (gs : List Field) {b : Bool} → b ≡ has (kppIn (taxTag payer)) (valuesOf (tagOf g) (contentOf g))
-    → taxed payer o (g ∷ gs) ≡ (b || taxed payer (nextOf o g) gs)
-taxed-next payer o g gs e = has-kpp (taxTag payer) o g gs ∙ ap (λ (b : Bool). b || taxed payer (nextOf o g) gs) (sym e)

@@ -8,6 +8,7 @@ use native.Mathlib.Numerals.{add-one}
 use lib.Dec.{eqb}
 use lib.ListN.{length, take, drop, getD, length-append, drop-of-length-le}
 use lib.Seq.{drop-cons, getD-drop}
+use Rattle.types.specs.declared.Form.{Form}
 use Rattle.base.specs.Choice.{pick, all}
 use Rattle.base.specs.Bytes.{byte, begins, without}
 use Rattle.base.proofs.Bools.{left, right}
@@ -15,10 +16,10 @@ use Rattle.base.proofs.ByteLaws.{begins-byte}
 use Rattle.fields.specs.Field.{Field, field, closing, laid, linesOf, fields}
 use Rattle.fields.specs.Places.{startOf, nextOf, endOf, colonsOf}
 use Rattle.fields.specs.Shapes.{shaped, shapedTag, follows, lineable, unpack}
-use Rattle.fields.specs.ByLines.{startAt, tagAt}
+use Rattle.fields.specs.ByLines.{startAt, tagAt, Standing}
 use Rattle.fields.proofs.TagLaws.{shape-of, tag-long}
 use Rattle.fields.proofs.PackLaws.{unpack-pack}
-use Rattle.fields.proofs.PlaceLaws.{Standing, start-at, tag-at, field-bytes, next-standing, content-bytes, content-part, fields-stand}
+use Rattle.fields.proofs.PlaceLaws.{start-at, tag-at, field-bytes, next-standing, content-bytes, content-part, fields-stand}
 use Rattle.contents.proofs.RuleLaws.{firstOf}
 use Rattle.frame.proofs.CallLaws.{Found, taken}
 use Rattle.listing.proofs.SpotLaws.{spot-at}
@@ -33,9 +34,9 @@ colon-stands m (f ∷ fs) o zero w h = w
 colon-stands m (field t [] ∷ fs) o (suc k) w h = absurd (false≢true (w .able))
 colon-stands m (field t (l ∷ ls) ∷ fs) o (suc k) w h = colon-stands m fs (nextOf o (field t (l ∷ ls))) k (next-standing m o t l ls fs w) (omega arith)
 
-pub settled : {kind : ℕ} {m spots : List ℕ} {w : ℕ} → Found kind m spots w → Settled m spots
-settled {kind} {m} {spots} f =
-    let t = taken kind m (f .clean) in
+pub settled : {form : Form} {m spots : List ℕ} {w : ℕ} → Found form m spots w → Settled m spots
+settled {form} {m} {spots} f =
+    let t = taken form m (f .clean) in
     let w = fields-stand m (t .frame-fine) (t .bytes-fine) (t .lines-fine) in
     let at : (k : ℕ) → k ≤ length (fields m) → Standing m (byte spots k) (drop k (fields m)) =
     λ k h. subst (λ (o : ℕ). Standing m o (drop k (fields m))) (sym (spot-at f k h)) (colon-stands m (fields m) 5 k w h) in

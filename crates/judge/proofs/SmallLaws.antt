@@ -16,6 +16,7 @@ use Rattle.fields.specs.Places.{sizeOf, startOf, nextOf}
 use Rattle.fields.specs.Shapes.{lineable}
 use Rattle.fields.proofs.FieldLaws.{fields-lineable, fields-dash}
 use Rattle.fields.proofs.PlaceLaws.{size-append}
+use Rattle.types.specs.declared.Form.{Form}
 use Rattle.types.specs.Sign.{signOf}
 use Rattle.types.proofs.WalkLaws.{after}
 use Rattle.frame.specs.Frame.{refusal}
@@ -66,45 +67,45 @@ after-size o [] = omega arith
 after-size o (f ∷ fs) = let s = size-append (lined f) (linesOf fs) in omega (arith, after-size (nextOf o f) fs)
 
 -- ---- 14: texts stand in the message
-texts-small : (b kind : ℕ) (fs : List Field) → 5 + sizeOf (linesOf fs) + 2 ≤ b → Small b (rule14 kind fs)
+texts-small : (b : ℕ) (form : Form) (fs : List Field) → 5 + sizeOf (linesOf fs) + 2 ≤ b → Small b (rule14 form fs)
 unfolding rule14
-texts-small b kind fs h = go (signOf fs) (unheard (spoken kind 5 fs)) refl
+texts-small b form fs h = go (signOf fs) (unheard (spoken form 5 fs)) refl
   where
-    go : (q : Bool) (v : Verdict) → unheard (spoken kind 5 fs) ≡ v → Small b (pick q v Fine)
+    go : (q : Bool) (v : Verdict) → unheard (spoken form 5 fs) ≡ v → Small b (pick q v Fine)
     go false v e = tt
     go true Fine e = tt
     go true (Broken n p) e =
-        (omega (arith, unheard-number (spoken kind 5 fs) n p e), omega (arith, unheard-within (spoken kind 5 fs) 7 (5 + sizeOf (linesOf fs) + 2) n p (spoken-within kind 5 fs) e))
+        (omega (arith, unheard-number (spoken form 5 fs) n p e), omega (arith, unheard-within (spoken form 5 fs) 7 (5 + sizeOf (linesOf fs) + 2) n p (spoken-within form 5 fs) e))
 
 -- ---- the whole
 widened : (a b : ℕ) (v : Verdict) → a ≤ b → Small a v → Small b v
 widened a b Fine h s = tt
 widened a b (Broken n p) h s = (s .0, omega (arith, s .1))
 
-content-small : (kind : ℕ) (m : List ℕ) → Taken kind m → Small limit (first (contentRules kind m))
+content-small : (form : Form) (m : List ℕ) → Taken form m → Small limit (first (contentRules form m))
 unfolding rule8 rule9 rule10 rule11 rule12 rule13
-content-small kind m t =
+content-small form m t =
     let fs = fields m in
     let d : 5 + sizeOf (linesOf fs) ≡ length m - 2 = fields-dash m (t .frame-fine) (t .bytes-fine) (t .lines-fine) in
     let w = t .within in
     let g = t .long in
     let e : after 5 fs ≤ limit = omega (arith, after-size 5 fs) in
-    let value : (number : ℕ) (bad : Kind → Bool) → number ≤ lastNumber → Small limit (firstBad number bad (valuesIn 5 fs)) =
-    λ number bad k. widened (after 5 fs) limit (firstBad number bad (valuesIn 5 fs)) e (bad-small number bad k (in-order 5 fs)) in
-    content-holds (Small limit) kind m tt (record {
-      contents = wrong-small limit (rightField kind (signOf fs)) 5 fs (fields-lineable m (t .lines-fine)) (omega arith);
+    let value : (number : ℕ) (bad : Kind → Bool) → number ≤ lastNumber → Small limit (firstBad number bad (valuesIn form 5 fs)) =
+    λ number bad k. widened (after 5 fs) limit (firstBad number bad (valuesIn form 5 fs)) e (bad-small number bad k (in-order form 5 fs)) in
+    content-holds (Small limit) form m tt (record {
+      contents = wrong-small limit (rightField form (signOf fs)) 5 fs (fields-lineable m (t .lines-fine)) (omega arith);
       days = value 9 _ (omega arith);
       currency = value 10 _ (omega arith);
       banks = value 11 _ (omega arith);
       parties = value 12 _ (omega arith);
       taxes = value 13 _ (omega arith);
-      texts = texts-small limit kind fs (omega arith);
+      texts = texts-small limit form fs (omega arith);
     })
 
 -- a message's refusal has a number up to the last and a place up to the limit
-pub verdict-small : (kind : ℕ) (m : List ℕ) → Small limit (verdictOf kind m)
-verdict-small kind m = subst (Small limit) (sym (verdict-by kind m)) (go (refusal kind m) refl (refusal-small kind m))
+pub verdict-small : (form : Form) (m : List ℕ) → Small limit (verdictOf form m)
+verdict-small form m = subst (Small limit) (sym (verdict-by form m)) (go (refusal form m) refl (refusal-small form m))
   where
-    go : (v : Verdict) → refusal kind m ≡ v → Small limit v → Small limit (then v (first (contentRules kind m)))
-    go Fine e s = content-small kind m (taken kind m e)
+    go : (v : Verdict) → refusal form m ≡ v → Small limit v → Small limit (then v (first (contentRules form m)))
+    go Fine e s = content-small form m (taken form m e)
     go (Broken n p) e s = s

@@ -11,6 +11,7 @@ use Rattle.base.specs.declared.Verdict.the-variants.{Fine, Broken}
 use Rattle.base.proofs.RuleLaws.{then-clean, Clean, FirstOf, accepted-iff, refused-iff}
 use Rattle.base.proofs.CallLaws.{one-answer}
 use Rattle.fields.specs.Field.{fields}
+use Rattle.types.specs.declared.Form.{Form}
 use Rattle.types.specs.Sign.{signOf}
 use Rattle.frame.specs.declared.Frame.{Frame}
 use Rattle.frame.specs.Frame.{refusal, frameBy}
@@ -24,61 +25,61 @@ use Rattle.judge.proofs.CallLaws.{verdict-by}
 use Rattle.judge.proofs.RuleLaws.{accepted-rules}
 
 -- any two outcomes are equal
-pub judge-one : (kind : ℕ) (m : List ℕ) {f g : Frame} → f ≡ judgedOf kind m → g ≡ judgedOf kind m → f ≡ g
-judge-one kind m p q = one-answer p q
+pub judge-one : (form : Form) (m : List ℕ) {f g : Frame} → f ≡ judgedOf form m → g ≡ judgedOf form m → f ≡ g
+judge-one form m p q = one-answer p q
 
-module _ (kind : ℕ) (m : List ℕ) where
+module _ (form : Form) (m : List ℕ) where
   -- accepted exactly if no rule is broken, and refused exactly by the first that is
-  pub message-accepts : (verdictOf kind m ≡ Fine) ↔ Clean (messageRules kind m)
+  pub message-accepts : (verdictOf form m ≡ Fine) ↔ Clean (messageRules form m)
   unfolding verdictOf
-  message-accepts = accepted-iff (messageRules kind m)
+  message-accepts = accepted-iff (messageRules form m)
 
-  pub message-refuses : (n p : ℕ) → (verdictOf kind m ≡ Broken n p) ↔ FirstOf (messageRules kind m) n p
+  pub message-refuses : (n p : ℕ) → (verdictOf form m ≡ Broken n p) ↔ FirstOf (messageRules form m) n p
   unfolding verdictOf
-  message-refuses n p = refused-iff (messageRules kind m) n p
+  message-refuses n p = refused-iff (messageRules form m) n p
 
-  pub frame-clean : verdictOf kind m ≡ Fine → refusal kind m ≡ Fine
-  frame-clean e = then-clean (refusal kind m) (first (contentRules kind m)) (sym (verdict-by kind m) ∙ e) .0
+  pub frame-clean : verdictOf form m ≡ Fine → refusal form m ≡ Fine
+  frame-clean e = then-clean (refusal form m) (first (contentRules form m)) (sym (verdict-by form m) ∙ e) .0
 
   -- each content is right
-  pub contents-right : verdictOf kind m ≡ Fine → all (rightField kind (signOf (fields m))) (fields m) ≡ true
-  contents-right e = rule8-fine kind m .0 (accepted-rules kind m e .inside .contents)
+  pub contents-right : verdictOf form m ≡ Fine → all (rightField form (signOf (fields m))) (fields m) ≡ true
+  contents-right e = rule8-fine form m .0 (accepted-rules form m e .inside .contents)
 
   -- and so it is as the grammar says
-  pub accepted-right : verdictOf kind m ≡ Fine → EachRight kind (signOf (fields m)) (fields m)
-  accepted-right e = rule8-right kind m .0 (accepted-rules kind m e .inside .contents)
+  pub accepted-right : verdictOf form m ≡ Fine → EachRight form (signOf (fields m)) (fields m)
+  accepted-right e = rule8-right form m .0 (accepted-rules form m e .inside .contents)
 
   -- where 18 and 1 to 7 leave it alone, a message with a field that isn't right is refused by 8, where the content of the first such field starts
-  pub wrong-refused : (p : ℕ) → refusal kind m ≡ Fine → FirstWrong kind (signOf (fields m)) 5 (fields m) p → verdictOf kind m ≡ Broken 8 p
-  wrong-refused p e w = verdict-by kind m ∙ ap₂ (λ (u v : Verdict). then u (then v (first (innerRules kind (fields m))))) e (rule8-broken kind m p .1 w)
+  pub wrong-refused : (p : ℕ) → refusal form m ≡ Fine → FirstWrong form (signOf (fields m)) 5 (fields m) p → verdictOf form m ≡ Broken 8 p
+  wrong-refused p e w = verdict-by form m ∙ ap₂ (λ (u v : Verdict). then u (then v (first (innerRules form (fields m))))) e (rule8-broken form m p .1 w)
 
   -- no date is wrong
-  pub days-right : verdictOf kind m ≡ Fine → firstBad 9 noDay (valuesIn 5 (fields m)) ≡ Fine
+  pub days-right : verdictOf form m ≡ Fine → firstBad 9 noDay (valuesIn form 5 (fields m)) ≡ Fine
   unfolding rule9
-  days-right e = accepted-rules kind m e .inside .days
+  days-right e = accepted-rules form m e .inside .days
 
   -- and no currency
-  pub roubles-only : verdictOf kind m ≡ Fine → firstBad 10 foreign (valuesIn 5 (fields m)) ≡ Fine
+  pub roubles-only : verdictOf form m ≡ Fine → firstBad 10 foreign (valuesIn form 5 (fields m)) ≡ Fine
   unfolding rule10
-  roubles-only e = accepted-rules kind m e .inside .currency
+  roubles-only e = accepted-rules form m e .inside .currency
 
   -- ---- what a caller learns of the struct
-  by-verdict : (v : Verdict) → frameBy v kind m .verdict ≡ v
+  by-verdict : (v : Verdict) → frameBy v form m .verdict ≡ v
   unfolding frameBy
   by-verdict Fine = refl
   by-verdict (Broken n p) = refl
 
-  module _ {f : Frame} (e : f ≡ judgedOf kind m) where
-    pub judged-by : {v : Verdict} → f .verdict ≡ v → verdictOf kind m ≡ v
+  module _ {f : Frame} (e : f ≡ judgedOf form m) where
+    pub judged-by : {v : Verdict} → f .verdict ≡ v → verdictOf form m ≡ v
     unfolding judgedOf
-    judged-by q = sym (ap (λ (g : Frame). g .verdict) e ∙ by-verdict (verdictOf kind m)) ∙ q
+    judged-by q = sym (ap (λ (g : Frame). g .verdict) e ∙ by-verdict (verdictOf form m)) ∙ q
 
     module _ (q : f .verdict ≡ Fine) where
-      whole : f ≡ frameBy Fine kind m
+      whole : f ≡ frameBy Fine form m
       unfolding judgedOf
-      whole = e ∙ ap (λ (v : Verdict). frameBy v kind m) (judged-by q)
+      whole = e ∙ ap (λ (v : Verdict). frameBy v form m) (judged-by q)
 
-      pub judged-found : Found kind m (f .spots) (f .present)
+      pub judged-found : Found form m (f .spots) (f .present)
       unfolding frameBy
       judged-found =
           record { clean = frame-clean (judged-by q); spots-are = ap (λ (g : Frame). g .spots) whole; word-is = ap (λ (g : Frame). g .present) whole }

@@ -1,7 +1,7 @@
--- What 9 to 13 need of the fields, found in one turn a field, and the KPP that 13 may ask for. A place is told as one more than it is, 0 for none. Assumes nothing.
+-- What 9 to 13 need of the fields, found in one turn a field. A place is told as one more than it is, 0 for none. Assumes nothing.
 use Prim.Native.Nat.{ℕ, zero, suc, _+_}
 use mathlib.Core.Path.{_≡_}
-use mathlib.Core.Bool.{Bool, true, false, _&&_, _||_}
+use mathlib.Core.Bool.{Bool, false, _&&_, _||_}
 use mathlib.Core.List.{List, [], _∷_}
 use lib.Dec.{eqb}
 use Rattle.base.specs.Choice.{pick}
@@ -10,13 +10,20 @@ use Rattle.base.specs.Quoted.{bytes}
 use Rattle.base.specs.Rules.{first}
 use Rattle.base.specs.declared.Verdict.{Verdict}
 use Rattle.base.specs.declared.Verdict.the-variants.{Fine, Broken}
-use Rattle.fields.specs.Field.{Field, tagOf}
+use Rattle.fields.specs.Field.{Field, field, tagOf}
 use Rattle.fields.specs.Places.{startOf, nextOf}
+use Rattle.types.specs.declared.Form.{Form}
 use Rattle.types.specs.Walk.{among}
-use Rattle.values.specs.Values.{valuesOf, contentOf, valuesIn}
-use Rattle.values.specs.Judged.{noDay, foreign, apart, kppIn, has, tags56, tags57}
+use Rattle.contents.specs.Tags.{heldBy}
+use Rattle.contents.specs.Rule8.{firstWrong, rightField}
+use Rattle.values.specs.Values.{Value, valuesOf}
+use Rattle.values.specs.Judged.{noDay, foreign, apart, hasKpp, has, tags56, tags57}
 use Rattle.values.specs.Answers.{faultOf}
+use Rattle.values.specs.Steps.{finds}
+use Rattle.values.specs.declared.Finds.{Finds}
 use Rattle.judge.specs.declared.facts.Facts.{Facts}
+use Rattle.judge.specs.declared.facts.Read.{Read}
+use Rattle.judge.specs.declared.facts.Read.the-variants.{Wrong, Right}
 
 -- the first of two
 unfoldable pub orElse : ℕ → ℕ → ℕ
@@ -32,55 +39,81 @@ within s (suc k) = suc (s + k)
 unfoldable pub marked : Bool → ℕ → ℕ
 marked b o = pick b (suc o) 0
 
+-- a KPP, in a field with the tag that is wanted
+abbrev pub kppAt : Bool → List ℕ → List ℕ → Bool
+kppAt kpp t u = same t u && kpp
+
 -- as a rule's answer
 abbrev pub toldAs : ℕ → ℕ → Verdict
 toldAs number zero = Fine
 toldAs number (suc p) = Broken number p
 
+-- ---- field by field
 unfoldable pub nothingYet : Facts
 nothingYet =
-    record { day = 0; currency = 0; bank = 0; through = false; party = 0; purpose = 0; budget = 0 }
+    record { day = 0; currency = 0; bank = 0; through = false; party = 0; payer = false; payee = false; purpose = 0; budget = 0 }
 
--- one field more: its colon at o, its content from s on
-unfoldable pub noted : Facts → ℕ → ℕ → List ℕ → List ℕ → Facts
-noted f o s t c =
+-- a field with that tag, its colon at o
+unfoldable pub markedBy : Facts → ℕ → List ℕ → Facts
+markedBy f o t =
     record {
-      day = orElse (f .day) (within s (faultOf noDay (valuesOf t c)));
-      currency = orElse (f .currency) (within s (faultOf foreign (valuesOf t c)));
+      day = f .day;
+      currency = f .currency;
       bank = orElse (f .bank) (marked (among t tags56) o);
       through = f .through || among t tags57;
-      party = orElse (f .party) (within s (faultOf apart (valuesOf t c)));
+      party = f .party;
+      payer = f .payer;
+      payee = f .payee;
       purpose = orElse (f .purpose) (marked (same t (bytes "26T")) o);
       budget = orElse (f .budget) (marked (same t (bytes "77B")) o);
     }
 
--- nothing is noted of a field with that tag
-abbrev pub Idle : List ℕ → Type 0
-Idle t = (f : Facts) (o s : ℕ) (c : List ℕ) → f ≡ noted f o s t c
+-- what is found in its content, which starts at s
+unfoldable pub notedBy : Facts → ℕ → List ℕ → Finds → Facts
+notedBy f s t x =
+    record {
+      day = orElse (f .day) (within s (x .day));
+      currency = orElse (f .currency) (within s (x .currency));
+      bank = f .bank;
+      through = f .through;
+      party = orElse (f .party) (within s (x .party));
+      payer = f .payer || kppAt (x .kpp) t (bytes "50K");
+      payee = f .payee || kppAt (x .kpp) t (bytes "59");
+      purpose = f .purpose;
+      budget = f .budget;
+    }
 
-unfoldable pub factsFrom : Facts → ℕ → List Field → Facts
-factsFrom f o [] = f
-factsFrom f o (g ∷ gs) = factsFrom (noted f o (startOf o g) (tagOf g) (contentOf g)) (nextOf o g) gs
+-- nothing is marked of a field with that tag
+abbrev pub Unmarked : List ℕ → Type 0
+Unmarked t = (f : Facts) (o : ℕ) → f ≡ markedBy f o t
+
+abbrev pub valuesFor : Form → Field → List Value
+valuesFor form (field t ls) = valuesOf t (heldBy form t) ls
+
+abbrev pub findsIn : Form → Field → Finds
+findsIn form g = finds (faultOf noDay (valuesFor form g)) (faultOf foreign (valuesFor form g)) (faultOf apart (valuesFor form g)) (has hasKpp (valuesFor form g))
+
+abbrev pub noted : Form → Facts → ℕ → Field → Facts
+noted form f o g = notedBy (markedBy f o (tagOf g)) (startOf o g) (tagOf g) (findsIn form g)
+
+unfoldable pub factsFrom : Form → Facts → ℕ → List Field → Facts
+factsFrom form f o [] = f
+factsFrom form f o (g ∷ gs) = factsFrom form (noted form f o g) (nextOf o g) gs
+
+-- 8 at the first content that isn't right, or the facts of all
+abbrev pub ReadOf : Form → Bool → List Field → Read → Type 0
+ReadOf form sign fs (Wrong p) = firstWrong 8 (rightField form sign) startOf 5 fs ≡ Broken 8 p
+ReadOf form sign fs (Right f) = (firstWrong 8 (rightField form sign) startOf 5 fs ≡ Fine) × (f ≡ factsFrom form nothingYet 5 fs)
 
 -- ---- what they come to
 -- 11: a 56, and no 57
 unfoldable pub openBank : Bool → ℕ → ℕ
 openBank through bank = pick through 0 bank
 
--- a tax line with a KPP, in 50K or in 59
-abbrev pub taxTag : Bool → List ℕ
-taxTag payer = pick payer (bytes "50K") (bytes "59")
-
-abbrev pub taxed : Bool → ℕ → List Field → Bool
-taxed payer o fs = has (kppIn (taxTag payer)) (valuesIn o fs)
-
-abbrev pub bothTaxed : List Field → Bool
-bothTaxed fs = taxed true 5 fs && taxed false 5 fs
-
 -- 13: a 26T with 77B and what is whole, a KPP in 50K and 59; a 77B with 26T
 unfoldable pub taxRule : ℕ → ℕ → Bool → Verdict
 taxRule purpose budget whole = pick (eqb purpose 0) (toldAs 13 budget) (pick (eqb budget 0) (toldAs 13 purpose) (pick whole Fine (toldAs 13 purpose)))
 
-unfoldable pub valueRules : Facts → Bool → Verdict
-valueRules f whole =
-    first (toldAs 9 (f .day) ∷ toldAs 10 (f .currency) ∷ toldAs 11 (openBank (f .through) (f .bank)) ∷ toldAs 12 (f .party) ∷ taxRule (f .purpose) (f .budget) whole ∷ [])
+unfoldable pub valueRules : Facts → Verdict
+valueRules f =
+    first (toldAs 9 (f .day) ∷ toldAs 10 (f .currency) ∷ toldAs 11 (openBank (f .through) (f .bank)) ∷ toldAs 12 (f .party) ∷ taxRule (f .purpose) (f .budget) (f .payer && f .payee) ∷ [])

@@ -11,8 +11,7 @@ use Rattle.fields.specs.Field.{field, fields}
 use Rattle.fields.specs.Frame.{limit}
 use Rattle.fields.specs.Places.{startOf, nextOf}
 use Rattle.fields.specs.Shapes.{unpack}
-use Rattle.fields.specs.ByLines.{joined}
-use Rattle.fields.proofs.PlaceLaws.{Standing}
+use Rattle.fields.specs.ByLines.{joined, Standing}
 use Rattle.types.specs.Tables.{most}
 use Rattle.judge.specs.declared.parts.Part.{Part}
 

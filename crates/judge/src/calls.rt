@@ -6,10 +6,12 @@ ghost use Rattle.fields.specs.Field.{fields};
 ghost use Rattle.types.specs.Walk.{walked};
 ghost use Rattle.types.specs.Sign.{signOf};
 ghost use Rattle.judge.specs.Parts.{Settled};
+ghost use Rattle.judge.specs.Facts.{nothingYet, factsFrom};
 ghost use Rattle.judge.specs.Message.{innerRules, contentRules, judgedOf};
-use super::facts::facts_of;
-use super::facts::values_rule;
-use super::right::contents_rule;
+use super::facts::Facts;
+use super::facts::Read;
+use super::facts::read_fields;
+use super::rules::values_rule;
 use super::sign::is_signed;
 use super::speeches::speeches_rule;
 use alphabets::pieces::back_table;
@@ -18,13 +20,21 @@ use frame::Frame;
 use frame::SPOTS;
 use frame::calls::frame;
 use frame::pass::refused;
+use types::Form;
 
-// 9 to 14, of contents that are right.
-fn inner_verdict(kind: u32, sign: bool, m: &[u8], spots: &[u32; SPOTS], n: usize) -> Verdict
-    requires { ⌜ Settled (now m) (now spots) × (n ≡ length (fields (now m))) × (sign ≡ signOf (fields (now m))) ⌝ }
-    ensures { λ r. ⌜ r ≡ first (innerRules kind (fields (now (m .entry)))) ⌝ }
+// 9 to 14, from what was found in right contents.
+fn inner_verdict(
+    form: Form,
+    sign: bool,
+    f: Facts,
+    m: &[u8],
+    spots: &[u32; SPOTS],
+    n: usize,
+) -> Verdict
+    requires { ⌜ Settled (now m) (now spots) × (n ≡ length (fields (now m))) × (sign ≡ signOf (fields (now m))) × (f ≡ factsFrom form nothingYet 5 (fields (now m))) ⌝ }
+    ensures { λ r. ⌜ r ≡ first (innerRules form (fields (now (m .entry)))) ⌝ }
 {
-    let v = values_rule(facts_of(m, spots, n), m, spots, n);
+    let v = values_rule(f);
     if let Verdict::Broken { number, place } = v {
         return Verdict::Broken { number, place };
     }
@@ -32,27 +42,26 @@ fn inner_verdict(kind: u32, sign: bool, m: &[u8], spots: &[u32; SPOTS], n: usize
         return Verdict::Fine;
     }
     let back = back_table();
-    speeches_rule(&back, kind, m, spots, n)
+    speeches_rule(&back, form, m, spots, n)
 }
 
 // 8 to 14.
-fn content_verdict(kind: u32, m: &[u8], spots: &[u32; SPOTS], n: usize) -> Verdict
-    requires { ⌜ Settled (now m) (now spots) × (n ≡ length (fields (now m))) × (walked kind (now m) ≡ Verdict.Fine) ⌝ }
-    ensures { λ r. ⌜ r ≡ first (contentRules kind (now (m .entry))) ⌝ }
+fn content_verdict(form: Form, m: &[u8], spots: &[u32; SPOTS], n: usize) -> Verdict
+    requires { ⌜ Settled (now m) (now spots) × (n ≡ length (fields (now m))) × (walked form (now m) ≡ Verdict.Fine) ⌝ }
+    ensures { λ r. ⌜ r ≡ first (contentRules form (now (m .entry))) ⌝ }
 {
     let sign = is_signed(m);
-    let v = contents_rule(kind, sign, m, spots, n);
-    if let Verdict::Broken { number, place } = v {
-        return Verdict::Broken { number, place };
+    match read_fields(form, sign, m, spots, n) {
+        Read::Wrong(place) => Verdict::Broken { number: 8, place },
+        Read::Right(f) => inner_verdict(form, sign, f, m, spots, n),
     }
-    inner_verdict(kind, sign, m, spots, n)
 }
 
 // The message's refusal, or where its fields stand.
-pub fn judge(kind: u32, m: &[u8]) -> Frame
-    ensures { λ r. ⌜ r ≡ judgedOf kind (now (m .entry)) ⌝ }
+pub fn judge(form: Form, m: &[u8]) -> Frame
+    ensures { λ r. ⌜ r ≡ judgedOf form (now (m .entry)) ⌝ }
 {
-    let f = frame(kind, m);
+    let f = frame(form, m);
     let verdict = f.verdict;
     let n = f.fields;
     let spots = f.spots;
@@ -62,7 +71,7 @@ pub fn judge(kind: u32, m: &[u8]) -> Frame
     } = verdict {
         return f;
     }
-    let v = content_verdict(kind, m, &spots, n);
+    let v = content_verdict(form, m, &spots, n);
     if let Verdict::Broken { number, place } = v {
         return refused(Verdict::Broken { number, place });
     }

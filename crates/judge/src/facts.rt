@@ -1,41 +1,50 @@
-// 9 to 13: what they need of the fields, found in one turn a field. A place is told as one more than it is, 0 for none.
+// 8 to 13: each content is read once; 8 at the first that isn't right, else what 9 to 13 need of the fields. A place is told as one more than it
+// is, 0 for none.
 ghost use mathlib.Core.Path.{_≡_};
-ghost use mathlib.Core.Bool.{true, _||_};
+ghost use mathlib.Core.Bool.{true, false, _||_};
 ghost use Prim.Native.Nat.{_+_, _≤_};
 ghost use lib.ListN.{length};
 ghost use Rattle.fields.specs.Field.{fields};
 ghost use Rattle.fields.specs.Shapes.{unpack};
+ghost use Rattle.values.specs.Steps.{finds};
 ghost use Rattle.judge.specs.Parts.{Settled};
-ghost use Rattle.judge.specs.Facts.{orElse, within, marked, nothingYet, noted, Idle, factsFrom, openBank, bothTaxed, valueRules};
+ghost use Rattle.judge.specs.Facts.{orElse, within, marked, nothingYet, markedBy, notedBy, kppAt, Unmarked, ReadOf};
 use super::parts::field_at;
-use super::taxes::tax_rule;
-use base::Verdict;
+use contents::tags::held_by;
 use frame::SPOTS;
+use types::Form;
 use types::tags::TAG_26T;
-use types::tags::TAG_32A;
-use types::tags::TAG_52A;
+use types::tags::TAG_50K;
 use types::tags::TAG_56A;
 use types::tags::TAG_56D;
 use types::tags::TAG_57A;
 use types::tags::TAG_57D;
-use types::tags::TAG_72;
+use types::tags::TAG_59;
 use types::tags::TAG_77B;
-use values::faults::currency_fault;
-use values::faults::day_fault;
-use values::faults::is_56;
-use values::faults::is_57;
-use values::faults::party_fault;
+use values::Finds;
+use values::Found;
+use values::banks::is_56;
+use values::banks::is_57;
+use values::findings::found_in;
 
 // Places of a date that is no day, a currency that is not the rouble, a 56, a party line whose parts differ, a 26T and a 77B; and whether
-// there is a 57.
+// there is a 57, a KPP of the payer, one of the beneficiary.
 pub(crate) struct Facts {
     pub day: usize,
     pub currency: usize,
     pub bank: usize,
     pub through: bool,
     pub party: usize,
+    pub payer: bool,
+    pub payee: bool,
     pub purpose: usize,
     pub budget: usize,
+}
+
+// Where the first content starts that isn't right; or what is found in all of them.
+pub(crate) enum Read {
+    Wrong(usize),
+    Right(Facts),
 }
 
 // The first fault: an older one, or one inside a content that starts at s.
@@ -84,99 +93,112 @@ fn nothing() -> Facts
         bank: 0,
         through: false,
         party: 0,
+        payer: false,
+        payee: false,
         purpose: 0,
         budget: 0,
     }
 }
 
-// Most fields have none of these facts.
-fn is_idle(tag: u32) -> bool
-    ensures { λ r. ⌜ (r ≡ true → Idle (unpack tag)) ⌝ }
+// Whether 11 or 13 ask for a field with that tag; most they don't.
+fn is_marked(tag: u32) -> bool
+    ensures { λ r. ⌜ (r ≡ false → Unmarked (unpack tag)) ⌝ }
 {
     match tag {
-        TAG_26T => false,
-        TAG_32A => false,
-        TAG_52A => false,
-        TAG_56A => false,
-        TAG_56D => false,
-        TAG_57A => false,
-        TAG_57D => false,
-        TAG_72 => false,
-        TAG_77B => false,
-        _ => true,
+        TAG_26T => true,
+        TAG_56A => true,
+        TAG_56D => true,
+        TAG_57A => true,
+        TAG_57D => true,
+        TAG_77B => true,
+        _ => false,
     }
 }
 
-// One field more.
-fn note(f: Facts, o: usize, s: usize, tag: u32, c: &[u8]) -> Facts
-    requires { ⌜ (o ≤ 10000) × (s + length (now c) ≤ 10000) ⌝ }
-    ensures { λ r. ⌜ r ≡ noted f o s (unpack tag) (now (c .entry)) ⌝ }
+// 11 and 13: the field itself, its colon at o.
+fn mark(f: Facts, o: usize, tag: u32) -> Facts
+    requires { ⌜ o ≤ 10000 ⌝ }
+    ensures { λ r. ⌜ r ≡ markedBy f o (unpack tag) ⌝ }
 {
-    if is_idle(tag) {
+    if !is_marked(tag) {
         return f;
     }
     Facts {
-        day: fault_of(f.day, s, day_fault(tag, c)),
-        currency: fault_of(f.currency, s, currency_fault(tag, c)),
+        day: f.day,
+        currency: f.currency,
         bank: colon_of(f.bank, is_56(tag), o),
         through: either(f.through, is_57(tag)),
-        party: fault_of(f.party, s, party_fault(tag, c)),
+        party: f.party,
+        payer: f.payer,
+        payee: f.payee,
         purpose: colon_of(f.purpose, tag == TAG_26T, o),
         budget: colon_of(f.budget, tag == TAG_77B, o),
     }
 }
 
-pub(crate) fn facts_of(m: &[u8], spots: &[u32; SPOTS], n: usize) -> Facts
+// Nothing is found in most contents.
+fn is_nothing(x: Finds) -> bool
+    ensures { λ r. ⌜ (r ≡ true → x ≡ finds 0 0 0 false) ⌝ }
+{
+    if x.day != 0 {
+        return false;
+    }
+    if x.currency != 0 {
+        return false;
+    }
+    if x.party != 0 {
+        return false;
+    }
+    !x.kpp
+}
+
+// A KPP, in a field with the tag that is wanted.
+fn is_kpp(kpp: bool, tag: u32, want: u32) -> bool
+    ensures { λ r. ⌜ r ≡ kppAt kpp (unpack tag) (unpack want) ⌝ }
+{
+    if !kpp {
+        return false;
+    }
+    tag == want
+}
+
+// 9, 10, 12 and 13: what is found in its content, which starts at s.
+fn note(f: Facts, s: usize, tag: u32, x: Finds) -> Facts
+    requires { ⌜ (s + x .day ≤ 100000) × (s + x .currency ≤ 100000) × (s + x .party ≤ 100000) ⌝ }
+    ensures { λ r. ⌜ r ≡ notedBy f s (unpack tag) x ⌝ }
+{
+    if is_nothing(x) {
+        return f;
+    }
+    Facts {
+        day: fault_of(f.day, s, x.day),
+        currency: fault_of(f.currency, s, x.currency),
+        bank: f.bank,
+        through: f.through,
+        party: fault_of(f.party, s, x.party),
+        payer: either(f.payer, is_kpp(x.kpp, tag, TAG_50K)),
+        payee: either(f.payee, is_kpp(x.kpp, tag, TAG_59)),
+        purpose: f.purpose,
+        budget: f.budget,
+    }
+}
+
+pub(crate) fn read_fields(form: Form, sign: bool, m: &[u8], spots: &[u32; SPOTS], n: usize) -> Read
     requires { ⌜ Settled (now m) (now spots) × (n ≡ length (fields (now m))) ⌝ }
-    ensures { λ r. ⌜ r ≡ factsFrom nothingYet 5 (fields (now (m .entry))) ⌝ }
+    ensures { λ r. ⌜ ReadOf form sign (fields (now (m .entry))) r ⌝ }
 {
     let mut f = nothing();
     let mut k = 0;
     while k < n {
         let p = field_at(m, spots, k);
+        let tag = p.tag;
         let start = p.start;
         let end = p.end;
-        f = note(f, p.colon, start, p.tag, &m[start..end]);
+        let Found::Has(x) = found_in(held_by(form, tag), sign, &m[start..end]) else {
+            return Read::Wrong(start);
+        };
+        f = note(mark(f, p.colon, tag), start, tag, x);
         k += 1;
     }
-    f
-}
-
-// 11: no 57 behind a 56.
-fn open_bank(through: bool, bank: usize) -> usize
-    ensures { λ r. ⌜ r ≡ openBank through bank ⌝ }
-{
-    if through { 0 } else { bank }
-}
-
-pub(crate) fn values_rule(f: Facts, m: &[u8], spots: &[u32; SPOTS], n: usize) -> Verdict
-    requires { ⌜ Settled (now m) (now spots) × (n ≡ length (fields (now m))) ⌝ }
-    ensures { λ r. ⌜ r ≡ valueRules f (bothTaxed (fields (now (m .entry)))) ⌝ }
-{
-    let bank = open_bank(f.through, f.bank);
-    if f.day != 0 {
-        return Verdict::Broken {
-            number: 9,
-            place: f.day - 1,
-        };
-    }
-    if f.currency != 0 {
-        return Verdict::Broken {
-            number: 10,
-            place: f.currency - 1,
-        };
-    }
-    if bank != 0 {
-        return Verdict::Broken {
-            number: 11,
-            place: bank - 1,
-        };
-    }
-    if f.party != 0 {
-        return Verdict::Broken {
-            number: 12,
-            place: f.party - 1,
-        };
-    }
-    tax_rule(f.purpose, f.budget, m, spots, n)
+    Read::Right(f)
 }

@@ -1,8 +1,7 @@
-// A message judged whole: the quick pass, then 8 over the contents, 9 to 13 over the values, 14 over the texts.
+// A message judged whole: the quick pass, then 8 and what 9 to 13 need, in one turn a field, then 14 over the texts.
 pub mod calls;
 mod facts;
 mod parts;
-mod right;
+mod rules;
 pub mod sign;
 mod speeches;
-mod taxes;

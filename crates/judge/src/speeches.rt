@@ -10,23 +10,24 @@ use base::Verdict;
 use frame::SPOTS;
 use roles::Spot;
 use roles::texts::broken_text;
+use types::Form;
 
 pub(crate) fn speeches_rule(
     back: &[u8; 256],
-    kind: u32,
+    form: Form,
     m: &[u8],
     spots: &[u32; SPOTS],
     n: usize,
 ) -> Verdict
     requires { ⌜ (now back ≡ codes) × Settled (now m) (now spots) × (n ≡ length (fields (now m))) ⌝ }
-    ensures { λ v. ⌜ v ≡ unheard (spoken kind 5 (fields (now (m .entry)))) ⌝ }
+    ensures { λ v. ⌜ v ≡ unheard (spoken form 5 (fields (now (m .entry)))) ⌝ }
 {
     let mut k = 0;
     while k < n {
         let p = field_at(m, spots, k);
         let start = p.start;
         let end = p.end;
-        if let Spot::At(i) = broken_text(back, kind, p.tag, &m[start..end]) {
+        if let Spot::At(i) = broken_text(back, form, p.tag, &m[start..end]) {
             return Verdict::Broken {
                 number: 14,
                 place: start + i,

@@ -15,6 +15,7 @@ use Rattle.base.specs.Bits.{bit}
 use Rattle.fields.specs.Field.{Field, tagOf, fields}
 use Rattle.fields.specs.Places.{startOf, nextOf, endOf, listed}
 use Rattle.fields.specs.ByLines.{startAt, listedBy}
+use Rattle.types.specs.declared.Form.{Form}
 use Rattle.types.specs.Form.{Place, placesOf}
 use Rattle.types.specs.Walk.{find, word, present}
 use Rattle.types.proofs.WalkLaws.{AllRight}
@@ -93,11 +94,11 @@ drop-listed m e (o ∷ os) (suc k) =
     let z : 3 * suc k ≡ suc (suc (suc (3 * k))) = omega arith in
     ap (λ (n : ℕ). drop n (listedBy m e (o ∷ os))) z ∙ drop-listed m e os k
 
-module _ {kind : ℕ} {m spots : List ℕ} {w : ℕ} (f : Found kind m spots w) (place : ℕ) where
+module _ {form : Form} {m spots : List ℕ} {w : ℕ} (f : Found form m spots w) (place : ℕ) where
   abbrev ps : List Place
-  ps = placesOf kind
+  ps = placesOf form
 
-  taken : Taken kind m
+  taken : Taken form m
   taken = taken-found f
 
   bit-is : bit w place ≡ pick (present ps (fields m) place) 1 0

@@ -18,6 +18,7 @@ use Rattle.fields.specs.ByLines.{startAt, firstOr, listedBy}
 use Rattle.fields.proofs.FieldLaws.{fields-dash}
 use Rattle.fields.proofs.ByLines.{colons-length, colons-body}
 use Rattle.fields.proofs.PlaceLaws.{colons-within, listed-colons}
+use Rattle.types.specs.declared.Form.{Form}
 use Rattle.types.specs.Tables.{most}
 use Rattle.frame.specs.Frame.{spotsOf}
 use Rattle.frame.proofs.CallLaws.{Taken, taken, Found}
@@ -33,9 +34,9 @@ first-drop d [] (suc j) h = absurd (omega arith)
 first-drop d (x ∷ xs) zero h = refl
 first-drop d (x ∷ xs) (suc j) h = first-drop d xs j (omega arith)
 
-module _ {kind : ℕ} {m spots : List ℕ} {w : ℕ} (f : Found kind m spots w) where
-  pub taken-found : Taken kind m
-  taken-found = taken kind m (f .clean)
+module _ {form : Form} {m spots : List ℕ} {w : ℕ} (f : Found form m spots w) where
+  pub taken-found : Taken form m
+  taken-found = taken form m (f .clean)
 
   pub spot-at : (k : ℕ) → k ≤ length (fields m) → byte spots k ≡ byte (colons m ++ (length m - 2) ∷ []) k
   unfolding spotsOf
@@ -61,7 +62,7 @@ pub record Spot (m : List ℕ) (k o g : ℕ) : Type 0 where
   pub behind : 5 ≤ g
   pub top : g ≤ limit
 
-pub spot : {kind : ℕ} {m spots : List ℕ} {w : ℕ} → Found kind m spots w → (k : ℕ) → k < length (fields m) → Spot m k (byte spots k) (byte spots (k + 1))
+pub spot : {form : Form} {m spots : List ℕ} {w : ℕ} → Found form m spots w → (k : ℕ) → k < length (fields m) → Spot m k (byte spots k) (byte spots (k + 1))
 spot {m = m} {spots = spots} f k h =
     let c = colons-length 5 (fields m) in
     let t = taken-found f in
@@ -86,7 +87,7 @@ start-bound m o = go (eqb (byte m (o + 3)) 58)
     go false = omega arith
 
 -- ---- the numbers
-module _ {kind : ℕ} {m spots : List ℕ} {w : ℕ} (f : Found kind m spots w) where
+module _ {form : Form} {m spots : List ℕ} {w : ℕ} (f : Found form m spots w) where
   -- the list by the colons, from field k on
   numbers-from : (j k : ℕ) → k + j ≡ length (fields m) → numbersFrom m spots k j ≡ listedBy m (length m - 2) (drop k (colons m))
   unfolding numbersFrom listedBy

@@ -14,7 +14,9 @@ use Rattle.base.specs.Bytes.{isIn, digit, capital, letter, marks, shared, xset,
 use Rattle.fields.specs.Field.{Field, message, body, cut, upto, past, grouped, fields}
 use Rattle.fields.specs.Frame.{rule1, framed, rule2, scan, rule3, tagged, lineBad, badLine, rule4}
 use Rattle.fields.specs.Places.{listed}
-use Rattle.types.specs.Form.{form103, form202, forms, placesOf}
+use Rattle.types.specs.declared.Form.{Form}
+use Rattle.types.specs.declared.Form.the-variants.{Mt103, Mt202}
+use Rattle.types.specs.Form.{formOf, placesOf, places103, places202}
 use Rattle.types.specs.Walk.{find, wrong, walk, rule18, walked, word}
 use Rattle.frame.specs.Frame.{wordOf}
 use Rattle.frame.specs.Cases.{sample}
@@ -25,13 +27,13 @@ use Rattle.judge.specs.Message.{NoneBroken, verdictOf}
 use Rattle.judge.proofs.RuleLaws.{rules-accepted}
 use Rattle.contents.specs.Words.{capitalOrDigit}
 use Rattle.contents.specs.Tests as tests
-use Rattle.contents.specs.Rule8.{firstWrong, rightField, rule8, rightContent}
+use Rattle.contents.specs.Rule8.{firstWrong, rightField, rule8}
 use Rattle.values.specs.Number.{onward}
 use Rattle.values.specs.Day.{leap, daysIn, isDay, yearOf, realDay, dated}
 use Rattle.values.specs.Money.{kopecks}
-use Rattle.values.specs.Values.{behindDigits, payment, pointIn, datesBehind, rpp, bothParts, parties, taxPlace, isTax, withKpp, taxes, valuesOf}
+use Rattle.values.specs.Values.{payment, rppDates, parties, taxes, customerTaxes, payerTaxes, valuesOf}
 use Rattle.values.specs.Judged.{firstBad, rule9, rule10, rule11, rule12, rule13}
-use Rattle.values.specs.Answers.{dayAt, dateOf, kopecksOf, kppOf, faultOf}
+use Rattle.values.specs.Answers.{dateOf, kopecksOf, faultOf}
 use Rattle.contents.specs.Tags.{tags103, tags202, heldBy}
 use Rattle.roles.specs.Role.{shapeOf, cast}
 use Rattle.roles.specs.Speech.{named, told, speech, names, details, noted, speeches}
@@ -52,49 +54,49 @@ use Rattle.message.specs.Cases.{Case, accepts, refuses, narrow, spans, s
 use Rattle.message.proofs.CallLaws.{last-17}
 
 -- ---- what is computed of a case: its message's verdict, once, and what the calls make of a message with that verdict
-abbrev place-32A : ℕ → ℕ
-place-32A kind = find (placesOf kind) (bytes "32A")
+abbrev place-32A : Form → ℕ
+place-32A form = find (placesOf form) (bytes "32A")
 
-abbrev partFor : Verdict → ℕ → List ℕ → ℕ → Span
-partFor v kind m place = spanBy v (partAt (placesOf kind) place 5 (fields m))
+abbrev partFor : Verdict → Form → List ℕ → ℕ → Span
+partFor v form m place = spanBy v (partAt (placesOf form) place 5 (fields m))
 
-abbrev paidFor : ℕ → List ℕ → List ℕ
-paidFor kind m = partOf m (partFor Fine kind m (place-32A kind))
+abbrev paidFor : Form → List ℕ → List ℕ
+paidFor form m = partOf m (partFor Fine form m (place-32A form))
 
 abbrev Computed : Case → Type 0
 Computed (accepts kind s fs w ps k y m d) =
-    (verdictOf kind (bytes s) ≡ Fine) × (fields (bytes s) ≡ fs) × (message fs ≡ bytes s) × (word (placesOf kind) fs ≡ w) × (short (listed 5 fs) (lent (length ps + 2)) ≡ Fine)
-    × (over (listed 5 fs) (lent (length ps + 2)) ≡ ps ++ 9 ∷ 9 ∷ []) × (amount.Is (kopecksOf (paidFor kind (bytes s))) ≡ amount.Is k)
-    × (daySplit (dateOf (paidFor kind (bytes s))) ≡ day.On y m d)
-Computed (refuses kind s n number place) = verdictOf kind (bytes s) ≡ Broken number place
-Computed (narrow kind s n needed) = (verdictOf kind (bytes s) ≡ Fine) × (short (listed 5 (fields (bytes s))) (lent n) ≡ Broken 17 needed)
-Computed (spans kind s place part) = (v : Verdict) × (verdictOf kind (bytes s) ≡ v) × (partFor v kind (bytes s) place ≡ part)
-Computed (shows kind s place c) = (v : Verdict) × (verdictOf kind (bytes s) ≡ v) × (partOf (bytes s) (partFor v kind (bytes s) place) ≡ bytes c)
+    (verdictOf (formOf kind) (bytes s) ≡ Fine) × (fields (bytes s) ≡ fs) × (message fs ≡ bytes s) × (word (placesOf (formOf kind)) fs ≡ w) × (short (listed 5 fs) (lent (length ps + 2)) ≡ Fine)
+    × (over (listed 5 fs) (lent (length ps + 2)) ≡ ps ++ 9 ∷ 9 ∷ []) × (amount.Is (kopecksOf (paidFor (formOf kind) (bytes s))) ≡ amount.Is k)
+    × (daySplit (dateOf (paidFor (formOf kind) (bytes s))) ≡ day.On y m d)
+Computed (refuses kind s n number place) = verdictOf (formOf kind) (bytes s) ≡ Broken number place
+Computed (narrow kind s n needed) = (verdictOf (formOf kind) (bytes s) ≡ Fine) × (short (listed 5 (fields (bytes s))) (lent n) ≡ Broken 17 needed)
+Computed (spans kind s place part) = (v : Verdict) × (verdictOf (formOf kind) (bytes s) ≡ v) × (partFor v (formOf kind) (bytes s) place ≡ part)
+Computed (shows kind s place c) = (v : Verdict) × (verdictOf (formOf kind) (bytes s) ≡ v) × (partOf (bytes s) (partFor v (formOf kind) (bytes s) place) ≡ bytes c)
 
 -- ---- and from it all that the case says
-module _ (kind : ℕ) (m : List ℕ) {v : Verdict} (e : verdictOf kind m ≡ v) where
-  span-by : (place : ℕ) → spanOf kind m place ≡ partFor v kind m place
+module _ (form : Form) (m : List ℕ) {v : Verdict} (e : verdictOf form m ≡ v) where
+  span-by : (place : ℕ) → spanOf form m place ≡ partFor v form m place
   unfolding spanOf
-  span-by place = ap (λ (u : Verdict). partFor u kind m place) e
+  span-by place = ap (λ (u : Verdict). partFor u form m place) e
 
-  content-by : (place : ℕ) → contentOf kind m place ≡ partOf m (partFor v kind m place)
+  content-by : (place : ℕ) → contentOf form m place ≡ partOf m (partFor v form m place)
   unfolding contentOf
   content-by place = ap (partOf m) (span-by place)
 
-  amount-by : amountOf kind m ≡ amountBy v (kopecksOf (partOf m (partFor v kind m (place-32A kind))))
+  amount-by : amountOf form m ≡ amountBy v (kopecksOf (partOf m (partFor v form m (place-32A form))))
   unfolding amountOf paid
-  amount-by = ap₂ (λ (u : Verdict) (c : List ℕ). amountBy u (kopecksOf c)) e (content-by (place-32A kind))
+  amount-by = ap₂ (λ (u : Verdict) (c : List ℕ). amountBy u (kopecksOf c)) e (content-by (place-32A form))
 
-  day-by : dayOf kind m ≡ dayBy v (dateOf (partOf m (partFor v kind m (place-32A kind))))
+  day-by : dayOf form m ≡ dayBy v (dateOf (partOf m (partFor v form m (place-32A form))))
   unfolding dayOf paid
-  day-by = ap₂ (λ (u : Verdict) (c : List ℕ). dayBy u (dateOf c)) e (content-by (place-32A kind))
+  day-by = ap₂ (λ (u : Verdict) (c : List ℕ). dayBy u (dateOf c)) e (content-by (place-32A form))
 
   module _ (list : List ℕ) {w : Verdict} (h : short (listed 5 (fields m)) list ≡ w) where
-    answer-by : answerOf kind m list ≡ checkedBy (then v w) (length (fields m)) (wordOf kind m)
-    answer-by = ap (λ (u : Verdict). checkedBy u (length (fields m)) (wordOf kind m)) (last-17 kind m list e h)
+    answer-by : answerOf form m list ≡ checkedBy (then v w) (length (fields m)) (wordOf form m)
+    answer-by = ap (λ (u : Verdict). checkedBy u (length (fields m)) (wordOf form m)) (last-17 form m list e h)
 
-    left-by : leftOf kind m list ≡ room (then v w) (listed 5 (fields m)) list
-    left-by = ap (λ (u : Verdict). room u (listed 5 (fields m)) list) (last-17 kind m list e h)
+    left-by : leftOf form m list ≡ room (then v w) (listed 5 (fields m)) list
+    left-by = ap (λ (u : Verdict). room u (listed 5 (fields m)) list) (last-17 form m list e h)
 
 case-holds : (c : Case) → Computed c → Holds c
 case-holds (accepts kind s fs w ps k y m d) (e, f, g, h, i, j, a, b) =
@@ -102,32 +104,32 @@ case-holds (accepts kind s fs w ps k y m d) (e, f, g, h, i, j, a, b) =
     let q : short (listed 5 (fields (bytes s))) list ≡ Fine = ap (λ (x : List Field). short (listed 5 x) list) f ∙ i in (
       f,
       g,
-      answer-by kind (bytes s) e list q ∙ ap₂ checked.Accepted (ap length f) (ap (word (placesOf kind)) f ∙ h),
-      left-by kind (bytes s) e list q ∙ ap (λ (x : List Field). over (listed 5 x) list) f ∙ j,
-      amount-by kind (bytes s) e ∙ a,
-      day-by kind (bytes s) e ∙ b,
+      answer-by (formOf kind) (bytes s) e list q ∙ ap₂ checked.Accepted (ap length f) (ap (word (placesOf (formOf kind))) f ∙ h),
+      left-by (formOf kind) (bytes s) e list q ∙ ap (λ (x : List Field). over (listed 5 x) list) f ∙ j,
+      amount-by (formOf kind) (bytes s) e ∙ a,
+      day-by (formOf kind) (bytes s) e ∙ b,
     )
 case-holds (refuses kind s n number place) e =
-    (answer-by kind (bytes s) e (lent n) refl, left-by kind (bytes s) e (lent n) refl, amount-by kind (bytes s) e, day-by kind (bytes s) e)
-case-holds (narrow kind s n needed) (e, h) = (answer-by kind (bytes s) e (lent n) h, left-by kind (bytes s) e (lent n) h)
-case-holds (spans kind s place part) (v, e, h) = span-by kind (bytes s) e place ∙ h
-case-holds (shows kind s place c) (v, e, h) = content-by kind (bytes s) e place ∙ h
+    (answer-by (formOf kind) (bytes s) e (lent n) refl, left-by (formOf kind) (bytes s) e (lent n) refl, amount-by (formOf kind) (bytes s) e, day-by (formOf kind) (bytes s) e)
+case-holds (narrow kind s n needed) (e, h) = (answer-by (formOf kind) (bytes s) e (lent n) h, left-by (formOf kind) (bytes s) e (lent n) h)
+case-holds (spans kind s place part) (v, e, h) = span-by (formOf kind) (bytes s) e place ∙ h
+case-holds (shows kind s place c) (v, e, h) = content-by (formOf kind) (bytes s) e place ∙ h
 
 all-hold : (cs : List Case) → AllHold Computed cs → AllHold Holds cs
 all-hold [] h = tt
 all-hold (c ∷ cs) h = (case-holds c (h .0), all-hold cs (h .1))
 
 -- ---- the signed 202: its details are spelt as they would be written
-signed-easy : rule14 202 (fields (bytes signed202)) ≡ Fine → NoneBroken 202 (bytes signed202)
-unfolding rule18 form103 form202 forms placesOf long rule1 framed body same rule2 scan xset isIn digit capital letter marks shared rule3 cut tagged lineBad badLine rule4 upto past grouped fields find wrong walk walked signOf firstWrong rightField rule8 rightContent onward leap daysIn isDay yearOf realDay dated behindDigits payment pointIn datesBehind rpp bothParts parties taxPlace isTax withKpp taxes valuesOf firstBad rule9 rule10 rule11 rule12 rule13 capitalOrDigit tests.lead tests.ends tests.pair tests.isReference tests.isPurpose tests.isPayment tests.isOwnAccount tests.isPartyByBik tests.isParty tests.isBic tests.isAccount tests.isTax tests.looksTax tests.isRpp tests.details tests.right tags103 tags202 heldBy
+signed-easy : rule14 Mt202 (fields (bytes signed202)) ≡ Fine → NoneBroken Mt202 (bytes signed202)
+unfolding rule18 places103 places202 long rule1 framed body same rule2 scan xset isIn digit capital letter marks shared rule3 cut tagged lineBad badLine rule4 upto past grouped fields find wrong walk walked signOf firstWrong rightField rule8 onward leap daysIn isDay yearOf realDay dated payment parties tests.looksTax taxes valuesOf firstBad rule9 rule10 rule11 rule12 rule13 capitalOrDigit tests.lead tests.ends tests.pair tests.isReference tests.isPurpose tests.isPayment tests.isOwnAccount tests.isPartyByBik tests.isParty tests.isBic tests.isAccount tests.isTax tests.isRpp tests.details tests.right tags103 tags202 heldBy rppDates customerTaxes payerTaxes
 signed-easy e =
     record {
       pass = record { type = refl; size = refl; frame = refl; bytes = refl; lines = refl; walk = refl };
       inside = record { contents = refl; days = refl; currency = refl; banks = refl; parties = refl; taxes = refl; texts = e };
     }
 
-signed-texts : spoken 202 5 (fields (bytes signed202)) ≡ speech named 120 (bytes "'OOO' SBERBANK") ∷ speech told 185 (bytes "PEREVOD SREDSTVPO DOGOVORU 'A'") ∷ []
-unfolding spoken speeches names details noted roles-speech.behind shapeOf heldBy tags103 tags202 cast isTax same digit body cut upto past grouped fields isIn
+signed-texts : spoken Mt202 5 (fields (bytes signed202)) ≡ speech named 120 (bytes "'OOO' SBERBANK") ∷ speech told 185 (bytes "PEREVOD SREDSTVPO DOGOVORU 'A'") ∷ []
+unfolding spoken speeches names details noted roles-speech.behind shapeOf heldBy tags103 tags202 cast tests.looksTax same digit body cut upto past grouped fields isIn
 signed-texts = refl
 
 name-heard : breaks named (bytes "'OOO' SBERBANK") ≡ false
@@ -142,17 +144,17 @@ details-heard : breaks told (bytes "PEREVOD SREDSTVPO DOGOVORU 'A'") ≡ false
 unfolding breaks best bad latinNext kind grid marks isIn digit capital letter shared
 details-heard = ap mute (reads-best false details-read refl)
 
-signed-fine : verdictOf 202 (bytes signed202) ≡ Fine
+signed-fine : verdictOf Mt202 (bytes signed202) ≡ Fine
 signed-fine =
-    rules-accepted 202 (bytes signed202) (signed-easy (rule14-fine 202 (fields (bytes signed202)) .1 (λ e. subst Heard (sym signed-texts) (name-heard, (details-heard, tt)))))
+    rules-accepted Mt202 (bytes signed202) (signed-easy (rule14-fine Mt202 (fields (bytes signed202)) .1 (λ e. subst Heard (sym signed-texts) (name-heard, (details-heard, tt)))))
 
 -- ---- the example of the rules, as a 103 and as a 202
-sample-verdicts : (verdictOf 103 (bytes sample) ≡ Fine) × (verdictOf 202 (bytes sample) ≡ Broken 5 15)
-unfolding verdictOf rule18 form103 form202 forms placesOf long rule1 framed body same rule2 scan xset isIn digit capital letter marks shared rule3 cut tagged lineBad badLine rule4 upto past grouped fields find wrong walk walked signOf firstWrong rightField rule8 rightContent onward leap daysIn isDay yearOf realDay dated behindDigits payment pointIn datesBehind rpp bothParts parties taxPlace isTax withKpp taxes valuesOf firstBad rule9 rule10 rule11 rule12 rule13 spoken speeches names details noted roles-speech.behind shapeOf heldBy tags103 tags202 cast hidden isInn taxLike breaks unheard rule14 grid alphabets-grid.sign reads capitalOrDigit tests.lead tests.ends tests.pair tests.isReference tests.isPurpose tests.isPayment tests.isOwnAccount tests.isPartyByBik tests.isParty tests.isBic tests.isAccount tests.isTax tests.looksTax tests.isRpp tests.details tests.right
+sample-verdicts : (verdictOf Mt103 (bytes sample) ≡ Fine) × (verdictOf Mt202 (bytes sample) ≡ Broken 5 15)
+unfolding verdictOf rule18 places103 places202 long rule1 framed body same rule2 scan xset isIn digit capital letter marks shared rule3 cut tagged lineBad badLine rule4 upto past grouped fields find wrong walk walked signOf firstWrong rightField rule8 onward leap daysIn isDay yearOf realDay dated payment parties tests.looksTax taxes valuesOf firstBad rule9 rule10 rule11 rule12 rule13 spoken speeches names details noted roles-speech.behind shapeOf heldBy tags103 tags202 cast hidden isInn taxLike breaks unheard rule14 grid alphabets-grid.sign reads capitalOrDigit tests.lead tests.ends tests.pair tests.isReference tests.isPurpose tests.isPayment tests.isOwnAccount tests.isPartyByBik tests.isParty tests.isBic tests.isAccount tests.isTax tests.isRpp tests.details tests.right rppDates customerTaxes payerTaxes
 sample-verdicts = (refl, refl)
 
 computed : AllHold Computed cases
-unfolding cases verdictOf rule18 form103 form202 forms placesOf long rule1 framed body same rule2 scan xset isIn digit capital letter marks shared rule3 cut tagged lineBad badLine rule4 upto past grouped fields find wrong walk walked signOf firstWrong rightField rule8 rightContent onward leap daysIn isDay yearOf realDay dated behindDigits payment pointIn datesBehind rpp bothParts parties taxPlace isTax withKpp taxes valuesOf firstBad rule9 rule10 rule11 rule12 rule13 spoken speeches names details noted roles-speech.behind shapeOf heldBy tags103 tags202 cast hidden isInn taxLike breaks unheard rule14 grid alphabets-grid.sign reads message listed word partAt short dateOf dayAt kopecksOf kopecks kppOf faultOf capitalOrDigit tests.lead tests.ends tests.pair tests.isReference tests.isPurpose tests.isPayment tests.isOwnAccount tests.isPartyByBik tests.isParty tests.isBic tests.isAccount tests.isTax tests.looksTax tests.isRpp tests.details tests.right
+unfolding cases verdictOf rule18 places103 places202 long rule1 framed body same rule2 scan xset isIn digit capital letter marks shared rule3 cut tagged lineBad badLine rule4 upto past grouped fields find wrong walk walked signOf firstWrong rightField rule8 onward leap daysIn isDay yearOf realDay dated payment parties tests.looksTax taxes valuesOf firstBad rule9 rule10 rule11 rule12 rule13 spoken speeches names details noted roles-speech.behind shapeOf heldBy tags103 tags202 cast hidden isInn taxLike breaks unheard rule14 grid alphabets-grid.sign reads message listed word partAt short dateOf kopecksOf kopecks faultOf capitalOrDigit tests.lead tests.ends tests.pair tests.isReference tests.isPurpose tests.isPayment tests.isOwnAccount tests.isPartyByBik tests.isParty tests.isBic tests.isAccount tests.isTax tests.isRpp tests.details tests.right rppDates customerTaxes payerTaxes
 computed =
     (sample-verdicts .0, refl, refl, refl, refl, refl, refl, refl) also (signed-fine, refl, refl, refl, refl, refl, refl, refl) also (refl, refl, refl, refl, refl, refl, refl, refl)
     also refl also refl also refl also refl also refl also refl also refl also refl also refl also (sample-verdicts .0, refl) also sample-verdicts .1

@@ -19,12 +19,13 @@ use Rattle.base.proofs.ByteLaws.{same-is}
 use Rattle.base.proofs.RuleLaws.{fine-broken, then-clean}
 use Rattle.fields.specs.Field.{Field, field, tagOf, fields}
 use Rattle.fields.specs.Places.{startOf, nextOf, endOf}
-use Rattle.fields.specs.ByLines.{joined}
-use Rattle.fields.proofs.PlaceLaws.{Standing, next-standing, content-part, fields-stand}
-use Rattle.types.specs.Form.{Place, placesOf, forms, form103, form202}
+use Rattle.fields.specs.ByLines.{joined, Standing}
+use Rattle.fields.proofs.PlaceLaws.{next-standing, content-part, fields-stand}
+use Rattle.types.specs.declared.Form.{Form}
+use Rattle.types.specs.declared.Form.the-variants.{Other, Mt103, Mt202}
+use Rattle.types.specs.Form.{Place, placesOf, places103, places202}
 use Rattle.types.specs.Walk.{find, optional, rule18}
 use Rattle.types.specs.Sign.{signOf}
-use Rattle.types.proofs.TableLaws.{no-form}
 use Rattle.types.proofs.WalkLaws.{placeAt, Seated, Accepted, seated, walked-accepted}
 use Rattle.types.proofs.WordLaws.{Present}
 use Rattle.contents.specs.declared.Content.{Content}
@@ -35,16 +36,14 @@ use Rattle.contents.specs.Fields.{IsPayment, One, Right}
 use Rattle.contents.specs.Tags.{tags103, tags202, heldIn, heldBy}
 use Rattle.contents.specs.Rule8.{rightField}
 use Rattle.contents.proofs.RuleLaws.{field-says}
-use Rattle.contents.proofs.TagLaws.{held-103, held-202}
 use Rattle.values.specs.Values as values
 use Rattle.values.specs.Values.{Kind, tag, valuesOf, valuesIn}
 use Rattle.values.specs.Judged.{firstBad, noDay, foreign}
 use Rattle.values.specs.Answers.{dateOf, kopecksOf, faultOf, answered}
 use Rattle.values.specs.Day as days
-use Rattle.values.specs.Parts.{paidValues, inKopecks}
+use Rattle.values.specs.Money.{kopecks}
 use Rattle.values.specs.Sentences.{OfCalendar}
 use Rattle.values.proofs.DayLaws.{day-iff}
-use Rattle.values.proofs.FaultLaws.{of-32A}
 use Rattle.values.proofs.GrammarLaws.{paid-values, paid-kopecks, paid-date}
 use Rattle.values.proofs.StepLaws.{first-field}
 use Rattle.listing.specs.declared.Span.the-variants.{Part, Nothing}
@@ -52,7 +51,6 @@ use Rattle.listing.specs.Lists.{partAt}
 use Rattle.message.specs.Calls.{spanBy, spanOf, partOf, contentOf, paid, amountBy, amountOf, daySplit, dayBy, dayOf}
 use Rattle.message.specs.declared.Amount.the-variants as amounts
 use Rattle.message.specs.declared.Day.the-variants as told
-use Rattle.message.proofs.PartLaws.{paid-103, paid-202}
 use Rattle.listing.proofs.SpanLaws.{part-listed}
 use Rattle.frame.proofs.CallLaws.{taken}
 use Rattle.judge.specs.Message.{verdictOf}
@@ -93,44 +91,45 @@ paid-line (l ∷ []) (date, currency, whole, decimals, p) = record { line = l; d
 paid-line (l ∷ k ∷ ks) p = absurd p
 
 -- ---- the field of a place: its content is right, and no date and no currency of it is wrong
-record Shown (m : List ℕ) (ps : List Place) (q o : ℕ) (fs : List Field) (kind : ℕ) (sign : Bool) : Type 0 where
+record Shown (m : List ℕ) (ps : List Place) (q o : ℕ) (fs : List Field) (form : Form) (sign : Bool) : Type 0 where
   tag : List ℕ
   line : List ℕ
   more : List (List ℕ)
   at-place : find ps tag ≡ q
   content : partOf m (partAt ps q o fs) ≡ joined (line ∷ more)
-  right-is : rightField kind sign (field tag (line ∷ more)) ≡ true
-  days : faultOf noDay (valuesOf tag (joined (line ∷ more))) ≡ 0
-  roubles : faultOf foreign (valuesOf tag (joined (line ∷ more))) ≡ 0
+  right-is : rightField form sign (field tag (line ∷ more)) ≡ true
+  days : faultOf noDay (valuesOf tag (heldBy form tag) (line ∷ more)) ≡ 0
+  roubles : faultOf foreign (valuesOf tag (heldBy form tag) (line ∷ more)) ≡ 0
 
 no-fault : (number s k : ℕ) → answered number s k ≡ Fine → k ≡ 0
 no-fault number s zero e = refl
 no-fault number s (suc k) e = absurd (fine-broken number (s + k) (sym e))
 
 -- a rule that no value of a field's breaks, and none of those behind it
-rest-fine : (number : ℕ) (bad : Kind → Bool) → ((t : List ℕ) → bad (tag t) ≡ false) → (o : ℕ) (f : Field) (fs : List Field) → firstBad number bad (valuesIn o (f ∷ fs)) ≡ Fine
-    → (faultOf bad (valuesOf (tagOf f) (values.contentOf f)) ≡ 0) × (firstBad number bad (valuesIn (nextOf o f) fs) ≡ Fine)
-rest-fine number bad h o f fs e =
-    let k : ℕ = faultOf bad (valuesOf (tagOf f) (values.contentOf f)) in
-    let c = then-clean (answered number (startOf o f) k) (firstBad number bad (valuesIn (nextOf o f) fs)) (sym (first-field number bad h o f fs) ∙ e) in
-    (no-fault number (startOf o f) k (c .0), c .1)
+rest-fine : (number : ℕ) (bad : Kind → Bool) → ((t : List ℕ) → bad (tag t) ≡ false) → (form : Form) (o : ℕ) (t : List ℕ) (ls : List (List ℕ)) (fs : List Field)
+    → firstBad number bad (valuesIn form o (field t ls ∷ fs)) ≡ Fine → (faultOf bad (valuesOf t (heldBy form t) ls) ≡ 0) × (firstBad number bad (valuesIn form (nextOf o (field t ls)) fs) ≡ Fine)
+rest-fine number bad h form o t ls fs e =
+    let k : ℕ = faultOf bad (valuesOf t (heldBy form t) ls) in
+    let s : ℕ = startOf o (field t ls) in
+    let c = then-clean (answered number s k) (firstBad number bad (valuesIn form (nextOf o (field t ls)) fs)) (sym (first-field form o t ls fs number bad h) ∙ e) in
+    (no-fault number s k (c .0), c .1)
 
-shown : (m : List ℕ) (ps : List Place) (q o : ℕ) (fs : List Field) (kind : ℕ) (sign : Bool) → Standing m o fs → all (rightField kind sign) fs ≡ true → firstBad 9 noDay (valuesIn o fs) ≡ Fine
-    → firstBad 10 foreign (valuesIn o fs) ≡ Fine → (partAt ps q o fs ≡ Nothing → ⊥) → Shown m ps q o fs kind sign
+shown : (m : List ℕ) (ps : List Place) (q o : ℕ) (fs : List Field) (form : Form) (sign : Bool) → Standing m o fs → all (rightField form sign) fs ≡ true → firstBad 9 noDay (valuesIn form o fs) ≡ Fine
+    → firstBad 10 foreign (valuesIn form o fs) ≡ Fine → (partAt ps q o fs ≡ Nothing → ⊥) → Shown m ps q o fs form sign
 unfolding partAt
-shown m ps q o [] kind sign w r d u h = absurd (h refl)
-shown m ps q o (field t [] ∷ fs) kind sign w r d u h = absurd (false≢true (w .able))
-shown m ps q o (field t (l ∷ ls) ∷ fs) kind sign w r d u h =
+shown m ps q o [] form sign w r d u h = absurd (h refl)
+shown m ps q o (field t [] ∷ fs) form sign w r d u h = absurd (false≢true (w .able))
+shown m ps q o (field t (l ∷ ls) ∷ fs) form sign w r d u h =
     let f = field t (l ∷ ls) in
-    let a = rest-fine 9 noDay (λ v. refl) o f fs d in
-    let b = rest-fine 10 foreign (λ v. refl) o f fs u in
+    let a = rest-fine 9 noDay (λ v. refl) form o t (l ∷ ls) fs d in
+    let b = rest-fine 10 foreign (λ v. refl) form o t (l ∷ ls) fs u in
     go (eqb (find ps t) q) refl h (a .0) (b .0)
-    (shown m ps q (nextOf o f) fs kind sign (next-standing m o t l ls fs w) (right (rightField kind sign f) (all (rightField kind sign) fs) r) (a .1) (b .1))
+    (shown m ps q (nextOf o f) fs form sign (next-standing m o t l ls fs w) (right (rightField form sign f) (all (rightField form sign) fs) r) (a .1) (b .1))
   where
     go : (b : Bool) → eqb (find ps t) q ≡ b → (pick b (Part (startOf o (field t (l ∷ ls))) (endOf o (field t (l ∷ ls)))) (partAt ps q (nextOf o (field t (l ∷ ls))) fs) ≡ Nothing → ⊥)
-        → faultOf noDay (valuesOf t (joined (l ∷ ls))) ≡ 0 → faultOf foreign (valuesOf t (joined (l ∷ ls))) ≡ 0
-        → ((partAt ps q (nextOf o (field t (l ∷ ls))) fs ≡ Nothing → ⊥) → Shown m ps q (nextOf o (field t (l ∷ ls))) fs kind sign)
-        → Shown m ps q o (field t (l ∷ ls) ∷ fs) kind sign
+        → faultOf noDay (valuesOf t (heldBy form t) (l ∷ ls)) ≡ 0 → faultOf foreign (valuesOf t (heldBy form t) (l ∷ ls)) ≡ 0
+        → ((partAt ps q (nextOf o (field t (l ∷ ls))) fs ≡ Nothing → ⊥) → Shown m ps q (nextOf o (field t (l ∷ ls))) fs form sign)
+        → Shown m ps q o (field t (l ∷ ls) ∷ fs) form sign
     go true e g k n i =
         record {
           tag = t;
@@ -138,7 +137,7 @@ shown m ps q o (field t (l ∷ ls) ∷ fs) kind sign w r d u h =
           more = ls;
           at-place = eqb-true (find ps t) q e;
           content = ap (λ (b : Bool). partOf m (pick b (Part (startOf o (field t (l ∷ ls))) (endOf o (field t (l ∷ ls)))) (partAt ps q (nextOf o (field t (l ∷ ls))) fs))) e ∙ content-part m o t l ls fs w;
-          right-is = left (rightField kind sign (field t (l ∷ ls))) (all (rightField kind sign) fs) r;
+          right-is = left (rightField form sign (field t (l ∷ ls))) (all (rightField form sign) fs) r;
           days = k;
           roubles = n;
         }
@@ -174,45 +173,48 @@ second false true c n e = absurd (omega arith)
 second false false true n e = refl
 second false false false n e = absurd (omega arith)
 
-sits-103 : Sits (placesOf 103) 3
-unfolding placesOf forms form103 form202 find
+sits-103 : Sits places103 3
+unfolding places103 places202 find
 sits-103 =
-    record { below = omega arith; mandatory = refl; alone = λ t e. third (same t (bytes "20")) (same t (bytes "23B")) (same t (bytes "26T")) (same t (bytes "32A")) (find (drop 4 (placesOf 103)) t) e }
+    record { below = omega arith; mandatory = refl; alone = λ t e. third (same t (bytes "20")) (same t (bytes "23B")) (same t (bytes "26T")) (same t (bytes "32A")) (find (drop 4 places103) t) e }
 
-sits-202 : Sits (placesOf 202) 2
-unfolding placesOf forms form103 form202 find
-sits-202 = record { below = omega arith; mandatory = refl; alone = λ t e. second (same t (bytes "20")) (same t (bytes "21")) (same t (bytes "32A")) (find (drop 3 (placesOf 202)) t) e }
+sits-202 : Sits places202 2
+unfolding places103 places202 find
+sits-202 = record { below = omega arith; mandatory = refl; alone = λ t e. second (same t (bytes "20")) (same t (bytes "21")) (same t (bytes "32A")) (find (drop 3 places202) t) e }
 
 -- ---- in an accepted message
-pub record PaidIn (kind : ℕ) (m : List ℕ) : Type 0 where
+pub record PaidIn (form : Form) (m : List ℕ) : Type 0 where
   -- the content of 32A is a line with these parts
   pub line : Line
   pub date : Text
   pub currency : Text
   pub whole : Text
   pub decimals : Text
-  pub is : paid kind m ≡ line
+  pub is : paid form m ≡ line
   pub parts : Payment date currency whole decimals line
   -- roubles
   pub roubles : currency ≡ bytes "RUB"
   -- the kopecks are the value of the digits before and behind the comma
-  pub amount : amountOf kind m ≡ amounts.Is (inKopecks whole decimals)
+  pub amount : amountOf form m ≡ amounts.Is (kopecks whole decimals)
   -- the date is a day of the calendar, and is told as year, month and day
   pub calendar : OfCalendar (days.year date) (days.month date) (days.day date)
-  pub day : dayOf kind m ≡ told.On (days.year date) (days.month date) (days.day date)
+  pub day : dayOf form m ≡ told.On (days.year date) (days.month date) (days.day date)
 
 -- ---- what the rules say of the parts
-day-fine : (date currency whole decimals : Text) → faultOf noDay (paidValues date currency whole decimals) ≡ 0 → days.realDay date ≡ true
+abbrev paidValues : Text → Text → List values.Value
+paidValues d c = values.at 0 (values.date d) ∷ values.at (length d) (values.currency c) ∷ []
+
+day-fine : (date currency : Text) → faultOf noDay (paidValues date currency) ≡ 0 → days.realDay date ≡ true
 unfolding faultOf
-day-fine date currency whole decimals e = go (days.realDay date) e
+day-fine date currency e = go (days.realDay date) e
   where
     go : (b : Bool) → _≡_ {A = ℕ} (pick (not b) 1 0) 0 → b ≡ true
     go true e = refl
     go false e = absurd (omega arith)
 
-rub-fine : (date currency whole decimals : Text) → faultOf foreign (paidValues date currency whole decimals) ≡ 0 → currency ≡ bytes "RUB"
+rub-fine : (date currency : Text) → faultOf foreign (paidValues date currency) ≡ 0 → currency ≡ bytes "RUB"
 unfolding faultOf
-rub-fine date currency whole decimals e = same-is currency (bytes "RUB") (go (same currency (bytes "RUB")) e)
+rub-fine date currency e = same-is currency (bytes "RUB") (go (same currency (bytes "RUB")) e)
   where
     go : (b : Bool) → pick (not b) (suc (length date)) 0 ≡ 0 → b ≡ true
     go true e = refl
@@ -244,18 +246,18 @@ split-dated date c = go (days.year date) (days.month date) (days.day date) (c .l
 not-nothing : (s t : ℕ) → Part s t ≡ Nothing → ⊥
 not-nothing s t e = let z : _≡_ {A = ℕ} 0 1 = cc in omega arith
 
-module _ (kind : ℕ) (m : List ℕ) (e : verdictOf kind m ≡ Fine) (q : ℕ) (s : Sits (placesOf kind) q) (z : q ≡ find (placesOf kind) (bytes "32A"))
-    (st : heldBy kind (bytes "32A") ≡ holds.Payment) where
-  is-there : partAt (placesOf kind) q 5 (fields m) ≡ Nothing → ⊥
+module _ (form : Form) (m : List ℕ) (e : verdictOf form m ≡ Fine) (q : ℕ) (s : Sits (placesOf form) q) (z : q ≡ find (placesOf form) (bytes "32A"))
+    (st : heldBy form (bytes "32A") ≡ holds.Payment) where
+  is-there : partAt (placesOf form) q 5 (fields m) ≡ Nothing → ⊥
   is-there n =
-      let t = taken kind m (frame-clean kind m e) in
-      let p = must-present (placesOf kind) 0 (fields m) q (walked-accepted kind m .0 (t .walk-fine)) (omega arith) (s .below) (s .mandatory) in
-      not-nothing _ _ (sym (part-listed (placesOf kind) 0 5 (fields m) (p .number) q (t .right) (p .within) (p .place)) ∙ n)
+      let t = taken form m (frame-clean form m e) in
+      let p = must-present (placesOf form) 0 (fields m) q (walked-accepted form m .0 (t .walk-fine)) (omega arith) (s .below) (s .mandatory) in
+      not-nothing _ _ (sym (part-listed (placesOf form) 0 5 (fields m) (p .number) q (t .right) (p .within) (p .place)) ∙ n)
 
-  the-field : Shown m (placesOf kind) q 5 (fields m) kind (signOf (fields m))
+  the-field : Shown m (placesOf form) q 5 (fields m) form (signOf (fields m))
   the-field =
-      let t = taken kind m (frame-clean kind m e) in
-      shown m (placesOf kind) q 5 (fields m) kind (signOf (fields m)) (fields-stand m (t .frame-fine) (t .bytes-fine) (t .lines-fine)) (contents-right kind m e) (days-right kind m e) (roubles-only kind m e) is-there
+      let t = taken form m (frame-clean form m e) in
+      shown m (placesOf form) q 5 (fields m) form (signOf (fields m)) (fields-stand m (t .frame-fine) (t .bytes-fine) (t .lines-fine)) (contents-right form m e) (days-right form m e) (roubles-only form m e) is-there
 
   its-tag : the-field .tag ≡ bytes "32A"
   its-tag = same-is (the-field .tag) (bytes "32A") (s .alone (the-field .tag) (the-field .at-place))
@@ -264,25 +266,26 @@ module _ (kind : ℕ) (m : List ℕ) (e : verdictOf kind m ≡ Fine) (q : ℕ) (
   its-line =
       let f = the-field in
       paid-line (f .line ∷ f .more)
-      (subst (λ (c : Content). Right c (signOf (fields m)) (f .line ∷ f .more)) (ap (heldBy kind) its-tag ∙ st) (field-says kind (signOf (fields m)) (field (f .tag) (f .line ∷ f .more)) .0 (f .right-is)))
+      (subst (λ (c : Content). Right c (signOf (fields m)) (f .line ∷ f .more)) (ap (heldBy form) its-tag ∙ st) (field-says form (signOf (fields m)) (field (f .tag) (f .line ∷ f .more)) .0 (f .right-is)))
 
-  its-content : paid kind m ≡ its-line .line
+  its-content : paid form m ≡ its-line .line
   unfolding paid contentOf spanOf
   its-content =
-      ap (λ (k : ℕ). partOf m (spanBy (verdictOf kind m) (partAt (placesOf kind) k 5 (fields m)))) (sym z)
-      ∙ ap (λ (v : Verdict). partOf m (spanBy v (partAt (placesOf kind) q 5 (fields m)))) e ∙ the-field .content ∙ ap joined (its-line .is)
+      ap (λ (k : ℕ). partOf m (spanBy (verdictOf form m) (partAt (placesOf form) k 5 (fields m)))) (sym z)
+      ∙ ap (λ (v : Verdict). partOf m (spanBy v (partAt (placesOf form) q 5 (fields m)))) e ∙ the-field .content ∙ ap joined (its-line .is)
 
   -- the values of the field are the parts of its line
-  its-values : valuesOf (the-field .tag) (joined (the-field .line ∷ the-field .more)) ≡ paidValues (its-line .date) (its-line .currency) (its-line .whole) (its-line .decimals)
-  its-values = ap₂ valuesOf its-tag (ap joined (its-line .is)) ∙ of-32A 3355201 (its-line .line) refl ∙ paid-values (its-line .parts)
+  its-values : valuesOf (the-field .tag) (heldBy form (the-field .tag)) (the-field .line ∷ the-field .more) ≡ paidValues (its-line .date) (its-line .currency)
+  unfolding valuesOf
+  its-values = ap₂ (λ (c : Content) (ls : List (List ℕ)). valuesOf (the-field .tag) c ls) (ap (heldBy form) its-tag ∙ st) (its-line .is) ∙ paid-values (its-line .parts)
 
   its-calendar : OfCalendar (days.year (its-line .date)) (days.month (its-line .date)) (days.day (its-line .date))
   unfolding days.realDay
   its-calendar =
       let d = its-line .date in
-      day-iff (days.year d) (days.month d) (days.day d) .0 (day-fine d (its-line .currency) (its-line .whole) (its-line .decimals) (ap (faultOf noDay) (sym its-values) ∙ the-field .days))
+      day-iff (days.year d) (days.month d) (days.day d) .0 (day-fine d (its-line .currency) (ap (faultOf noDay) (sym its-values) ∙ the-field .days))
 
-  paid-in : PaidIn kind m
+  paid-in : PaidIn form m
   unfolding amountOf dayOf
   paid-in =
       let p = its-line in
@@ -294,30 +297,14 @@ module _ (kind : ℕ) (m : List ℕ) (e : verdictOf kind m ≡ Fine) (q : ℕ) (
         decimals = p .decimals;
         is = its-content;
         parts = p .parts;
-        roubles = rub-fine (p .date) (p .currency) (p .whole) (p .decimals) (ap (faultOf foreign) (sym its-values) ∙ the-field .roubles);
-        amount = ap (λ (v : Verdict). amountBy v (kopecksOf (paid kind m))) e ∙ ap (λ (u : List ℕ). amounts.Is (kopecksOf u)) its-content ∙ ap amounts.Is (paid-kopecks (p .parts));
+        roubles = rub-fine (p .date) (p .currency) (ap (faultOf foreign) (sym its-values) ∙ the-field .roubles);
+        amount = ap (λ (v : Verdict). amountBy v (kopecksOf (paid form m))) e ∙ ap (λ (u : List ℕ). amounts.Is (kopecksOf u)) its-content ∙ ap amounts.Is (paid-kopecks (p .parts));
         calendar = its-calendar;
-        day = ap (λ (v : Verdict). dayBy v (dateOf (paid kind m))) e ∙ ap (λ (u : List ℕ). daySplit (dateOf u)) its-content ∙ ap daySplit (paid-date (p .parts)) ∙ split-dated (p .date) its-calendar;
+        day = ap (λ (v : Verdict). dayBy v (dateOf (paid form m))) e ∙ ap (λ (u : List ℕ). daySplit (dateOf u)) its-content ∙ ap daySplit (paid-date (p .parts)) ∙ split-dated (p .date) its-calendar;
       }
 
-paid-held-103 : heldIn tags103 (bytes "32A") ≡ holds.Payment
-unfolding tags103 same
-paid-held-103 = refl
-
-paid-held-202 : heldIn tags202 (bytes "32A") ≡ holds.Payment
-unfolding tags202 same
-paid-held-202 = refl
-
-pub paid-whole : (kind : ℕ) (m : List ℕ) → verdictOf kind m ≡ Fine → PaidIn kind m
-unfolding rule18
-paid-whole kind m e = go (eqb kind 103) (eqb kind 202) refl refl
-  where
-    go : (a b : Bool) → eqb kind 103 ≡ a → eqb kind 202 ≡ b → PaidIn kind m
-    go true b x y =
-        let k = eqb-true kind 103 x in
-        paid-in kind m e 3 (subst (λ (n : ℕ). Sits (placesOf n) 3) (sym k) sits-103) (paid-103 ∙ ap (λ (n : ℕ). find (placesOf n) (bytes "32A")) (sym k)) (held-103 kind (bytes "32A") k ∙ paid-held-103)
-    go false true x y =
-        let k = eqb-true kind 202 y in
-        paid-in kind m e 2 (subst (λ (n : ℕ). Sits (placesOf n) 2) (sym k) sits-202) (paid-202 ∙ ap (λ (n : ℕ). find (placesOf n) (bytes "32A")) (sym k)) (held-202 kind (bytes "32A") k ∙ paid-held-202)
-    go false false x y =
-        absurd (fine-broken 18 0 (sym (accepted-rules kind m e .pass .type) ∙ ap (λ (ps : List Place). pick (empty ps) (Broken 18 0) Fine) (no-form kind (eqb-false kind 103 x) (eqb-false kind 202 y))))
+pub paid-whole : (form : Form) (m : List ℕ) → verdictOf form m ≡ Fine → PaidIn form m
+unfolding rule18 heldBy tags103 tags202 places103 places202 find same
+paid-whole Mt103 m e = paid-in Mt103 m e 3 sits-103 refl refl
+paid-whole Mt202 m e = paid-in Mt202 m e 2 sits-202 refl refl
+paid-whole Other m e = absurd (fine-broken 18 0 (sym (accepted-rules Other m e .pass .type)))

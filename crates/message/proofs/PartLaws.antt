@@ -14,12 +14,12 @@ use Rattle.base.specs.declared.Verdict.the-variants.{Fine, Broken}
 use Rattle.base.proofs.Bools.{left, right}
 use Rattle.fields.specs.Field.{Field, field, lined, linesOf, fields}
 use Rattle.fields.specs.Places.{startOf, nextOf, endOf}
-use Rattle.fields.specs.ByLines.{joined}
-use Rattle.fields.proofs.PlaceLaws.{Standing, size-append, next-standing, content-part, fields-stand}
-use Rattle.types.specs.Form.{Place, placesOf, forms, form103, form202}
+use Rattle.fields.specs.ByLines.{joined, Standing}
+use Rattle.fields.proofs.PlaceLaws.{size-append, next-standing, content-part, fields-stand}
+use Rattle.types.specs.declared.Form.{Form}
+use Rattle.types.specs.Form.{Place, placesOf}
 use Rattle.types.specs.Walk.{find}
 use Rattle.types.specs.Sign.{signOf}
-use Rattle.types.proofs.TableLaws.{no-form}
 use Rattle.frame.proofs.CallLaws.{taken}
 use Rattle.contents.specs.Rule8.{rightField}
 use Rattle.contents.proofs.SizeLaws.{right-nonempty}
@@ -53,69 +53,57 @@ part-inside m ps q o (field t (l ∷ ls) ∷ fs) w = go (eqb (find ps t) q) (par
         (omega arith, omega arith)
     go false i = i
 
-module _ (kind : ℕ) (m : List ℕ) (e : verdictOf kind m ≡ Fine) where
+module _ (form : Form) (m : List ℕ) (e : verdictOf form m ≡ Fine) where
   stand : Standing m 5 (fields m)
-  stand = let t = taken kind m (frame-clean kind m e) in fields-stand m (t .frame-fine) (t .bytes-fine) (t .lines-fine)
+  stand = let t = taken form m (frame-clean form m e) in fields-stand m (t .frame-fine) (t .bytes-fine) (t .lines-fine)
 
-  pub inside-clean : (q : ℕ) → Inside m (partAt (placesOf kind) q 5 (fields m))
-  inside-clean q = part-inside m (placesOf kind) q 5 (fields m) stand
+  pub inside-clean : (q : ℕ) → Inside m (partAt (placesOf form) q 5 (fields m))
+  inside-clean q = part-inside m (placesOf form) q 5 (fields m) stand
 
-pub inside-span : (kind : ℕ) (m : List ℕ) (q : ℕ) → Inside m (spanOf kind m q)
+pub inside-span : (form : Form) (m : List ℕ) (q : ℕ) → Inside m (spanOf form m q)
 unfolding spanOf
-inside-span kind m q = go (verdictOf kind m) refl
+inside-span form m q = go (verdictOf form m) refl
   where
-    go : (v : Verdict) → verdictOf kind m ≡ v → Inside m (spanBy v (partAt (placesOf kind) q 5 (fields m)))
-    go Fine e = inside-clean kind m e q
+    go : (v : Verdict) → verdictOf form m ≡ v → Inside m (spanBy v (partAt (placesOf form) q 5 (fields m)))
+    go Fine e = inside-clean form m e q
     go (Broken n p) e = tt
 
 pub inside-is : (m : List ℕ) {s r : Span} → r ≡ s → Inside m s → Inside m r
 inside-is m e i = subst (Inside m) (sym e) i
 
 -- ---- the place of 32A
-pub paid-103 : 3 ≡ find (placesOf 103) (bytes "32A")
-unfolding placesOf forms form103 form202 find same
-paid-103 = refl
-
-pub paid-202 : 2 ≡ find (placesOf 202) (bytes "32A")
-unfolding placesOf forms form103 form202 find same
-paid-202 = refl
-
-pub paid-none : {kind : ℕ} → (kind ≡ 103 → ⊥) → (kind ≡ 202 → ⊥) → 0 ≡ find (placesOf kind) (bytes "32A")
-unfolding find
-paid-none {kind} h k = sym (ap (λ (ps : List Place). find ps (bytes "32A")) (no-form kind h k))
-
 -- ---- what is made of a judged message's spots
-module _ (kind : ℕ) (m : List ℕ) {f : Frame} (e : f ≡ judgedOf kind m) where
+module _ (form : Form) (m : List ℕ) {f : Frame} (e : f ≡ judgedOf form m) where
   module _ {n p : ℕ} (q : f .verdict ≡ Broken n p) where
-    pub amount-refused : amount.Refused n p ≡ amountOf kind m
+    pub amount-refused : amount.Refused n p ≡ amountOf form m
     unfolding amountOf
-    amount-refused = sym (ap (λ (v : Verdict). amountBy v (kopecksOf (paid kind m))) (judged-by kind m e q))
+    amount-refused = sym (ap (λ (v : Verdict). amountBy v (kopecksOf (paid form m))) (judged-by form m e q))
 
-    pub day-refused : day.Refused n p ≡ dayOf kind m
+    pub day-refused : day.Refused n p ≡ dayOf form m
     unfolding dayOf
-    day-refused = sym (ap (λ (v : Verdict). dayBy v (dateOf (paid kind m))) (judged-by kind m e q))
+    day-refused = sym (ap (λ (v : Verdict). dayBy v (dateOf (paid form m))) (judged-by form m e q))
 
-  module _ (q : f .verdict ≡ Fine) {k : ℕ} (z : k ≡ find (placesOf kind) (bytes "32A")) {s : Span} (r : s ≡ partBy m (f .spots) (f .present) k) where
-    paid-span : s ≡ spanOf kind m (find (placesOf kind) (bytes "32A"))
+  module _ (q : f .verdict ≡ Fine) {k : ℕ} (z : k ≡ find (placesOf form) (bytes "32A")) {s : Span} (r : s ≡ partBy m (f .spots) (f .present) k) where
+    paid-span : s ≡ spanOf form m (find (placesOf form) (bytes "32A"))
     unfolding spanOf
     paid-span =
-        r ∙ ap (partBy m (f .spots) (f .present)) z ∙ part-is (judged-found kind m e q) (find (placesOf kind) (bytes "32A"))
-        ∙ sym (ap (λ (v : Verdict). spanBy v (partAt (placesOf kind) (find (placesOf kind) (bytes "32A")) 5 (fields m))) (judged-by kind m e q))
+        r ∙ ap (partBy m (f .spots) (f .present)) z ∙ part-is (judged-found form m e q) (find (placesOf form) (bytes "32A"))
+        ∙ sym (ap (λ (v : Verdict). spanBy v (partAt (placesOf form) (find (placesOf form) (bytes "32A")) 5 (fields m))) (judged-by form m e q))
 
     pub paid-inside : Inside m s
-    paid-inside = inside-is m paid-span (inside-span kind m (find (placesOf kind) (bytes "32A")))
+    paid-inside = inside-is m paid-span (inside-span form m (find (placesOf form) (bytes "32A")))
 
-    paid-part : {c : List ℕ} → c ≡ partOf m s → c ≡ paid kind m
+    paid-part : {c : List ℕ} → c ≡ partOf m s → c ≡ paid form m
     unfolding paid contentOf
     paid-part g = g ∙ ap (partOf m) paid-span
 
-    pub amount-is : {c : List ℕ} {n : ℕ} → c ≡ partOf m s → n ≡ kopecksOf c → amount.Is n ≡ amountOf kind m
+    pub amount-is : {c : List ℕ} {n : ℕ} → c ≡ partOf m s → n ≡ kopecksOf c → amount.Is n ≡ amountOf form m
     unfolding amountOf
-    amount-is g h = ap amount.Is (h ∙ ap kopecksOf (paid-part g)) ∙ sym (ap (λ (v : Verdict). amountBy v (kopecksOf (paid kind m))) (judged-by kind m e q))
+    amount-is g h = ap amount.Is (h ∙ ap kopecksOf (paid-part g)) ∙ sym (ap (λ (v : Verdict). amountBy v (kopecksOf (paid form m))) (judged-by form m e q))
 
-    pub day-is : {c : List ℕ} {n : ℕ} {d : Day} → c ≡ partOf m s → n ≡ dateOf c → d ≡ daySplit n → d ≡ dayOf kind m
+    pub day-is : {c : List ℕ} {n : ℕ} {d : Day} → c ≡ partOf m s → n ≡ dateOf c → d ≡ daySplit n → d ≡ dayOf form m
     unfolding dayOf
-    day-is g h i = i ∙ ap daySplit (h ∙ ap dateOf (paid-part g)) ∙ sym (ap (λ (v : Verdict). dayBy v (dateOf (paid kind m))) (judged-by kind m e q))
+    day-is g h i = i ∙ ap daySplit (h ∙ ap dateOf (paid-part g)) ∙ sym (ap (λ (v : Verdict). dayBy v (dateOf (paid form m))) (judged-by form m e q))
 
 -- ---- the bytes of a part
 joined-some : (l : List ℕ) (ls : List (List ℕ)) → empty l ≡ false → empty (joined (l ∷ ls)) ≡ false
@@ -123,25 +111,25 @@ joined-some [] ls e = absurd (false≢true (sym e))
 joined-some (x ∷ l) [] e = refl
 joined-some (x ∷ l) (k ∷ ls) e = refl
 
-pub part-some : (m : List ℕ) (ps : List Place) (q o : ℕ) (fs : List Field) (kind : ℕ) (sign : Bool) → Standing m o fs → all (rightField kind sign) fs ≡ true → (partAt ps q o fs ≡ Nothing → ⊥)
+pub part-some : (m : List ℕ) (ps : List Place) (q o : ℕ) (fs : List Field) (form : Form) (sign : Bool) → Standing m o fs → all (rightField form sign) fs ≡ true → (partAt ps q o fs ≡ Nothing → ⊥)
     → empty (partOf m (partAt ps q o fs)) ≡ false
 unfolding partAt
-part-some m ps q o [] kind sign w r h = absurd (h refl)
-part-some m ps q o (field t [] ∷ fs) kind sign w r h = absurd (false≢true (w .able))
-part-some m ps q o (field t (l ∷ ls) ∷ fs) kind sign w r h =
-    go (eqb (find ps t) q) h (part-some m ps q (nextOf o (field t (l ∷ ls))) fs kind sign (next-standing m o t l ls fs w) (right (rightField kind sign (field t (l ∷ ls))) (all (rightField kind sign) fs) r))
+part-some m ps q o [] form sign w r h = absurd (h refl)
+part-some m ps q o (field t [] ∷ fs) form sign w r h = absurd (false≢true (w .able))
+part-some m ps q o (field t (l ∷ ls) ∷ fs) form sign w r h =
+    go (eqb (find ps t) q) h (part-some m ps q (nextOf o (field t (l ∷ ls))) fs form sign (next-standing m o t l ls fs w) (right (rightField form sign (field t (l ∷ ls))) (all (rightField form sign) fs) r))
   where
     go : (b : Bool) → (pick b (Part (startOf o (field t (l ∷ ls))) (endOf o (field t (l ∷ ls)))) (partAt ps q (nextOf o (field t (l ∷ ls))) fs) ≡ Nothing → ⊥)
         → ((partAt ps q (nextOf o (field t (l ∷ ls))) fs ≡ Nothing → ⊥) → empty (partOf m (partAt ps q (nextOf o (field t (l ∷ ls))) fs)) ≡ false)
         → empty (partOf m (pick b (Part (startOf o (field t (l ∷ ls))) (endOf o (field t (l ∷ ls)))) (partAt ps q (nextOf o (field t (l ∷ ls))) fs))) ≡ false
-    go true g i = ap empty (content-part m o t l ls fs w) ∙ joined-some l ls (right-nonempty kind sign t (l ∷ ls) (left (rightField kind sign (field t (l ∷ ls))) (all (rightField kind sign) fs) r))
+    go true g i = ap empty (content-part m o t l ls fs w) ∙ joined-some l ls (right-nonempty form sign t (l ∷ ls) (left (rightField form sign (field t (l ∷ ls))) (all (rightField form sign) fs) r))
     go false g i = i g
 
 -- a content that is shown has bytes
-pub content-some : (kind : ℕ) (m : List ℕ) (q : ℕ) → (spanOf kind m q ≡ Nothing → ⊥) → empty (contentOf kind m q) ≡ false
+pub content-some : (form : Form) (m : List ℕ) (q : ℕ) → (spanOf form m q ≡ Nothing → ⊥) → empty (contentOf form m q) ≡ false
 unfolding spanOf contentOf
-content-some kind m q h = go (verdictOf kind m) refl h
+content-some form m q h = go (verdictOf form m) refl h
   where
-    go : (v : Verdict) → verdictOf kind m ≡ v → (spanBy v (partAt (placesOf kind) q 5 (fields m)) ≡ Nothing → ⊥) → empty (partOf m (spanBy v (partAt (placesOf kind) q 5 (fields m)))) ≡ false
-    go Fine e g = part-some m (placesOf kind) q 5 (fields m) kind (signOf (fields m)) (stand kind m e) (contents-right kind m e) g
+    go : (v : Verdict) → verdictOf form m ≡ v → (spanBy v (partAt (placesOf form) q 5 (fields m)) ≡ Nothing → ⊥) → empty (partOf m (spanBy v (partAt (placesOf form) q 5 (fields m)))) ≡ false
+    go Fine e g = part-some m (placesOf form) q 5 (fields m) form (signOf (fields m)) (stand form m e) (contents-right form m e) g
     go (Broken n p) e g = absurd (g refl)

@@ -19,6 +19,7 @@ use Rattle.base.proofs.CallLaws.{one-answer, enough}
 use Rattle.fields.specs.Field.{fields}
 use Rattle.fields.specs.Places.{listed}
 use Rattle.fields.proofs.PlaceLaws.{listed-length}
+use Rattle.types.specs.declared.Form.{Form}
 use Rattle.types.specs.Form.{placesOf}
 use Rattle.types.specs.Walk.{present}
 use Rattle.types.proofs.WordLaws.{placeOfField, Present, present-iff, ones-before}
@@ -39,11 +40,11 @@ use Rattle.listing.proofs.SpanLaws.{part-absent, part-listed}
 use Rattle.listing.proofs.SpanLaws as spans
 
 -- ---- any two outcomes are equal, lent units counted
-pub checks-one : {kind : ℕ} {m list : List ℕ} {r s : Checked} {a b : List ℕ} → Checks kind m list r a → Checks kind m list s b → (r ≡ s) × (a ≡ b)
+pub checks-one : {form : Form} {m list : List ℕ} {r s : Checked} {a b : List ℕ} → Checks form m list r a → Checks form m list s b → (r ≡ s) × (a ≡ b)
 checks-one p q = (one-answer (p .answers) (q .answers), one-answer (p .leaves) (q .leaves))
 
-pub span-one : (kind : ℕ) (m : List ℕ) (place : ℕ) {r s : Span} → r ≡ spanOf kind m place → s ≡ spanOf kind m place → r ≡ s
-span-one kind m place p q = one-answer p q
+pub span-one : (form : Form) (m : List ℕ) (place : ℕ) {r s : Span} → r ≡ spanOf form m place → s ≡ spanOf form m place → r ≡ s
+span-one form m place p q = one-answer p q
 
 -- ---- the call that fills the list
 same-refused : {n p k q : ℕ} → Refused n p ≡ Refused k q → Broken n p ≡ Broken k q
@@ -53,30 +54,30 @@ not-both : (n w k p : ℕ) → Accepted n w ≡ Refused k p → ⊥
 not-both n w k p e = let z : _≡_ {A = ℕ} 0 1 = cc in omega arith
 
 -- an accepted call: no rule is broken; the numbers and the word are the fields', the list begins with theirs and is as it was behind
-pub record Listed (kind : ℕ) (m list : List ℕ) (n w : ℕ) (after : List ℕ) : Type 0 where
-  pub clean : Clean (checkRules kind m list)
-  pub message-clean : verdictOf kind m ≡ Fine
+pub record Listed (form : Form) (m list : List ℕ) (n w : ℕ) (after : List ℕ) : Type 0 where
+  pub clean : Clean (checkRules form m list)
+  pub message-clean : verdictOf form m ≡ Fine
   pub count : n ≡ length (fields m)
-  pub word-is : w ≡ wordOf kind m
+  pub word-is : w ≡ wordOf form m
   pub as-many-ones : ones w ≡ n
-  pub bits : (i : ℕ) → (bit w i ≡ 1) ↔ Present (placesOf kind) (fields m) i
-  pub few : n ≤ length (placesOf kind)
+  pub bits : (i : ℕ) → (bit w i ≡ 1) ↔ Present (placesOf form) (fields m) i
+  pub few : n ≤ length (placesOf form)
   pub room : 3 * n ≤ length list
   pub filled : after ≡ over (listed 5 (fields m)) list
   pub behind : drop (3 * n) after ≡ drop (3 * n) list
 
-module _ (kind : ℕ) (m list : List ℕ) where
-  both-fine : first (checkRules kind m list) ≡ Fine → (verdictOf kind m ≡ Fine) × (short (listed 5 (fields m)) list ≡ Fine)
+module _ (form : Form) (m list : List ℕ) where
+  both-fine : first (checkRules form m list) ≡ Fine → (verdictOf form m ≡ Fine) × (short (listed 5 (fields m)) list ≡ Fine)
   unfolding verdictOf
-  both-fine e = then-clean (first (messageRules kind m)) (short (listed 5 (fields m)) list) (sym (first-last (messageRules kind m) (short (listed 5 (fields m)) list)) ∙ e)
+  both-fine e = then-clean (first (messageRules form m)) (short (listed 5 (fields m)) list) (sym (first-last (messageRules form m) (short (listed 5 (fields m)) list)) ∙ e)
 
-  fine-listed : (after : List ℕ) → first (checkRules kind m list) ≡ Fine → after ≡ over (listed 5 (fields m)) list → Listed kind m list (length (fields m)) (wordOf kind m) after
+  fine-listed : (after : List ℕ) → first (checkRules form m list) ≡ Fine → after ≡ over (listed 5 (fields m)) list → Listed form m list (length (fields m)) (wordOf form m) after
   fine-listed after e l =
       let b = both-fine e in
-      let t = taken kind m (frame-clean kind m (b .0)) in
+      let t = taken form m (frame-clean form m (b .0)) in
       let n = listed-length 5 (fields m) in
       record {
-        clean = first-clean (checkRules kind m list) e;
+        clean = first-clean (checkRules form m list) e;
         message-clean = b .0;
         count = refl;
         word-is = refl;
@@ -88,115 +89,115 @@ module _ (kind : ℕ) (m list : List ℕ) where
         behind = ap (drop (3 * length (fields m))) l ∙ drop-at (listed 5 (fields m)) (drop (length (listed 5 (fields m))) list) (3 * length (fields m)) n ∙ ap (λ (k : ℕ). drop k list) n;
       }
 
-  module _ {r : Checked} {after : List ℕ} (g : Checks kind m list r after) where
-    pub checks-accepted : {n w : ℕ} → r ≡ Accepted n w → Listed kind m list n w after
-    checks-accepted {n} {w} q = go (first (checkRules kind m list)) refl (sym q ∙ g .answers) (g .leaves)
+  module _ {r : Checked} {after : List ℕ} (g : Checks form m list r after) where
+    pub checks-accepted : {n w : ℕ} → r ≡ Accepted n w → Listed form m list n w after
+    checks-accepted {n} {w} q = go (first (checkRules form m list)) refl (sym q ∙ g .answers) (g .leaves)
       where
-        go : (v : Verdict) → first (checkRules kind m list) ≡ v → Accepted n w ≡ checkedBy v (length (fields m)) (wordOf kind m) → after ≡ room v (listed 5 (fields m)) list
-            → Listed kind m list n w after
+        go : (v : Verdict) → first (checkRules form m list) ≡ v → Accepted n w ≡ checkedBy v (length (fields m)) (wordOf form m) → after ≡ room v (listed 5 (fields m)) list
+            → Listed form m list n w after
         go Fine e a l =
             let x : length (fields m) ≡ n = cc in
-            let y : wordOf kind m ≡ w = cc in
-            subst (λ (k : ℕ). Listed kind m list k w after) x (subst (λ (k : ℕ). Listed kind m list (length (fields m)) k after) y (fine-listed after e l))
+            let y : wordOf form m ≡ w = cc in
+            subst (λ (k : ℕ). Listed form m list k w after) x (subst (λ (k : ℕ). Listed form m list (length (fields m)) k after) y (fine-listed after e l))
         go (Broken k p) e a l = absurd (not-both n w k p a)
 
     -- a refused call leaves the list
-    pub checks-refused : {n p : ℕ} → r ≡ Refused n p → FirstOf (checkRules kind m list) n p × (after ≡ list)
-    checks-refused {n} {p} q = go (first (checkRules kind m list)) refl (sym q ∙ g .answers) (g .leaves)
+    pub checks-refused : {n p : ℕ} → r ≡ Refused n p → FirstOf (checkRules form m list) n p × (after ≡ list)
+    checks-refused {n} {p} q = go (first (checkRules form m list)) refl (sym q ∙ g .answers) (g .leaves)
       where
-        go : (v : Verdict) → first (checkRules kind m list) ≡ v → Refused n p ≡ checkedBy v (length (fields m)) (wordOf kind m) → after ≡ room v (listed 5 (fields m)) list
-            → FirstOf (checkRules kind m list) n p × (after ≡ list)
-        go Fine e a l = absurd (not-both (length (fields m)) (wordOf kind m) n p (sym a))
-        go (Broken k j) e a l = (refused-iff (checkRules kind m list) n p .0 (e ∙ sym (same-refused a)), l)
+        go : (v : Verdict) → first (checkRules form m list) ≡ v → Refused n p ≡ checkedBy v (length (fields m)) (wordOf form m) → after ≡ room v (listed 5 (fields m)) list
+            → FirstOf (checkRules form m list) n p × (after ≡ list)
+        go Fine e a l = absurd (not-both (length (fields m)) (wordOf form m) n p (sym a))
+        go (Broken k j) e a l = (refused-iff (checkRules form m list) n p .0 (e ∙ sym (same-refused a)), l)
 
     -- accepted exactly if no rule is broken, and refused exactly by the first that is
-    pub checks-accepts : (r ≡ Accepted (length (fields m)) (wordOf kind m)) ↔ Clean (checkRules kind m list)
+    pub checks-accepts : (r ≡ Accepted (length (fields m)) (wordOf form m)) ↔ Clean (checkRules form m list)
     checks-accepts = (
       λ q. checks-accepted q .clean,
-      λ c. g .answers ∙ ap (λ (v : Verdict). checkedBy v (length (fields m)) (wordOf kind m)) (accepted-iff (checkRules kind m list) .1 c),
+      λ c. g .answers ∙ ap (λ (v : Verdict). checkedBy v (length (fields m)) (wordOf form m)) (accepted-iff (checkRules form m list) .1 c),
     )
 
-    pub checks-refuses : (n p : ℕ) → (r ≡ Refused n p) ↔ FirstOf (checkRules kind m list) n p
+    pub checks-refuses : (n p : ℕ) → (r ≡ Refused n p) ↔ FirstOf (checkRules form m list) n p
     checks-refuses n p = (
       λ q. checks-refused q .0,
-      λ f. g .answers ∙ ap (λ (v : Verdict). checkedBy v (length (fields m)) (wordOf kind m)) (refused-iff (checkRules kind m list) n p .1 f),
+      λ f. g .answers ∙ ap (λ (v : Verdict). checkedBy v (length (fields m)) (wordOf form m)) (refused-iff (checkRules form m list) n p .1 f),
     )
 
 -- ---- the part of a place
 -- the message is refused, or has no field of the place
-pub data Without (kind : ℕ) (m : List ℕ) (place : ℕ) : Type 0 where
-  refused : (n p : ℕ) → verdictOf kind m ≡ Broken n p → Without kind m place
-  absent : (Present (placesOf kind) (fields m) place → ⊥) → Without kind m place
+pub data Without (form : Form) (m : List ℕ) (place : ℕ) : Type 0 where
+  refused : (n p : ℕ) → verdictOf form m ≡ Broken n p → Without form m place
+  absent : (Present (placesOf form) (fields m) place → ⊥) → Without form m place
 
-module _ (kind : ℕ) (m : List ℕ) (place : ℕ) where
-  clean-span : verdictOf kind m ≡ Fine → spanOf kind m place ≡ partAt (placesOf kind) place 5 (fields m)
+module _ (form : Form) (m : List ℕ) (place : ℕ) where
+  clean-span : verdictOf form m ≡ Fine → spanOf form m place ≡ partAt (placesOf form) place 5 (fields m)
   unfolding spanOf
-  clean-span e = ap (λ (v : Verdict). spanBy v (partAt (placesOf kind) place 5 (fields m))) e
+  clean-span e = ap (λ (v : Verdict). spanBy v (partAt (placesOf form) place 5 (fields m))) e
 
   -- the start and the end that the list has for the field with that place
-  pub span-listed : verdictOf kind m ≡ Fine → (k : ℕ) → k < length (fields m) → placeOfField (placesOf kind) (fields m) k ≡ place → spanOf kind m place ≡ spans.partOf (listed 5 (fields m)) k
-  span-listed e k h q = clean-span e ∙ part-listed (placesOf kind) 0 5 (fields m) k place (taken kind m (frame-clean kind m e) .right) h q
+  pub span-listed : verdictOf form m ≡ Fine → (k : ℕ) → k < length (fields m) → placeOfField (placesOf form) (fields m) k ≡ place → spanOf form m place ≡ spans.partOf (listed 5 (fields m)) k
+  span-listed e k h q = clean-span e ∙ part-listed (placesOf form) 0 5 (fields m) k place (taken form m (frame-clean form m e) .right) h q
 
   not-nothing : (s t : ℕ) → Part s t ≡ Nothing → ⊥
   not-nothing s t e = let z : _≡_ {A = ℕ} 0 1 = cc in omega arith
 
   -- and nothing exactly if there is none
-  pub span-nothing : (spanOf kind m place ≡ Nothing) ↔ Without kind m place
+  pub span-nothing : (spanOf form m place ≡ Nothing) ↔ Without form m place
   unfolding spanOf
-  span-nothing = (λ e. go (verdictOf kind m) refl e, back)
+  span-nothing = (λ e. go (verdictOf form m) refl e, back)
     where
-      go : (v : Verdict) → verdictOf kind m ≡ v → spanOf kind m place ≡ Nothing → Without kind m place
+      go : (v : Verdict) → verdictOf form m ≡ v → spanOf form m place ≡ Nothing → Without form m place
       go Fine q e = absent (λ p. not-nothing _ _ (sym (span-listed q (p .number) (p .within) (p .place)) ∙ e))
       go (Broken n p) q e = refused n p q
 
-      none : (b : Bool) → present (placesOf kind) (fields m) place ≡ b → (Present (placesOf kind) (fields m) place → ⊥) → b ≡ false
-      none true q h = absurd (h (present-iff (placesOf kind) (fields m) place .0 q))
+      none : (b : Bool) → present (placesOf form) (fields m) place ≡ b → (Present (placesOf form) (fields m) place → ⊥) → b ≡ false
+      none true q h = absurd (h (present-iff (placesOf form) (fields m) place .0 q))
       none false q h = refl
 
-      at : (v : Verdict) → verdictOf kind m ≡ v → (Present (placesOf kind) (fields m) place → ⊥) → spanOf kind m place ≡ Nothing
-      at Fine q h = clean-span q ∙ part-absent (placesOf kind) place 5 (fields m) (none (present (placesOf kind) (fields m) place) refl h)
-      at (Broken n p) q h = ap (λ (v : Verdict). spanBy v (partAt (placesOf kind) place 5 (fields m))) q
+      at : (v : Verdict) → verdictOf form m ≡ v → (Present (placesOf form) (fields m) place → ⊥) → spanOf form m place ≡ Nothing
+      at Fine q h = clean-span q ∙ part-absent (placesOf form) place 5 (fields m) (none (present (placesOf form) (fields m) place) refl h)
+      at (Broken n p) q h = ap (λ (v : Verdict). spanBy v (partAt (placesOf form) place 5 (fields m))) q
 
-      back : Without kind m place → spanOf kind m place ≡ Nothing
-      back (refused n p q) = ap (λ (v : Verdict). spanBy v (partAt (placesOf kind) place 5 (fields m))) q
-      back (absent h) = at (verdictOf kind m) refl h
+      back : Without form m place → spanOf form m place ≡ Nothing
+      back (refused n p q) = ap (λ (v : Verdict). spanBy v (partAt (placesOf form) place 5 (fields m))) q
+      back (absent h) = at (verdictOf form m) refl h
 
 -- the two calls agree: where the word has the place's bit, the part is what the list has behind as many fields as there are ones below
-pub span-agrees : {kind : ℕ} {m list : List ℕ} {n w : ℕ} {after : List ℕ} → Listed kind m list n w after → (place : ℕ) → bit w place ≡ 1 → spanOf kind m place ≡ spans.partOf after (ones (w % 2 ^ place))
-span-agrees {kind} {m} {list} {n} {w} {after} l place b =
+pub span-agrees : {form : Form} {m list : List ℕ} {n w : ℕ} {after : List ℕ} → Listed form m list n w after → (place : ℕ) → bit w place ≡ 1 → spanOf form m place ≡ spans.partOf after (ones (w % 2 ^ place))
+span-agrees {form} {m} {list} {n} {w} {after} l place b =
     let p = l .bits place .0 b in
-    let t = taken kind m (frame-clean kind m (l .message-clean)) in
+    let t = taken form m (frame-clean form m (l .message-clean)) in
     let k = p .number in
-    let e : ones (w % 2 ^ place) ≡ k = ap₂ (λ (x i : ℕ). ones (x % 2 ^ i)) (l .word-is) (sym (p .place)) ∙ ones-before (placesOf kind) 0 (fields m) k (t .right) (p .within) in
+    let e : ones (w % 2 ^ place) ≡ k = ap₂ (λ (x i : ℕ). ones (x % 2 ^ i)) (l .word-is) (sym (p .place)) ∙ ones-before (placesOf form) 0 (fields m) k (t .right) (p .within) in
     let s = listed-length 5 (fields m) in
     let h = p .within in
     let front : (i : ℕ) → i < length (listed 5 (fields m)) → byte (listed 5 (fields m)) i ≡ byte after i =
     λ i g. sym (ap (λ (x : List ℕ). byte x i) (l .filled) ∙ List·getD-append (listed 5 (fields m)) (drop (length (listed 5 (fields m))) list) 0 i g) in
-    span-listed kind m place (l .message-clean) k (p .within) (p .place)
+    span-listed form m place (l .message-clean) k (p .within) (p .place)
     ∙ ap₂ Part (front (3 * k + 1) (omega arith)) (front (3 * k + 2) (omega arith)) ∙ ap (spans.partOf after) (sym e)
 
 -- ---- the content of a place
-pub content-one : (kind : ℕ) (m : List ℕ) (place : ℕ) {a b : List ℕ} → a ≡ contentOf kind m place → b ≡ contentOf kind m place → a ≡ b
-content-one kind m place p q = one-answer p q
+pub content-one : (form : Form) (m : List ℕ) (place : ℕ) {a b : List ℕ} → a ≡ contentOf form m place → b ≡ contentOf form m place → a ≡ b
+content-one form m place p q = one-answer p q
 
 -- empty exactly if the message is refused or has no field there
-pub content-empty : (kind : ℕ) (m : List ℕ) (place : ℕ) → (contentOf kind m place ≡ []) ↔ Without kind m place
+pub content-empty : (form : Form) (m : List ℕ) (place : ℕ) → (contentOf form m place ≡ []) ↔ Without form m place
 unfolding contentOf
-content-empty kind m place = (λ e. span-nothing kind m place .0 (go (spanOf kind m place) refl e), λ w. ap (partOf m) (span-nothing kind m place .1 w))
+content-empty form m place = (λ e. span-nothing form m place .0 (go (spanOf form m place) refl e), λ w. ap (partOf m) (span-nothing form m place .1 w))
   where
-    go : (s : Span) → spanOf kind m place ≡ s → partOf m s ≡ [] → spanOf kind m place ≡ Nothing
+    go : (s : Span) → spanOf form m place ≡ s → partOf m s ≡ [] → spanOf form m place ≡ Nothing
     go Nothing q e = q
-    go (Part a b) q e = absurd (true≢false (sym (ap empty (ap (partOf m) q ∙ e)) ∙ content-some kind m place (λ z. not-nothing kind m place a b (sym q ∙ z))))
+    go (Part a b) q e = absurd (true≢false (sym (ap empty (ap (partOf m) q ∙ e)) ∙ content-some form m place (λ z. not-nothing form m place a b (sym q ∙ z))))
 
 -- and else the part between the start and the end that the list has for that place
-pub content-listed : {kind : ℕ} {m list : List ℕ} {n w : ℕ} {after : List ℕ} → Listed kind m list n w after → (place : ℕ) → bit w place ≡ 1
-    → let k : ℕ = ones (w % 2 ^ place) in contentOf kind m place ≡ take (byte after (3 * k + 2) - byte after (3 * k + 1)) (drop (byte after (3 * k + 1)) m)
+pub content-listed : {form : Form} {m list : List ℕ} {n w : ℕ} {after : List ℕ} → Listed form m list n w after → (place : ℕ) → bit w place ≡ 1
+    → let k : ℕ = ones (w % 2 ^ place) in contentOf form m place ≡ take (byte after (3 * k + 2) - byte after (3 * k + 1)) (drop (byte after (3 * k + 1)) m)
 unfolding contentOf
 content-listed {m = m} l place b = ap (partOf m) (span-agrees l place b)
 
 -- ---- kopecks and date
-pub amount-one : (kind : ℕ) (m : List ℕ) {r s : Amount} → r ≡ amountOf kind m → s ≡ amountOf kind m → r ≡ s
-amount-one kind m p q = one-answer p q
+pub amount-one : (form : Form) (m : List ℕ) {r s : Amount} → r ≡ amountOf form m → s ≡ amountOf form m → r ≡ s
+amount-one form m p q = one-answer p q
 
-pub day-one : (kind : ℕ) (m : List ℕ) {r s : Day} → r ≡ dayOf kind m → s ≡ dayOf kind m → r ≡ s
-day-one kind m p q = one-answer p q
+pub day-one : (form : Form) (m : List ℕ) {r s : Day} → r ≡ dayOf form m → s ≡ dayOf form m → r ≡ s
+day-one form m p q = one-answer p q

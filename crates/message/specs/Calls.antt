@@ -10,6 +10,7 @@ use Rattle.base.specs.declared.Verdict.{Verdict}
 use Rattle.base.specs.declared.Verdict.the-variants.{Fine, Broken}
 use Rattle.fields.specs.Field.{fields}
 use Rattle.fields.specs.Places.{listed}
+use Rattle.types.specs.declared.Form.{Form}
 use Rattle.types.specs.Form.{placesOf}
 use Rattle.types.specs.Walk.{find}
 use Rattle.frame.specs.Frame.{wordOf}
@@ -27,51 +28,51 @@ use Rattle.message.specs.declared.Day.the-variants as day
 
 -- ---- the check
 -- 17 comes last; its place is the numbers needed
-abbrev pub checkRules : ℕ → List ℕ → List ℕ → List Verdict
-checkRules kind m list = messageRules kind m ++ short (listed 5 (fields m)) list ∷ []
+abbrev pub checkRules : Form → List ℕ → List ℕ → List Verdict
+checkRules form m list = messageRules form m ++ short (listed 5 (fields m)) list ∷ []
 
 -- accepted with the number of fields and the word, or refused with number and place
 abbrev pub checkedBy : Verdict → ℕ → ℕ → Checked
 checkedBy Fine fields present = checked.Accepted fields present
 checkedBy (Broken number place) fields present = checked.Refused number place
 
-abbrev pub answerOf : ℕ → List ℕ → List ℕ → Checked
-answerOf kind m list = checkedBy (first (checkRules kind m list)) (length (fields m)) (wordOf kind m)
+abbrev pub answerOf : Form → List ℕ → List ℕ → Checked
+answerOf form m list = checkedBy (first (checkRules form m list)) (length (fields m)) (wordOf form m)
 
 -- a refusal leaves the list, else the fields' numbers are put over its front
-abbrev pub leftOf : ℕ → List ℕ → List ℕ → List ℕ
-leftOf kind m list = room (first (checkRules kind m list)) (listed 5 (fields m)) list
+abbrev pub leftOf : Form → List ℕ → List ℕ → List ℕ
+leftOf form m list = room (first (checkRules form m list)) (listed 5 (fields m)) list
 
 -- the call answers r and leaves the list as after
-pub record Checks (kind : ℕ) (m list : List ℕ) (r : Checked) (after : List ℕ) : Type 0 where
-  pub answers : r ≡ answerOf kind m list
-  pub leaves : after ≡ leftOf kind m list
+pub record Checks (form : Form) (m list : List ℕ) (r : Checked) (after : List ℕ) : Type 0 where
+  pub answers : r ≡ answerOf form m list
+  pub leaves : after ≡ leftOf form m list
 
 -- ---- the part of a place, and its bytes
 abbrev pub spanBy : Verdict → Span → Span
 spanBy Fine s = s
 spanBy (Broken number place) s = Nothing
 
-unfoldable pub spanOf : ℕ → List ℕ → ℕ → Span
-spanOf kind m place = spanBy (verdictOf kind m) (partAt (placesOf kind) place 5 (fields m))
+unfoldable pub spanOf : Form → List ℕ → ℕ → Span
+spanOf form m place = spanBy (verdictOf form m) (partAt (placesOf form) place 5 (fields m))
 
 abbrev pub partOf : List ℕ → Span → List ℕ
 partOf m (Part start end) = take (end - start) (drop start m)
 partOf m Nothing = []
 
-unfoldable pub contentOf : ℕ → List ℕ → ℕ → List ℕ
-contentOf kind m place = partOf m (spanOf kind m place)
+unfoldable pub contentOf : Form → List ℕ → ℕ → List ℕ
+contentOf form m place = partOf m (spanOf form m place)
 
 -- ---- the kopecks and the date of 32A
-unfoldable pub paid : ℕ → List ℕ → List ℕ
-paid kind m = contentOf kind m (find (placesOf kind) (bytes "32A"))
+unfoldable pub paid : Form → List ℕ → List ℕ
+paid form m = contentOf form m (find (placesOf form) (bytes "32A"))
 
 abbrev pub amountBy : Verdict → ℕ → Amount
 amountBy Fine n = amount.Is n
 amountBy (Broken number place) n = amount.Refused number place
 
-unfoldable pub amountOf : ℕ → List ℕ → Amount
-amountOf kind m = amountBy (verdictOf kind m) (kopecksOf (paid kind m))
+unfoldable pub amountOf : Form → List ℕ → Amount
+amountOf form m = amountBy (verdictOf form m) (kopecksOf (paid form m))
 
 -- a date YYYYMMDD as year, month and day
 abbrev pub daySplit : ℕ → Day
@@ -81,8 +82,8 @@ abbrev pub dayBy : Verdict → ℕ → Day
 dayBy Fine n = daySplit n
 dayBy (Broken number place) n = day.Refused number place
 
-unfoldable pub dayOf : ℕ → List ℕ → Day
-dayOf kind m = dayBy (verdictOf kind m) (dateOf (paid kind m))
+unfoldable pub dayOf : Form → List ℕ → Day
+dayOf form m = dayBy (verdictOf form m) (dateOf (paid form m))
 
 -- what the private functions ask: the part stands in the message
 abbrev pub Inside : List ℕ → Span → Type 0

@@ -4,6 +4,7 @@ use Prim.Native.String.{String}
 use mathlib.Core.Path.{_≡_}
 use mathlib.Core.List.{List, [], _∷_, _++_}
 use lib.ListN.{length, replicate}
+use Rattle.types.specs.Form.{formOf}
 use Rattle.base.specs.Quoted.{bytes}
 use Rattle.fields.specs.Field.{Field, message, fields}
 use Rattle.fields.specs.Cases.{of}
@@ -33,14 +34,14 @@ lent n = replicate n 9
 
 abbrev pub Holds : Case → Type 0
 Holds (accepts kind s fs w ps k y m d) =
-    (fields (bytes s) ≡ fs) × (message fs ≡ bytes s) × (answerOf kind (bytes s) (lent (length ps + 2)) ≡ checked.Accepted (length fs) w)
-    × (leftOf kind (bytes s) (lent (length ps + 2)) ≡ ps ++ 9 ∷ 9 ∷ []) × (amountOf kind (bytes s) ≡ amount.Is k) × (dayOf kind (bytes s) ≡ day.On y m d)
+    (fields (bytes s) ≡ fs) × (message fs ≡ bytes s) × (answerOf (formOf kind) (bytes s) (lent (length ps + 2)) ≡ checked.Accepted (length fs) w)
+    × (leftOf (formOf kind) (bytes s) (lent (length ps + 2)) ≡ ps ++ 9 ∷ 9 ∷ []) × (amountOf (formOf kind) (bytes s) ≡ amount.Is k) × (dayOf (formOf kind) (bytes s) ≡ day.On y m d)
 Holds (refuses kind s n number place) =
-    (answerOf kind (bytes s) (lent n) ≡ checked.Refused number place) × (leftOf kind (bytes s) (lent n) ≡ lent n)
-    × (amountOf kind (bytes s) ≡ amount.Refused number place) × (dayOf kind (bytes s) ≡ day.Refused number place)
-Holds (narrow kind s n needed) = (answerOf kind (bytes s) (lent n) ≡ checked.Refused 17 needed) × (leftOf kind (bytes s) (lent n) ≡ lent n)
-Holds (spans kind s place part) = spanOf kind (bytes s) place ≡ part
-Holds (shows kind s place c) = contentOf kind (bytes s) place ≡ bytes c
+    (answerOf (formOf kind) (bytes s) (lent n) ≡ checked.Refused number place) × (leftOf (formOf kind) (bytes s) (lent n) ≡ lent n)
+    × (amountOf (formOf kind) (bytes s) ≡ amount.Refused number place) × (dayOf (formOf kind) (bytes s) ≡ day.Refused number place)
+Holds (narrow kind s n needed) = (answerOf (formOf kind) (bytes s) (lent n) ≡ checked.Refused 17 needed) × (leftOf (formOf kind) (bytes s) (lent n) ≡ lent n)
+Holds (spans kind s place part) = spanOf (formOf kind) (bytes s) place ≡ part
+Holds (shows kind s place c) = contentOf (formOf kind) (bytes s) place ≡ bytes c
 
 abbrev pub signed202 : String
 signed202 =

@@ -12,15 +12,16 @@ use judge::calls::judge;
 use listing::Span;
 use listing::spots::fill;
 use listing::spots::part_of;
+use types::Form;
+use values::amounts::date_of;
 use values::amounts::kopecks_of;
-use values::days::date_of;
 
 // Colon, content start and content end of each field, put into the list where it has room for all. The word has as many ones as there are
 // fields.
-pub fn check(kind: u32, m: &[u8], list: &mut [u32]) -> Checked
-    ensures { λ r. ⌜ Checks kind (now (m .entry)) (now (list .entry)) r (now (list .exit)) ⌝ }
+pub fn check(form: Form, m: &[u8], list: &mut [u32]) -> Checked
+    ensures { λ r. ⌜ Checks form (now (m .entry)) (now (list .entry)) r (now (list .exit)) ⌝ }
 {
-    let f = judge(kind, m);
+    let f = judge(form, m);
     let verdict = f.verdict;
     let word = f.present;
     let spots = f.spots;
@@ -42,10 +43,10 @@ pub fn check(kind: u32, m: &[u8], list: &mut [u32]) -> Checked
 }
 
 // Where the content of a place stands.
-pub fn span(kind: u32, m: &[u8], place: usize) -> Span
-    ensures { λ r. ⌜ r ≡ spanOf kind (now (m .entry)) place ⌝ }
+pub fn span(form: Form, m: &[u8], place: usize) -> Span
+    ensures { λ r. ⌜ r ≡ spanOf form (now (m .entry)) place ⌝ }
 {
-    let f = judge(kind, m);
+    let f = judge(form, m);
     let verdict = f.verdict;
     let word = f.present;
     let spots = f.spots;
@@ -70,23 +71,25 @@ fn cut(m: &[u8], s: Span) -> &[u8]
 }
 
 // The content of a place as the caller's own part of the message; empty where there is none.
-pub fn content(kind: u32, m: &[u8], place: usize) -> &[u8]
-    ensures { λ r. ⌜ now r ≡ contentOf kind (now (m .entry)) place ⌝ }
+pub fn content(form: Form, m: &[u8], place: usize) -> &[u8]
+    ensures { λ r. ⌜ now r ≡ contentOf form (now (m .entry)) place ⌝ }
 {
-    cut(m, span(kind, m, place))
+    cut(m, span(form, m, place))
 }
 
-// The place of 32A.
-fn paid_place(kind: u32) -> usize
-    ensures { λ r. ⌜ r ≡ find (placesOf kind) (bytes "32A") ⌝ }
+// The places of 32A.
+const PAID_103: usize = 3;
+
+const PAID_202: usize = 2;
+
+fn paid_place(form: Form) -> usize
+    ensures { λ r. ⌜ r ≡ find (placesOf form) (bytes "32A") ⌝ }
 {
-    if kind == 103 {
-        return 3;
+    match form {
+        Form::Other => 0,
+        Form::Mt103 => PAID_103,
+        Form::Mt202 => PAID_202,
     }
-    if kind == 202 {
-        return 2;
-    }
-    0
 }
 
 fn split_day(date: u32) -> Day
@@ -100,34 +103,34 @@ fn split_day(date: u32) -> Day
 }
 
 // The kopecks of 32A, or the refusal.
-pub fn kopecks(kind: u32, m: &[u8]) -> Amount
-    ensures { λ r. ⌜ r ≡ amountOf kind (now (m .entry)) ⌝ }
+pub fn kopecks(form: Form, m: &[u8]) -> Amount
+    ensures { λ r. ⌜ r ≡ amountOf form (now (m .entry)) ⌝ }
 {
-    let f = judge(kind, m);
+    let f = judge(form, m);
     let verdict = f.verdict;
     let word = f.present;
     let spots = f.spots;
     match verdict {
         Verdict::Broken { number, place } => Amount::Refused { number, place },
         Verdict::Fine => {
-            let s = part_of(m, &spots, word, paid_place(kind));
+            let s = part_of(m, &spots, word, paid_place(form));
             Amount::Is(kopecks_of(cut(m, s)))
         }
     }
 }
 
 // The date of 32A, or the refusal.
-pub fn date(kind: u32, m: &[u8]) -> Day
-    ensures { λ r. ⌜ r ≡ dayOf kind (now (m .entry)) ⌝ }
+pub fn date(form: Form, m: &[u8]) -> Day
+    ensures { λ r. ⌜ r ≡ dayOf form (now (m .entry)) ⌝ }
 {
-    let f = judge(kind, m);
+    let f = judge(form, m);
     let verdict = f.verdict;
     let word = f.present;
     let spots = f.spots;
     match verdict {
         Verdict::Broken { number, place } => Day::Refused { number, place },
         Verdict::Fine => {
-            let s = part_of(m, &spots, word, paid_place(kind));
+            let s = part_of(m, &spots, word, paid_place(form));
             split_day(date_of(cut(m, s)))
         }
     }

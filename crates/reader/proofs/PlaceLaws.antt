@@ -14,6 +14,7 @@ use Rattle.base.specs.declared.Verdict.the-variants.{Fine, Broken}
 use Rattle.base.proofs.RuleLaws.{fine-broken}
 use Rattle.base.proofs.BitLaws.{bit-0}
 use Rattle.fields.specs.Field.{fields}
+use Rattle.types.specs.declared.Form.{Form}
 use Rattle.types.specs.Form.{placesOf}
 use Rattle.types.proofs.WordLaws.{Present}
 use Rattle.frame.specs.declared.Frame.{Frame}
@@ -71,54 +72,54 @@ bit-on w i j q h n =
     bit-here w i h ∙ ap (λ (b : Bool). pick b i (firstFrom (isSet w) (suc i) (31 - i))) (ne-eqb (bit w i) 1 n) ∙ sym (bit-behind w i h) ∙ ap (nextBit w) e
 
 -- ---- places
-pub place-far : (kind : ℕ) (m : List ℕ) (place : ℕ) → 32 ≤ place → 32 ≡ placeBehind kind m place
+pub place-far : (form : Form) (m : List ℕ) (place : ℕ) → 32 ≤ place → 32 ≡ placeBehind form m place
 unfolding placeBehind
-place-far kind m place h = sym (ap (λ (b : Bool). pick b 32 (firstFrom (filled kind m) (suc place) (31 - place))) (le-leb 32 place h))
+place-far form m place h = sym (ap (λ (b : Bool). pick b 32 (firstFrom (filled form m) (suc place) (31 - place))) (le-leb 32 place h))
 
 empty-is : (l : List ℕ) → empty l ≡ true → l ≡ []
 empty-is [] e = refl
 empty-is (x ∷ l) e = absurd (false≢true e)
 
 -- a place of an accepted message has a content exactly if its bit is set
-clean-filled : (kind : ℕ) (m : List ℕ) → verdictOf kind m ≡ Fine → (i : ℕ) → isSet (wordOf kind m) i ≡ filled kind m i
-clean-filled kind m e i = go (empty (contentOf kind m i)) refl
+clean-filled : (form : Form) (m : List ℕ) → verdictOf form m ≡ Fine → (i : ℕ) → isSet (wordOf form m) i ≡ filled form m i
+clean-filled form m e i = go (empty (contentOf form m i)) refl
   where
-    bits : (bit (wordOf kind m) i ≡ 1 → Present (placesOf kind) (fields m) i) × (Present (placesOf kind) (fields m) i → bit (wordOf kind m) i ≡ 1)
-    bits = taken kind m (frame-clean kind m e) .sound .bits i
+    bits : (bit (wordOf form m) i ≡ 1 → Present (placesOf form) (fields m) i) × (Present (placesOf form) (fields m) i → bit (wordOf form m) i ≡ 1)
+    bits = taken form m (frame-clean form m e) .sound .bits i
 
-    none : contentOf kind m i ≡ [] → bit (wordOf kind m) i ≡ 1 → ⊥
-    none q b = off (content-empty kind m i .0 q)
+    none : contentOf form m i ≡ [] → bit (wordOf form m) i ≡ 1 → ⊥
+    none q b = off (content-empty form m i .0 q)
       where
-        off : Without kind m i → ⊥
+        off : Without form m i → ⊥
         off (refused n p v) = fine-broken n p (sym e ∙ v)
         off (absent a) = a (bits .0 b)
 
-    go : (b : Bool) → empty (contentOf kind m i) ≡ b → isSet (wordOf kind m) i ≡ not b
-    go true q = ne-eqb (bit (wordOf kind m) i) 1 (none (empty-is (contentOf kind m i) q))
-    go false q = there (eqb (bit (wordOf kind m) i) 1) refl
+    go : (b : Bool) → empty (contentOf form m i) ≡ b → isSet (wordOf form m) i ≡ not b
+    go true q = ne-eqb (bit (wordOf form m) i) 1 (none (empty-is (contentOf form m i) q))
+    go false q = there (eqb (bit (wordOf form m) i) 1) refl
       where
-        there : (b : Bool) → eqb (bit (wordOf kind m) i) 1 ≡ b → b ≡ true
+        there : (b : Bool) → eqb (bit (wordOf form m) i) 1 ≡ b → b ≡ true
         there true f = refl
         there false f =
-            absurd (true≢false (sym (ap empty (content-empty kind m i .1 (absent (λ p. eqb-false (bit (wordOf kind m) i) 1 f (bits .1 p))))) ∙ q))
+            absurd (true≢false (sym (ap empty (content-empty form m i .1 (absent (λ p. eqb-false (bit (wordOf form m) i) 1 f (bits .1 p))))) ∙ q))
 
 none-set : (i : ℕ) → isSet 0 i ≡ false
 none-set i = ne-eqb (bit 0 i) 1 (λ e. absurd (omega (arith, bit-0 i, e)))
 
-refused-empty : (kind : ℕ) (m : List ℕ) (n p : ℕ) → verdictOf kind m ≡ Broken n p → (i : ℕ) → filled kind m i ≡ false
-refused-empty kind m n p e i = ap (λ (l : List ℕ). not (empty l)) (content-empty kind m i .1 (refused n p e))
+refused-empty : (form : Form) (m : List ℕ) (n p : ℕ) → verdictOf form m ≡ Broken n p → (i : ℕ) → filled form m i ≡ false
+refused-empty form m n p e i = ap (λ (l : List ℕ). not (empty l)) (content-empty form m i .1 (refused n p e))
 
-same-filled : (kind : ℕ) (m : List ℕ) (i : ℕ) → isSet (judgedOf kind m .present) i ≡ filled kind m i
+same-filled : (form : Form) (m : List ℕ) (i : ℕ) → isSet (judgedOf form m .present) i ≡ filled form m i
 unfolding judgedOf frameBy
-same-filled kind m i = go (verdictOf kind m) refl
+same-filled form m i = go (verdictOf form m) refl
   where
-    go : (v : Verdict) → verdictOf kind m ≡ v → isSet (frameBy v kind m .present) i ≡ filled kind m i
-    go Fine e = clean-filled kind m e i
-    go (Broken n p) e = none-set i ∙ sym (refused-empty kind m n p e i)
+    go : (v : Verdict) → verdictOf form m ≡ v → isSet (frameBy v form m .present) i ≡ filled form m i
+    go Fine e = clean-filled form m e i
+    go (Broken n p) e = none-set i ∙ sym (refused-empty form m n p e i)
 
-pub place-is : (kind : ℕ) (m : List ℕ) (place : ℕ) {f : Frame} {i r : ℕ} → place < 32 → f ≡ judgedOf kind m → i ≡ place + 1 → r ≡ nextBit (f .present) i → r ≡ placeBehind kind m place
+pub place-is : (form : Form) (m : List ℕ) (place : ℕ) {f : Frame} {i r : ℕ} → place < 32 → f ≡ judgedOf form m → i ≡ place + 1 → r ≡ nextBit (f .present) i → r ≡ placeBehind form m place
 unfolding placeBehind
-place-is kind m place {f} {i} {r} h e j k =
+place-is form m place {f} {i} {r} h e j k =
     let s : i ≡ suc place = omega arith in
-    k ∙ ap (nextBit (f .present)) s ∙ bit-behind (f .present) place h ∙ first-same (isSet (f .present)) (filled kind m) (λ n. ap (λ (g : Frame). isSet (g .present) n) e ∙ same-filled kind m n) (suc place) (31 - place)
-    ∙ sym (ap (λ (b : Bool). pick b 32 (firstFrom (filled kind m) (suc place) (31 - place))) (at-most place h))
+    k ∙ ap (nextBit (f .present)) s ∙ bit-behind (f .present) place h ∙ first-same (isSet (f .present)) (filled form m) (λ n. ap (λ (g : Frame). isSet (g .present) n) e ∙ same-filled form m n) (suc place) (31 - place)
+    ∙ sym (ap (λ (b : Bool). pick b 32 (firstFrom (filled form m) (suc place) (31 - place))) (at-most place h))

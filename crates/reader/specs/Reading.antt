@@ -3,6 +3,7 @@ use Prim.Native.Nat.{ℕ, zero, suc, _-_}
 use mathlib.Core.Bool.{Bool, not}
 use mathlib.Core.List.{List}
 use lib.Dec.{eqb, leb}
+use Rattle.types.specs.declared.Form.{Form}
 use Rattle.base.specs.Choice.{pick}
 use Rattle.base.specs.Bytes.{empty}
 use Rattle.base.specs.Bits.{bit}
@@ -14,16 +15,16 @@ firstFrom test i zero = i
 firstFrom test i (suc n) = pick (test i) i (firstFrom test (suc i) n)
 
 -- the first place behind this one that has a content; 32, which no type has, where there is none
-abbrev pub filled : ℕ → List ℕ → ℕ → Bool
-filled kind m i = not (empty (contentOf kind m i))
+abbrev pub filled : Form → List ℕ → ℕ → Bool
+filled form m i = not (empty (contentOf form m i))
 
-unfoldable pub placeBehind : ℕ → List ℕ → ℕ → ℕ
-placeBehind kind m place = pick (leb 32 place) 32 (firstFrom (filled kind m) (suc place) (31 - place))
+unfoldable pub placeBehind : Form → List ℕ → ℕ → ℕ
+placeBehind form m place = pick (leb 32 place) 32 (firstFrom (filled form m) (suc place) (31 - place))
 
 -- the place at hand after k moves from the first
-unfoldable pub placeAfter : ℕ → List ℕ → ℕ → ℕ
-placeAfter kind m zero = 0
-placeAfter kind m (suc k) = placeBehind kind m (placeAfter kind m k)
+unfoldable pub placeAfter : Form → List ℕ → ℕ → ℕ
+placeAfter form m zero = 0
+placeAfter form m (suc k) = placeBehind form m (placeAfter form m k)
 
 -- the same of a word's bits, from a place on
 abbrev pub isSet : ℕ → ℕ → Bool

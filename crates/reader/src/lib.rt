@@ -1,10 +1,12 @@
 // A message held together with a place: its contents are handed over one after another.
 ghost use mathlib.Core.Path.{_≡_};
+ghost use Rattle.types.specs.Form.{formOf};
 ghost use Rattle.message.specs.Calls.{contentOf};
 ghost use Rattle.reader.specs.Reading.{nextBit, placeBehind};
 use base::bits::bit_at;
 use judge::calls::judge;
 use message::calls::content;
+use types::forms::form_of;
 
 pub struct Reader<'a> {
     pub kind: u32,
@@ -28,12 +30,12 @@ fn next_bit(word: u32, from: usize) -> usize
 
 // The next place with a content; 32 behind the last, and of a refused message.
 pub fn place_behind(kind: u32, m: &[u8], place: usize) -> usize
-    ensures { λ r. ⌜ r ≡ placeBehind kind (now (m .entry)) place ⌝ }
+    ensures { λ r. ⌜ r ≡ placeBehind (formOf kind) (now (m .entry)) place ⌝ }
 {
     if 32 <= place {
         return 32;
     }
-    let f = judge(kind, m);
+    let f = judge(form_of(kind), m);
     next_bit(f.present, place + 1)
 }
 
@@ -48,16 +50,23 @@ pub fn open<'a>(kind: u32, message: &'a [u8]) -> Reader<'a>
     }
 }
 
+// The content of a place, by the type.
+fn content_at(kind: u32, m: &[u8], place: usize) -> &[u8]
+    ensures { λ r. ⌜ now r ≡ contentOf (formOf kind) (now (m .entry)) place ⌝ }
+{
+    content(form_of(kind), m, place)
+}
+
 // The content at hand, a part of the message; empty at the end.
 pub fn current<'a>(r: Reader<'a>) -> &'a [u8]
-    ensures { λ c. ⌜ now c ≡ contentOf (r .entry .kind) (now (r .entry .message)) (r .entry .place) ⌝ }
+    ensures { λ c. ⌜ now c ≡ contentOf (formOf (r .entry .kind)) (now (r .entry .message)) (r .entry .place) ⌝ }
 {
-    content(r.kind, r.message, r.place)
+    content_at(r.kind, r.message, r.place)
 }
 
 // Moved on to the next place with a content.
 pub fn moved<'a>(r: Reader<'a>) -> Reader<'a>
-    ensures { λ q. ⌜ (q .kind ≡ r .entry .kind) × (q .message ≡ r .entry .message) × (q .place ≡ placeBehind (r .entry .kind) (now (r .entry .message)) (r .entry .place)) ⌝ }
+    ensures { λ q. ⌜ (q .kind ≡ r .entry .kind) × (q .message ≡ r .entry .message) × (q .place ≡ placeBehind (formOf (r .entry .kind)) (now (r .entry .message)) (r .entry .place)) ⌝ }
 {
     let place = place_behind(r.kind, r.message, r.place);
     Reader {
@@ -69,7 +78,7 @@ pub fn moved<'a>(r: Reader<'a>) -> Reader<'a>
 
 // The first content of a message.
 pub fn first(kind: u32, message: &[u8]) -> &[u8]
-    ensures { λ c. ⌜ now c ≡ contentOf kind (now (message .entry)) 0 ⌝ }
+    ensures { λ c. ⌜ now c ≡ contentOf (formOf kind) (now (message .entry)) 0 ⌝ }
 {
     current(open(kind, message))
 }

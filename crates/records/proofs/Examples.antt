@@ -3,18 +3,18 @@ use mathlib.Core.Path.{refl}
 use Rattle.base.specs.Examples.{AllHold, _also_}
 use Rattle.base.specs.Bytes.{digit, capital, same}
 use Rattle.fields.specs.Shapes.{shaped}
-use Rattle.types.specs.Form.{form103, form202, forms, placesOf}
+use Rattle.types.specs.Form.{places103, places202}
 use Rattle.types.specs.Walk.{rule18}
 use Rattle.types.specs.Sign.{signOf}
 use Rattle.contents.specs.Tags.{tags103, tags202, heldBy}
 use Rattle.roles.specs.Role.{shapeOf}
 use Rattle.roles.specs.Rule14.{isInn}
 use Rattle.records.specs.Record.{pieces, recordOf, records, rest, begun}
-use Rattle.records.specs.Rule19.{digits, general, untaxed, sound, badFrom, judge, sheetSign, sheetType, rule19, sheetVerdict}
+use Rattle.records.specs.Rule19.{digits, general, untaxed, sound, badFrom, judge, sheetSign, sheetForm, rule19, sheetVerdict}
 use Rattle.records.specs.Cases.{Holds, cases}
 
 pub worked : AllHold Holds cases
-unfolding cases digit capital same shaped form103 form202 forms placesOf rule18 signOf tags103 tags202 heldBy shapeOf isInn pieces recordOf records rest begun digits general untaxed sound badFrom judge sheetSign sheetType rule19 sheetVerdict
+unfolding cases digit capital same shaped places103 places202 rule18 signOf tags103 tags202 heldBy shapeOf isInn pieces recordOf records rest begun digits general untaxed sound badFrom judge sheetSign sheetForm rule19 sheetVerdict
 worked =
     (refl, refl, refl) also (refl, refl, refl, refl) also refl also (refl, refl, refl, refl) also (refl, refl, refl, refl) also (refl, refl, refl, refl) also refl also refl
     also refl also refl also refl also refl also refl also refl also refl also refl

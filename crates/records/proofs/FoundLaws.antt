@@ -18,14 +18,16 @@ use Rattle.base.proofs.Bools.{left, right}
 use Rattle.fields.specs.Field.{Field, field, tagOf, onto}
 use Rattle.fields.specs.Shapes.{shaped, pack, unpack, goesOn}
 use Rattle.fields.proofs.PackLaws.{unpack-pack, pack-some}
+use Rattle.types.specs.declared.Form.{Form}
 use Rattle.types.specs.Sign.{firstLine}
 use Rattle.roles.specs.Role.{shapeOf}
 use Rattle.roles.specs.Rule14.{isInn}
 use Rattle.roles.specs.declared.Shape.{Shape}
 use Rattle.roles.specs.declared.Shape.the-variants.{Payer, Payee}
+use Rattle.types.specs.declared.Form.the-variants.{Other}
 use Rattle.records.specs.Record.{Record, pieces, parted, recordOf}
 use Rattle.records.specs.Found.{partsIn, piecesAt, tagNumber}
-use Rattle.records.specs.Rule19.{digits, general, sole, detailed, noted, taxPart, untaxed, sound, good, typed, typeIn}
+use Rattle.records.specs.Rule19.{digits, general, sole, detailed, noted, taxPart, untaxed, sound, good, typed, formIn}
 use Rattle.records.proofs.PieceLaws.{past-end, at-from, pieces-at, pieces-head, end-within, last-at, more-at, piece-length}
 
 -- ---- no part from a place on
@@ -50,7 +52,7 @@ module _ (l : List ℕ) (i : ℕ) (h : length l < i) where
   noted-none = sym (ap noted none)
 
   pub untaxed-none : (s : Bool) → true ≡ untaxed s (firstLine (piecesAt 9 l i))
-  unfolding untaxed isInn digit
+  unfolding untaxed isInn digit same
   untaxed-none true = sym (ap (λ (ps : List (List ℕ)). untaxed true (firstLine ps)) none)
   untaxed-none false = refl
 
@@ -195,25 +197,25 @@ module _ (l : List ℕ) (t : ℕ) (q : t ≡ 0 + upTo 9 (drop 0 l)) where
   pub tag-size : t ≡ length (take t l)
   tag-size = sym (length-take-le t l tag-within)
 
-  pub good-untagged : (kind : ℕ) (s : Bool) → tagNumber (take t l) ≡ 0 → false ≡ good kind s (recordOf l)
+  pub good-untagged : (form : Form) (s : Bool) → tagNumber (take t l) ≡ 0 → false ≡ good form s (recordOf l)
   unfolding tagNumber
-  good-untagged kind s z = go (shaped (take t l)) refl z ∙ sym (ap (good kind s) record-at)
+  good-untagged form s z = go (shaped (take t l)) refl z ∙ sym (ap (good form s) record-at)
     where
-      go : (b : Bool) → shaped (take t l) ≡ b → pick b (pack (take t l)) 0 ≡ 0 → false ≡ (shaped (take t l) && sound s (shapeOf kind (take t l)) (piecesAt 9 l (t + 1)))
+      go : (b : Bool) → shaped (take t l) ≡ b → pick b (pack (take t l)) 0 ≡ 0 → false ≡ (shaped (take t l) && sound s (shapeOf form (take t l)) (piecesAt 9 l (t + 1)))
       go true e k = absurd (true≢false (sym (eq-eqb (pack (take t l)) 0 k) ∙ pack-some (take t l) e))
-      go false e k = sym (ap (λ (b : Bool). b && sound s (shapeOf kind (take t l)) (piecesAt 9 l (t + 1))) e)
+      go false e k = sym (ap (λ (b : Bool). b && sound s (shapeOf form (take t l)) (piecesAt 9 l (t + 1))) e)
 
-  pub good-shape : {r : Bool} (kind : ℕ) (s : Bool) (tag : ℕ) (sh : Shape) → tag ≡ tagNumber (take t l) → (tag ≡ 0 → ⊥) → sh ≡ shapeOf kind (unpack tag)
-      → r ≡ sound s sh (piecesAt 9 l (t + 1)) → r ≡ good kind s (recordOf l)
+  pub good-shape : {r : Bool} (form : Form) (s : Bool) (tag : ℕ) (sh : Shape) → tag ≡ tagNumber (take t l) → (tag ≡ 0 → ⊥) → sh ≡ shapeOf form (unpack tag)
+      → r ≡ sound s sh (piecesAt 9 l (t + 1)) → r ≡ good form s (recordOf l)
   unfolding tagNumber
-  good-shape {r} kind s tag sh n k m u = go (shaped (take t l)) refl n ∙ sym (ap (good kind s) record-at)
+  good-shape {r} form s tag sh n k m u = go (shaped (take t l)) refl n ∙ sym (ap (good form s) record-at)
     where
-      go : (b : Bool) → shaped (take t l) ≡ b → tag ≡ pick b (pack (take t l)) 0 → r ≡ (shaped (take t l) && sound s (shapeOf kind (take t l)) (piecesAt 9 l (t + 1)))
+      go : (b : Bool) → shaped (take t l) ≡ b → tag ≡ pick b (pack (take t l)) 0 → r ≡ (shaped (take t l) && sound s (shapeOf form (take t l)) (piecesAt 9 l (t + 1)))
       go false e z = absurd (k z)
       go true e z =
           let w : unpack tag ≡ take t l = ap unpack z ∙ unpack-pack (take t l) e in
-          u ∙ ap (λ (x : Shape). sound s x (piecesAt 9 l (t + 1))) (m ∙ ap (shapeOf kind) w)
-          ∙ sym (ap (λ (b : Bool). b && sound s (shapeOf kind (take t l)) (piecesAt 9 l (t + 1))) e)
+          u ∙ ap (λ (x : Shape). sound s x (piecesAt 9 l (t + 1))) (m ∙ ap (shapeOf form) w)
+          ∙ sym (ap (λ (b : Bool). b && sound s (shapeOf form (take t l)) (piecesAt 9 l (t + 1))) e)
 
   -- the tag 20, and the + behind it
   pub twenty-is : {r : Bool} → r ≡ same (take t l) (50 ∷ 48 ∷ []) → r ≡ same (tagOf (recordOf l)) (bytes "20")
@@ -274,5 +276,5 @@ three p e = go p (eqb-true (length p) 3 (left (eqb (length p) 3) (all digit p) e
 pub sound-by : {r : Bool} {sh to : Shape} (s : Bool) (ps : List (List ℕ)) → sh ≡ to → r ≡ sound s to ps → r ≡ sound s sh ps
 sound-by s ps e h = h ∙ ap (λ (x : Shape). sound s x ps) (sym e)
 
-pub type-none : (r : Record) → typed r ≡ false → typeIn r ≡ 0
+pub type-none : (r : Record) → typed r ≡ false → formIn r ≡ Other
 type-none (field t ps) k = rw k

@@ -11,22 +11,23 @@ use Rattle.base.specs.Quoted.{bytes}
 use Rattle.base.proofs.Bools.{left, right, both}
 use Rattle.fields.specs.Field.{field, tagOf}
 use Rattle.fields.specs.Shapes.{shaped}
+use Rattle.types.specs.declared.Form.{Form}
 use Rattle.types.specs.Sign.{firstLine, signOf}
 use Rattle.roles.specs.Role.{Part, copy, name, taxName, taxed, cast, shapeOf}
-use Rattle.values.specs.Values.{isTax}
+use Rattle.contents.specs.Tests.{looksTax}
 use Rattle.roles.specs.Rule14.{isInn}
 use Rattle.roles.specs.declared.Shape.{Shape}
 use Rattle.records.specs.Record.{Record, line, sheet, pieces, front, final, recordOf, records, rest, begun}
 use Rattle.records.specs.Found.{partsIn, piecesAt}
-use Rattle.records.specs.Rule19.{good, typeIn, typeOf, sheetSign, sheetType}
+use Rattle.records.specs.Rule19.{good, formIn, namedForm, sheetSign, sheetForm}
 use Rattle.records.specs.Sentences.{Right, plain, agent, payer, payee, details, note103, note202, Sound}
 use Rattle.records.proofs.SheetLaws.{line-record, sheet-whole}
 use Rattle.records.proofs.WalkLaws.{first-size, none-ended, head-record}
 use Rattle.records.proofs.RuleLaws.{sound-right, named, named-size}
 
 -- ---- one record
-pub good-right : (kind : ℕ) (s : Bool) (r : Record) → good kind s r ≡ true → (shaped (tagOf r) ≡ true) × Right s (shapeOf kind (tagOf r)) (partsIn r)
-good-right kind s (field t ps) e = (left (shaped t) _ e, sound-right s (shapeOf kind t) ps (right (shaped t) _ e))
+pub good-right : (form : Form) (s : Bool) (r : Record) → good form s r ≡ true → (shaped (tagOf r) ≡ true) × Right s (shapeOf form (tagOf r)) (partsIn r)
+good-right form s (field t ps) e = (left (shaped t) _ e, sound-right s (shapeOf form t) ps (right (shaped t) _ e))
 
 -- with the sign, no name in the tax place begins with Cyrillic INN and a digit
 abbrev pub calm : Part → Bool
@@ -43,7 +44,7 @@ calm-names = calm-map name (λ p. refl)
 
 calm-taxed : (ps : List (List ℕ)) → isInn (firstLine ps) ≡ false → all calm (taxed ps) ≡ true
 calm-taxed [] e = refl
-calm-taxed (p ∷ ps) e = both (go (isTax p)) (calm-names ps)
+calm-taxed (p ∷ ps) e = both (go (looksTax p)) (calm-names ps)
   where
     go : (b : Bool) → calm (pick b (copy p) (taxName p)) ≡ true
     go true = refl
@@ -83,12 +84,12 @@ module _ (s : List ℕ) (h : Sound s) where
   pub sound-sheet : s ≡ sheet (h .head ∷ h .behind)
   sound-sheet = sym (sheet-whole s (h .ended)) ∙ ap sheet (h .list)
 
-  pub sound-type : sheetType s ≡ typeIn (h .head)
-  unfolding sheetType
-  sound-type = ap typeOf (h .list)
+  pub sound-type : sheetForm s ≡ formIn (h .head)
+  unfolding sheetForm
+  sound-type = ap namedForm (h .list)
 
-  pub sound-each : all (good (sheetType s) (sheetSign s)) (h .behind) ≡ true
-  sound-each = ap (λ (k : ℕ). all (good k (sheetSign s)) (h .behind)) sound-type ∙ h .each
+  pub sound-each : all (good (sheetForm s) (sheetSign s)) (h .behind) ≡ true
+  sound-each = ap (λ (k : Form). all (good k (sheetSign s)) (h .behind)) sound-type ∙ h .each
 
   -- the sign is that of the records behind the first
   pub sound-sign : sheetSign s ≡ signOf (h .behind)

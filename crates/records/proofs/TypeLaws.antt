@@ -12,8 +12,10 @@ use Rattle.base.specs.Bytes.{byte, digit, same}
 use Rattle.base.proofs.Bools.{left, right}
 use Rattle.base.proofs.ByteLaws.{digit-range, same-is}
 use Rattle.fields.specs.Field.{onto}
+use Rattle.types.specs.declared.Form.{Form}
+use Rattle.types.specs.Form.{formOf}
 use Rattle.records.specs.Record.{line, pieces, recordOf}
-use Rattle.records.specs.Rule19.{digits, numbered, typed, number, typeIn}
+use Rattle.records.specs.Rule19.{digits, numbered, typed, number, formIn}
 use Rattle.records.proofs.SheetLaws.{line-record}
 use Rattle.records.proofs.RuleLaws.{named}
 
@@ -21,7 +23,7 @@ pub record Spelt (l : List ℕ) : Type 0 where
   pub type : List ℕ
   pub is : l ≡ 77 ∷ 84 ∷ 9 ∷ type
   pub three : digits 3 type ≡ true
-  pub worth : typeIn (recordOf l) ≡ number type
+  pub worth : formIn (recordOf l) ≡ formOf (number type)
 
 pub spelt : (l : List ℕ) → typed (recordOf l) ≡ true → Spelt l
 spelt l e =
@@ -100,5 +102,5 @@ module _ (s : List ℕ) (e : ℕ) (z : length (take e s) ≡ e) (y : typed (reco
   pub type-digits : digits 3 (take (e - 3) (drop 3 s)) ≡ true
   type-digits = ap (digits 3) type-part ∙ spelt (take e s) y .three
 
-  pub type-number : {r : ℕ} → r ≡ number (take (e - 3) (drop 3 s)) → r ≡ typeIn (recordOf (take e s))
-  type-number h = h ∙ ap number type-part ∙ sym (spelt (take e s) y .worth)
+  pub type-form : {n : ℕ} {f : Form} → n ≡ number (take (e - 3) (drop 3 s)) → f ≡ formOf n → f ≡ formIn (recordOf (take e s))
+  type-form h i = i ∙ ap formOf (h ∙ ap number type-part) ∙ sym (spelt (take e s) y .worth)

@@ -10,9 +10,10 @@ use lib.Dec.{eqb, leb}
 use Rattle.base.specs.Choice.{pick}
 use Rattle.base.specs.declared.Verdict.the-variants.{Fine, Broken}
 use Rattle.fields.specs.Field.{field}
+use Rattle.types.specs.Form.{formOf}
 use Rattle.records.specs.Record.{Record, sheet, records, rest}
 use Rattle.records.specs.Places.{startsOf, partsOf}
-use Rattle.records.specs.Rule19.{sheetVerdict, sheetType, sheetSign}
+use Rattle.records.specs.Rule19.{sheetVerdict, sheetForm, sheetSign}
 
 -- a text in windows-1251
 abbrev pub byteOf : ℕ → ℕ
@@ -36,7 +37,7 @@ pub data Case : Type 0 where
 
 abbrev pub Holds : Case → Type 0
 Holds (refused s n p) = sheetVerdict (desk s) ≡ Broken n p
-Holds (taken s k g) = (sheetVerdict (desk s) ≡ Fine) × (sheetType (desk s) ≡ k) × (sheetSign (desk s) ≡ g)
+Holds (taken s k g) = (sheetVerdict (desk s) ≡ Fine) × (sheetForm (desk s) ≡ formOf k) × (sheetSign (desk s) ≡ g)
 Holds (signed s g) = sheetSign (desk s) ≡ g
 Holds (reads s rs w ps) = (records (desk s) ≡ rs) × (rest (desk s) ≡ desk w) × (sheet rs ++ desk w ≡ desk s) × (startsOf 0 rs ≡ ps)
 Holds (parts o r ps) = partsOf o r ≡ ps

@@ -5,6 +5,8 @@ use mathlib.Core.Bool.{Bool}
 use mathlib.Core.List.{List, [], _∷_}
 use lib.Dec.{leb}
 use lib.ListN.{length, drop}
+use Rattle.types.specs.declared.Form.{Form}
+use Rattle.types.specs.declared.Form.the-variants.{Other}
 use Rattle.base.specs.Choice.{pick}
 use Rattle.base.specs.Bytes.{empty}
 use Rattle.base.specs.declared.Verdict.{Verdict}
@@ -27,11 +29,11 @@ unfoldable pub tagNumber : List ℕ → ℕ
 tagNumber t = pick (shaped t) (pack t) 0
 
 -- 19 over the lines from o on, the last of which no LF ends
-unfoldable pub badLine : ℕ → Bool → ℕ → List (List ℕ) → Verdict
-badLine kind s o [] = Fine
-badLine kind s o (l ∷ []) = pick (empty l) Fine (Broken 19 o)
-badLine kind s o (l ∷ k ∷ ls) = pick (good kind s (recordOf l)) (badLine kind s (o + length l + 1) (k ∷ ls)) (Broken 19 o)
+unfoldable pub badLine : Form → Bool → ℕ → List (List ℕ) → Verdict
+badLine form s o [] = Fine
+badLine form s o (l ∷ []) = pick (empty l) Fine (Broken 19 o)
+badLine form s o (l ∷ k ∷ ls) = pick (good form s (recordOf l)) (badLine form s (o + length l + 1) (k ∷ ls)) (Broken 19 o)
 
 -- what a sheet comes to whose first record names no type
 abbrev pub noType : Bool → Judged
-noType s = record { verdict = Broken 19 0; kind = 0; sign = s }
+noType s = record { verdict = Broken 19 0; form = Other; sign = s }

@@ -12,6 +12,9 @@ use Rattle.base.specs.declared.Verdict.{Verdict}
 use Rattle.base.specs.declared.Verdict.the-variants.{Fine, Broken}
 use Rattle.fields.specs.Field.{field}
 use Rattle.fields.specs.Shapes.{shaped, goesOn}
+use Rattle.types.specs.declared.Form.{Form}
+use Rattle.types.specs.declared.Form.the-variants.{Other}
+use Rattle.types.specs.Form.{formOf}
 use Rattle.types.specs.Walk.{rule18}
 use Rattle.types.specs.Sign.{firstLine, signOf}
 use Rattle.roles.specs.Role.{shapeOf}
@@ -76,8 +79,8 @@ sound s Note103 ps = sole ps
 sound s Note202 ps = noted ps
 
 -- a record behind the first; that MT is no tag of the right shape refuses a second one
-abbrev pub good : ℕ → Bool → Record → Bool
-good kind s (field t ps) = shaped t && sound s (shapeOf kind t) ps
+abbrev pub good : Form → Bool → Record → Bool
+good form s (field t ps) = shaped t && sound s (shapeOf form t) ps
 
 -- the first: MT, and just one part of three digits
 abbrev pub numbered : List (List ℕ) → Bool
@@ -88,41 +91,41 @@ numbered (p ∷ q ∷ ps) = false
 abbrev pub typed : Record → Bool
 typed (field t ps) = same t (bytes "MT") && numbered ps
 
--- the type, 0 where the first record does not name one
+-- the form of the type that the first record names, if it names one
 abbrev pub number : List ℕ → ℕ
 number p = (byte p 0 - 48) * 100 + (byte p 1 - 48) * 10 + (byte p 2 - 48)
 
-abbrev pub typeIn : Record → ℕ
-typeIn (field t ps) = pick (typed (field t ps)) (number (firstLine ps)) 0
+abbrev pub formIn : Record → Form
+formIn (field t ps) = pick (typed (field t ps)) (formOf (number (firstLine ps))) Other
 
-abbrev pub typeOf : List Record → ℕ
-typeOf [] = 0
-typeOf (r ∷ rs) = typeIn r
+abbrev pub namedForm : List Record → Form
+namedForm [] = Other
+namedForm (r ∷ rs) = formIn r
 
 -- ---- 19
 -- the first bad record from o on, by its first byte, then one that no LF ends: w, what stands behind the last LF
-unfoldable pub badFrom : ℕ → Bool → ℕ → List Record → List ℕ → Verdict
-badFrom kind s o [] w = pick (empty w) Fine (Broken 19 o)
-badFrom kind s o (r ∷ rs) w = pick (good kind s r) (badFrom kind s (nextOf o r) rs w) (Broken 19 o)
+unfoldable pub badFrom : Form → Bool → ℕ → List Record → List ℕ → Verdict
+badFrom form s o [] w = pick (empty w) Fine (Broken 19 o)
+badFrom form s o (r ∷ rs) w = pick (good form s r) (badFrom form s (nextOf o r) rs w) (Broken 19 o)
 
 -- a sheet without an ended record is 19 at 0, empty or not
 unfoldable pub judge : Bool → List Record → List ℕ → Verdict
 judge s [] w = Broken 19 0
-judge s (r ∷ rs) w = pick (typed r) (badFrom (typeIn r) s (nextOf 0 r) rs w) (Broken 19 0)
+judge s (r ∷ rs) w = pick (typed r) (badFrom (formIn r) s (nextOf 0 r) rs w) (Broken 19 0)
 
 -- S8: every record counts for the sign, ended or not
 unfoldable pub sheetSign : List ℕ → Bool
 sheetSign s = signOf (begun s)
 
-unfoldable pub sheetType : List ℕ → ℕ
-sheetType s = typeOf (records s)
+unfoldable pub sheetForm : List ℕ → Form
+sheetForm s = namedForm (records s)
 
 unfoldable pub rule19 : List ℕ → Verdict
 rule19 s = judge (sheetSign s) (records s) (rest s)
 
 -- ---- 19, then 18 of the type named
 unfoldable pub sheetVerdict : List ℕ → Verdict
-sheetVerdict s = first (rule19 s ∷ rule18 (sheetType s) ∷ [])
+sheetVerdict s = first (rule19 s ∷ rule18 (sheetForm s) ∷ [])
 
 unfoldable pub judged : List ℕ → Judged
-judged s = record { verdict = sheetVerdict s; kind = sheetType s; sign = sheetSign s }
+judged s = record { verdict = sheetVerdict s; form = sheetForm s; sign = sheetSign s }

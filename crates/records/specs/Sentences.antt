@@ -11,7 +11,7 @@ use Rattle.roles.specs.declared.Shape.{Shape}
 use Rattle.roles.specs.declared.Shape.the-variants.{Plain, Payer, Payee, Agent, Details, Note103, Note202}
 use Rattle.records.specs.Record.{Record, records, rest}
 use Rattle.records.specs.Places.{sizeOf}
-use Rattle.records.specs.Rule19.{digits, taxPart, good, typed, typeIn, sheetSign}
+use Rattle.records.specs.Rule19.{digits, taxPart, good, typed, formIn, sheetSign}
 
 -- ---- the parts of a right record; s: with the sign
 pub data Right (s : Bool) : Shape → List (List ℕ) → Type 0 where
@@ -31,9 +31,9 @@ pub data BadAt (s : List ℕ) (p : ℕ) : Type 0 where
   untyped : (m : Record) (rs : List Record) → records s ≡ m ∷ rs → typed m ≡ false → p ≡ 0 → BadAt s p
   -- a record behind it is bad, and all before are good
   wrong : (m : Record) (before : List Record) (r : Record) (behind : List Record) → records s ≡ m ∷ before ++ r ∷ behind → typed m ≡ true
-      → all (good (typeIn m) (sheetSign s)) before ≡ true → good (typeIn m) (sheetSign s) r ≡ false → p ≡ sizeOf (m ∷ before) → BadAt s p
+      → all (good (formIn m) (sheetSign s)) before ≡ true → good (formIn m) (sheetSign s) r ≡ false → p ≡ sizeOf (m ∷ before) → BadAt s p
   -- all are good, and one more has no LF
-  unended : (m : Record) (rs : List Record) → records s ≡ m ∷ rs → typed m ≡ true → all (good (typeIn m) (sheetSign s)) rs ≡ true
+  unended : (m : Record) (rs : List Record) → records s ≡ m ∷ rs → typed m ≡ true → all (good (formIn m) (sheetSign s)) rs ≡ true
       → empty (rest s) ≡ false → p ≡ sizeOf (m ∷ rs) → BadAt s p
 
 -- ---- 19 is not given: a first record with the type, good records, and nothing behind the last LF
@@ -42,5 +42,5 @@ pub record Sound (s : List ℕ) : Type 0 where
   pub behind : List Record
   pub list : records s ≡ head ∷ behind
   pub names : typed head ≡ true
-  pub each : all (good (typeIn head) (sheetSign s)) behind ≡ true
+  pub each : all (good (formIn head) (sheetSign s)) behind ≡ true
   pub ended : rest s ≡ []

@@ -4,10 +4,11 @@ pub mod sheets;
 pub mod tags;
 
 use base::Verdict;
+use types::Form;
 
 // What a sheet comes to: 19 or 18 or nothing, its type (0 where the first record names none), and whether it has the sign.
 pub struct Judged {
     pub verdict: Verdict,
-    pub kind: u32,
+    pub form: Form,
     pub sign: bool,
 }

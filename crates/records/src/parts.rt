@@ -11,8 +11,9 @@ use super::tags::tag_number;
 use base::bytes::is_digit;
 use base::marks::mark_at;
 use roles::Shape;
+use roles::clauses::is_inn;
 use roles::shapes::shape_of;
-use values::parts::is_numbered;
+use types::Form;
 
 // A part that may stand behind the first.
 fn goes_on(p: &[u8]) -> bool
@@ -119,7 +120,7 @@ fn is_untaxed(sign: bool, l: &[u8], i: usize) -> bool
         return true;
     }
     let e = mark_at(b'\t', l, i);
-    !is_numbered(&l[i..e], 200, 205, 205)
+    !is_inn(&l[i..e])
 }
 
 fn is_payer(sign: bool, l: &[u8], i: usize) -> bool
@@ -161,13 +162,13 @@ fn is_sound(shape: Shape, sign: bool, l: &[u8], i: usize) -> bool
 }
 
 // A record behind the first, without its LF.
-pub(crate) fn is_good(kind: u32, sign: bool, l: &[u8]) -> bool
-    ensures { λ r. ⌜ r ≡ good kind sign (recordOf (now (l .entry))) ⌝ }
+pub(crate) fn is_good(form: Form, sign: bool, l: &[u8]) -> bool
+    ensures { λ r. ⌜ r ≡ good form sign (recordOf (now (l .entry))) ⌝ }
 {
     let t = mark_at(b'\t', l, 0);
     let tag = tag_number(&l[..t]);
     if tag == 0 {
         return false;
     }
-    is_sound(shape_of(kind, tag), sign, l, t + 1)
+    is_sound(shape_of(form, tag), sign, l, t + 1)
 }

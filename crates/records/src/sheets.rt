@@ -19,7 +19,9 @@ use super::parts::is_good;
 use base::Verdict;
 use base::bytes::ZERO;
 use base::marks::mark_at;
+use types::Form;
 use types::forms::count_of;
+use types::forms::form_of;
 
 // Whether a text is these two bytes.
 fn is_two(p: &[u8], a: u8, b: u8) -> bool
@@ -92,9 +94,9 @@ fn number_of(p: &[u8]) -> u32
 }
 
 // The first bad record from a place on.
-fn bad_record(s: &[u8], kind: u32, sign: bool, from: usize) -> Verdict
+fn bad_record(s: &[u8], form: Form, sign: bool, from: usize) -> Verdict
     requires { ⌜ from ≤ length (now s) ⌝ }
-    ensures { λ r. ⌜ r ≡ badLine kind sign from (piecesAt 10 (now (s .entry)) from) ⌝ }
+    ensures { λ r. ⌜ r ≡ badLine form sign from (piecesAt 10 (now (s .entry)) from) ⌝ }
 {
     let mut at = from;
     while at < s.len() {
@@ -105,7 +107,7 @@ fn bad_record(s: &[u8], kind: u32, sign: bool, from: usize) -> Verdict
                 place: at,
             };
         }
-        if !is_good(kind, sign, &s[at..e]) {
+        if !is_good(form, sign, &s[at..e]) {
             return Verdict::Broken {
                 number: 19,
                 place: at,
@@ -117,15 +119,15 @@ fn bad_record(s: &[u8], kind: u32, sign: bool, from: usize) -> Verdict
 }
 
 // 18 behind 19, of the records from a place on.
-fn behind_type(s: &[u8], kind: u32, sign: bool, from: usize) -> Verdict
+fn behind_type(s: &[u8], form: Form, sign: bool, from: usize) -> Verdict
     requires { ⌜ from ≤ length (now s) ⌝ }
-    ensures { λ r. ⌜ r ≡ then (badLine kind sign from (piecesAt 10 (now (s .entry)) from)) (rule18 kind) ⌝ }
+    ensures { λ r. ⌜ r ≡ then (badLine form sign from (piecesAt 10 (now (s .entry)) from)) (rule18 form) ⌝ }
 {
-    let v = bad_record(s, kind, sign, from);
+    let v = bad_record(s, form, sign, from);
     let Verdict::Fine = v else {
         return v;
     };
-    if count_of(kind) == 0 {
+    if count_of(form) == 0 {
         return Verdict::Broken {
             number: 18,
             place: 0,
@@ -144,7 +146,7 @@ fn unnamed(sign: bool) -> Judged
     };
     Judged {
         verdict,
-        kind: 0,
+        form: Form::Other,
         sign,
     }
 }
@@ -161,11 +163,11 @@ pub fn judge_sheet(s: &[u8]) -> Judged
     if !is_typed(&s[..e]) {
         return unnamed(sign);
     }
-    let kind = number_of(&s[3..e]);
-    let verdict = behind_type(s, kind, sign, e + 1);
+    let form = form_of(number_of(&s[3..e]));
+    let verdict = behind_type(s, form, sign, e + 1);
     Judged {
         verdict,
-        kind,
+        form,
         sign,
     }
 }

@@ -4,6 +4,7 @@ use base::bytes::front;
 use base::bytes::is_same;
 use libc::STDOUT_FILENO;
 use sheets::calls::to_sheet;
+use types::forms::form_of;
 use writer::calls::to_message;
 
 // No sheet that is read and no message that is written is longer.
@@ -31,7 +32,7 @@ fn tell_same(a: &[u8], b: &[u8]) {
 // A message read, and its sheet held against another.
 fn tell_read(kind: u32, m: &[u8], sheet: &[u8]) {
     let mut out = [0u8; LONGEST];
-    match to_sheet(kind, m, &mut out) {
+    match to_sheet(form_of(kind), m, &mut out) {
         Outcome::Done(n) => tell_same(front(&out, n), sheet),
         Outcome::Refused { number, place } => tell_refusal(number, place),
     }
@@ -53,7 +54,7 @@ fn tell_again(kind: u32, sheet: &[u8]) {
 pub(crate) fn tell_sheet(kind: u32, m: &[u8]) {
     let mut out = [0u8; LONGEST];
     io::write_all(STDOUT_FILENO, b"sheet\t");
-    match to_sheet(kind, m, &mut out) {
+    match to_sheet(form_of(kind), m, &mut out) {
         Outcome::Done(n) => {
             tell(n as u64, b"\t");
             tell_again(kind, front(&out, n));

@@ -18,9 +18,11 @@ use Rattle.alphabets.specs.Bank.{reading}
 use Rattle.fields.specs.Field.{Field, field, lined, linesOf}
 use Rattle.fields.specs.Places.{sizeOf, nextOf}
 use Rattle.fields.proofs.PlaceLaws.{size-append}
-use Rattle.values.specs.Values.{isTax, isRpp}
+use Rattle.contents.specs.Tests.{looksTax}
+use Rattle.contents.specs.Parts.{opensRpp}
 use Rattle.roles.specs.Role.{Part, copy, name, taxName, lineOf, shapeOf, taxed, cast}
 use Rattle.roles.specs.Speech.{Manner, named, taxPlaced, told, Speech, speech, saidAt, names, details, codeSize, noted, speeches}
+use Rattle.types.specs.declared.Form.{Form}
 use Rattle.types.specs.Sign.{signOf}
 use Rattle.roles.specs.Rule14.{texts, mute, hidden, taxLike, clauses, breaks, unheard, spoken, rule14}
 use Rattle.roles.specs.Sentences.{Breach, unreadable, wordless, nameHides, taxHides, likeTax, Heard, FirstBreach, Within, NoneBefore}
@@ -193,7 +195,7 @@ same-either false l = refl
 
 same-taxed : (ls : List (List ℕ)) → map lineOf (taxed ls) ≡ ls
 same-taxed [] = refl
-same-taxed (l ∷ ls) = ap (λ (k : List (List ℕ)). lineOf (pick (isTax l) (copy l) (taxName l)) ∷ k) (same-names ls) ∙ ap (λ (k : List ℕ). k ∷ ls) (same-either (isTax l) l)
+same-taxed (l ∷ ls) = ap (λ (k : List (List ℕ)). lineOf (pick (looksTax l) (copy l) (taxName l)) ∷ k) (same-names ls) ∙ ap (λ (k : List ℕ). k ∷ ls) (same-either (looksTax l) l)
 
 pub same-lines : (s : Shape) (ls : List (List ℕ)) → map lineOf (cast s ls) ≡ ls
 unfolding cast
@@ -237,7 +239,7 @@ speeches-within s Agent o ls = cast-within Agent o ls
 speeches-within s Details o ls = details-within (codeSize s) 0 o ls (omega arith)
 speeches-within s Note103 o ls = omega arith
 speeches-within s Note202 o [] = omega arith
-speeches-within s Note202 o (l ∷ ls) = go (isRpp l)
+speeches-within s Note202 o (l ∷ ls) = go (opensRpp l)
   where
     go : (q : Bool) → Within o (o + sizeOf (l ∷ ls) + 2) (pick q (details (5 + codeSize s) 2 (o + length l + 2) ls) (details (5 + codeSize s) 2 o (l ∷ ls)))
     go true =
@@ -255,40 +257,40 @@ speeches-none s Details o = refl
 speeches-none s Note103 o = refl
 speeches-none s Note202 o = refl
 
-field-within : (kind o : ℕ) (f : Field) → Within (o + 2) (nextOf o f + 2) (texts kind o f)
-field-within kind o (field t []) = rw (speeches-none true (shapeOf kind t) (o + 2 + length t)) (omega arith)
-field-within kind o (field t (l ∷ ls)) =
+field-within : (form : Form) (o : ℕ) (f : Field) → Within (o + 2) (nextOf o f + 2) (texts form o f)
+field-within form o (field t []) = rw (speeches-none true (shapeOf form t) (o + 2 + length t)) (omega arith)
+field-within form o (field t (l ∷ ls)) =
     let start : ℕ = o + 2 + length t in
-    let xs : List Speech = speeches true (shapeOf kind t) start (l ∷ ls) in
+    let xs : List Speech = speeches true (shapeOf form t) start (l ∷ ls) in
     let n = length-append t (58 ∷ l) in
     within-start xs (o + 2) start (nextOf o (field t (l ∷ ls)) + 2) (omega arith)
-    (within-end xs start (start + sizeOf (l ∷ ls) + 2) (nextOf o (field t (l ∷ ls)) + 2) (speeches-within true (shapeOf kind t) start (l ∷ ls)) (omega arith))
+    (within-end xs start (start + sizeOf (l ∷ ls) + 2) (nextOf o (field t (l ∷ ls)) + 2) (speeches-within true (shapeOf form t) start (l ∷ ls)) (omega arith))
 
-pub spoken-within : (kind o : ℕ) (fs : List Field) → Within (o + 2) (o + sizeOf (linesOf fs) + 2) (spoken kind o fs)
+pub spoken-within : (form : Form) (o : ℕ) (fs : List Field) → Within (o + 2) (o + sizeOf (linesOf fs) + 2) (spoken form o fs)
 unfolding spoken
-spoken-within kind o [] = omega arith
-spoken-within kind o (f ∷ fs) =
+spoken-within form o [] = omega arith
+spoken-within form o (f ∷ fs) =
     let z = size-append (lined f) (linesOf fs) in
-    within-append (texts kind o f) (spoken kind (nextOf o f) fs) (o + 2) (nextOf o f + 2) (o + sizeOf (linesOf (f ∷ fs)) + 2) (field-within kind o f)
-    (within-end (spoken kind (nextOf o f) fs) (nextOf o f + 2) (nextOf o f + sizeOf (linesOf fs) + 2) (o + sizeOf (linesOf (f ∷ fs)) + 2) (spoken-within kind (nextOf o f) fs) (omega arith))
+    within-append (texts form o f) (spoken form (nextOf o f) fs) (o + 2) (nextOf o f + 2) (o + sizeOf (linesOf (f ∷ fs)) + 2) (field-within form o f)
+    (within-end (spoken form (nextOf o f) fs) (nextOf o f + 2) (nextOf o f + sizeOf (linesOf fs) + 2) (o + sizeOf (linesOf (f ∷ fs)) + 2) (spoken-within form (nextOf o f) fs) (omega arith))
 
 -- ---- 14 over the fields of a message: broken exactly if some text breaks a clause, at the first such text, and no such text stands before it
-pub rule14-broken : (kind : ℕ) (fs : List Field) (p : ℕ) → rule14 kind fs ≡ Broken 14 p → (signOf fs ≡ true) × FirstBreach (spoken kind 5 fs) p × NoneBefore p (spoken kind 5 fs)
+pub rule14-broken : (form : Form) (fs : List Field) (p : ℕ) → rule14 form fs ≡ Broken 14 p → (signOf fs ≡ true) × FirstBreach (spoken form 5 fs) p × NoneBefore p (spoken form 5 fs)
 unfolding rule14
-rule14-broken kind fs p e = go (signOf fs) refl e
+rule14-broken form fs p e = go (signOf fs) refl e
   where
-    go : (s : Bool) → signOf fs ≡ s → pick s (unheard (spoken kind 5 fs)) Fine ≡ Broken 14 p → (signOf fs ≡ true) × FirstBreach (spoken kind 5 fs) p × NoneBefore p (spoken kind 5 fs)
-    go true h e = (h, broken-first (spoken kind 5 fs) 14 p e .1, least (spoken kind 5 fs) 7 (5 + sizeOf (linesOf fs) + 2) 14 p (spoken-within kind 5 fs) e)
+    go : (s : Bool) → signOf fs ≡ s → pick s (unheard (spoken form 5 fs)) Fine ≡ Broken 14 p → (signOf fs ≡ true) × FirstBreach (spoken form 5 fs) p × NoneBefore p (spoken form 5 fs)
+    go true h e = (h, broken-first (spoken form 5 fs) 14 p e .1, least (spoken form 5 fs) 7 (5 + sizeOf (linesOf fs) + 2) 14 p (spoken-within form 5 fs) e)
     go false h e = absurd (fine-broken 14 p e)
 
-pub rule14-breaks : (kind : ℕ) (fs : List Field) (p : ℕ) → signOf fs ≡ true → FirstBreach (spoken kind 5 fs) p → rule14 kind fs ≡ Broken 14 p
+pub rule14-breaks : (form : Form) (fs : List Field) (p : ℕ) → signOf fs ≡ true → FirstBreach (spoken form 5 fs) p → rule14 form fs ≡ Broken 14 p
 unfolding rule14
-rule14-breaks kind fs p s f = ap (λ (q : Bool). pick q (unheard (spoken kind 5 fs)) Fine) s ∙ first-broken (spoken kind 5 fs) p f
+rule14-breaks form fs p s f = ap (λ (q : Bool). pick q (unheard (spoken form 5 fs)) Fine) s ∙ first-broken (spoken form 5 fs) p f
 
-pub rule14-fine : (kind : ℕ) (fs : List Field) → (rule14 kind fs ≡ Fine) ↔ (signOf fs ≡ true → Heard (spoken kind 5 fs))
+pub rule14-fine : (form : Form) (fs : List Field) → (rule14 form fs ≡ Fine) ↔ (signOf fs ≡ true → Heard (spoken form 5 fs))
 unfolding rule14
-rule14-fine kind fs = (λ e s. unheard-heard (spoken kind 5 fs) (rw s at e), go (signOf fs) refl)
+rule14-fine form fs = (λ e s. unheard-heard (spoken form 5 fs) (rw s at e), go (signOf fs) refl)
   where
-    go : (q : Bool) → signOf fs ≡ q → (signOf fs ≡ true → Heard (spoken kind 5 fs)) → pick q (unheard (spoken kind 5 fs)) Fine ≡ Fine
-    go true h f = heard-fine (spoken kind 5 fs) (f h)
+    go : (q : Bool) → signOf fs ≡ q → (signOf fs ≡ true → Heard (spoken form 5 fs)) → pick q (unheard (spoken form 5 fs)) Fine ≡ Fine
+    go true h f = heard-fine (spoken form 5 fs) (f h)
     go false h f = refl

@@ -7,7 +7,7 @@ use mathlib.Core.List.{List, [], _∷_, map}
 use Rattle.base.specs.Choice.{pick, all}
 use Rattle.base.specs.Bytes.{begins}
 use Rattle.base.proofs.Bools.{both}
-use Rattle.values.specs.Values.{isTax}
+use Rattle.contents.specs.Tests.{looksTax}
 use Rattle.roles.specs.Role.{Part, copy, name, taxName, taxed, cast}
 use Rattle.roles.specs.declared.Shape.{Shape}
 use Rattle.roles.specs.declared.Shape.the-variants.{Plain, Payer, Payee, Agent, Details, Note103, Note202}
@@ -28,7 +28,7 @@ pub record Lines (turn : List ℕ → List ℕ) (line : Part → List ℕ) : Typ
 abbrev pub Steady : (List ℕ → List ℕ) → Part → Type 0
 Steady turn (copy p) = Unit {0}
 Steady turn (name p) = begins 47 (turn p) ≡ begins 47 p
-Steady turn (taxName p) = (begins 47 (turn p) ≡ begins 47 p) × (isTax (turn p) ≡ false)
+Steady turn (taxName p) = (begins 47 (turn p) ≡ begins 47 p) × (looksTax (turn p) ≡ false)
 
 abbrev pub AllSteady : (List ℕ → List ℕ) → List Part → Type 0
 AllSteady turn [] = Unit {0}
@@ -38,7 +38,7 @@ AllSteady turn (x ∷ xs) = Steady turn x × AllSteady turn xs
 abbrev pub untaxed : Part → Bool
 untaxed (copy p) = true
 untaxed (name p) = true
-untaxed (taxName p) = not (isTax p)
+untaxed (taxName p) = not (looksTax p)
 
 names-untaxed : (ps : List (List ℕ)) → all untaxed (map name ps) ≡ true
 names-untaxed [] = refl
@@ -50,9 +50,9 @@ copies-untaxed (p ∷ ps) = copies-untaxed ps
 
 taxed-untaxed : (ps : List (List ℕ)) → all untaxed (taxed ps) ≡ true
 taxed-untaxed [] = refl
-taxed-untaxed (p ∷ ps) = both (go (isTax p) refl) (names-untaxed ps)
+taxed-untaxed (p ∷ ps) = both (go (looksTax p) refl) (names-untaxed ps)
   where
-    go : (b : Bool) → isTax p ≡ b → untaxed (pick b (copy p) (taxName p)) ≡ true
+    go : (b : Bool) → looksTax p ≡ b → untaxed (pick b (copy p) (taxName p)) ≡ true
     go true e = refl
     go false e = ap not e
 
@@ -87,7 +87,7 @@ module _ (turn : List ℕ → List ℕ) (line : Part → List ℕ) (by : Lines t
   names-turned [] = refl
   names-turned (p ∷ ps) = ap₂ (λ (l : List ℕ) (k : List Part). name l ∷ k) (by .named p) (names-turned ps)
 
-  tax-by : (b : Bool) (p : List ℕ) (ps : List (List ℕ)) → isTax p ≡ b → Steady turn (pick b (copy p) (taxName p))
+  tax-by : (b : Bool) (p : List ℕ) (ps : List (List ℕ)) → looksTax p ≡ b → Steady turn (pick b (copy p) (taxName p))
       → taxed (map line (pick b (copy p) (taxName p) ∷ map name ps)) ≡ map (turned turn) (pick b (copy p) (taxName p) ∷ map name ps)
   tax-by true p ps e w =
       ap (λ (l : List ℕ). taxed (l ∷ map line (map name ps))) (by .copied p) ∙ ap₂ (λ (q : Bool) (k : List Part). pick q (copy p) (taxName p) ∷ k) e (names-turned ps)
@@ -97,7 +97,7 @@ module _ (turn : List ℕ → List ℕ) (line : Part → List ℕ) (by : Lines t
 
   tax-turned : (ps : List (List ℕ)) → AllSteady turn (taxed ps) → taxed (map line (taxed ps)) ≡ map (turned turn) (taxed ps)
   tax-turned [] w = refl
-  tax-turned (p ∷ ps) w = tax-by (isTax p) p ps refl (w .0)
+  tax-turned (p ∷ ps) w = tax-by (looksTax p) p ps refl (w .0)
 
   front-by : (b : Bool) (p : List ℕ) → begins 47 p ≡ false → Steady turn (pick b (copy p) (taxName p)) → begins 47 (line (pick b (copy p) (taxName p))) ≡ false
   front-by true p e w = ap (begins 47) (by .copied p) ∙ e
@@ -111,9 +111,9 @@ module _ (turn : List ℕ → List ℕ) (line : Part → List ℕ) (by : Lines t
       ap (λ (l : List ℕ). pick (begins 47 l) (copy l ∷ taxed ks) (taxed (l ∷ ks))) (by .copied p)
       ∙ ap (λ (q : Bool). pick q (copy p ∷ taxed ks) (taxed (p ∷ ks))) e ∙ ap (λ (k : List Part). copy p ∷ k) (tax-turned ps (w .1))
   payer-by false p ps e w =
-      let l : List ℕ = line (pick (isTax p) (copy p) (taxName p)) in
+      let l : List ℕ = line (pick (looksTax p) (copy p) (taxName p)) in
       let ks : List (List ℕ) = map line (map name ps) in
-      ap (λ (q : Bool). pick q (copy l ∷ taxed ks) (taxed (l ∷ ks))) (front-by (isTax p) p e (w .0)) ∙ tax-turned (p ∷ ps) w
+      ap (λ (q : Bool). pick q (copy l ∷ taxed ks) (taxed (l ∷ ks))) (front-by (looksTax p) p e (w .0)) ∙ tax-turned (p ∷ ps) w
 
   payee-by : (b : Bool) (p : List ℕ) (ps : List (List ℕ)) → begins 47 p ≡ b → AllSteady turn (pick b (copy p) (name p) ∷ taxed ps)
       → cast Payee (map line (pick b (copy p) (name p) ∷ taxed ps)) ≡ map (turned turn) (pick b (copy p) (name p) ∷ taxed ps)

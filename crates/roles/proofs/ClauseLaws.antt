@@ -10,7 +10,7 @@ use borrow.Author.Tests.{ne-eqb}
 use Rattle.base.specs.Choice.{pick}
 use Rattle.base.specs.Bytes.{byte, isIn, begins}
 use Rattle.alphabets.specs.Pieces.{pieceIn, signsFrom}
-use Rattle.values.specs.Values.{numbered, isTax}
+use Rattle.contents.specs.Tests.{looksTax}
 use Rattle.roles.specs.Speech.{named, taxPlaced}
 use Rattle.roles.specs.Rule14.{hidden, isInn, taxLike}
 use Rattle.roles.specs.Found.{muteIn, breaksIn}
@@ -28,12 +28,12 @@ named-is t b = go (muteIn (pieceIn t false b)) (begins 39 b)
     go false true = refl
     go false false = refl
 
-pub tax-is : (t b : List ℕ) → pick (breaksIn t named b) true (pick (isTax (signsFrom t 4 false b 0)) true (numbered (200 ∷ 205 ∷ 205 ∷ []) (signsFrom t 4 false b 0))) ≡ breaksIn t taxPlaced b
-unfolding breaksIn taxLike isInn
-tax-is t b = go (muteIn (pieceIn t false b)) (hidden b (signsFrom t 4 false b 0)) (isTax (signsFrom t 4 false b 0))
+pub tax-is : (t b : List ℕ) → pick (breaksIn t named b) true (pick (looksTax (signsFrom t 4 false b 0)) true (isInn (signsFrom t 4 false b 0))) ≡ breaksIn t taxPlaced b
+unfolding breaksIn taxLike
+tax-is t b = go (muteIn (pieceIn t false b)) (hidden b (signsFrom t 4 false b 0)) (looksTax (signsFrom t 4 false b 0))
   where
     k : Bool
-    k = numbered (200 ∷ 205 ∷ 205 ∷ []) (signsFrom t 4 false b 0)
+    k = isInn (signsFrom t 4 false b 0)
 
     go : (q h r : Bool) → pick (q || h) true (pick r true k) ≡ (q || (h || (r || k)))
     go true h r = refl

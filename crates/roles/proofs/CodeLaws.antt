@@ -7,8 +7,9 @@ use native.Mathlib.Omega.{arith}
 use lib.Dec.{eqb, ltb}
 use lib.ListN.{length, getD, drop}
 use borrow.Author.Tests.{ne-eqb}
+use Rattle.types.specs.declared.Form.{Form}
 use Rattle.base.specs.Choice.{pick, all}
-use Rattle.base.specs.Bytes.{isIn, begins, empty, without}
+use Rattle.base.specs.Bytes.{byte, digit, isIn, begins, empty, same, without}
 use Rattle.base.specs.Rules.{then}
 use Rattle.base.specs.Calls.{Answer, said, stuck, textOf}
 use Rattle.base.specs.declared.Verdict.the-variants.{Broken}
@@ -24,8 +25,9 @@ use Rattle.fields.specs.Field.{Field, field}
 use Rattle.fields.specs.Places.{sizeOf, startOf, nextOf}
 use Rattle.fields.specs.ByLines.{joined}
 use Rattle.fields.proofs.ContentLaws.{lines-joined}
-use Rattle.values.proofs.ValueLaws.{joined-length}
-use Rattle.values.specs.Values.{numbered, isTax, isRpp}
+use Rattle.fields.proofs.PlaceLaws.{joined-length}
+use Rattle.contents.specs.Tests.{numbered, looksTax}
+use Rattle.contents.specs.Parts.{opensRpp}
 use Rattle.roles.specs.Role.{Part, copy, name, taxName, lineOf, shapeOf, cast}
 use Rattle.roles.specs.Speech.{Manner, named, taxPlaced, told, Speech, speech, saidAt, names, behind, details, codeSize, noted, speeches}
 use Rattle.roles.specs.Rule14.{mute, hidden, isInn, taxLike, clauses, breaks, unheard, texts, spoken}
@@ -36,17 +38,25 @@ use Rattle.roles.specs.declared.Spot.the-variants.{At}
 use Rattle.roles.proofs.BreachLaws.{first-clause, unheard-append, unheard-within, speeches-within}
 
 -- ---- the clauses look at four signs of a reading
-module _ (d u : List ℕ) (h : (j : ℕ) → j < 4 → getD d j 0 ≡ getD u j 0) where
-  same-numbered : (x y z : ℕ) → numbered (x ∷ y ∷ z ∷ []) d ≡ numbered (x ∷ y ∷ z ∷ []) u
-  same-numbered x y z = rw (h 0 (omega arith), h 1 (omega arith), h 2 (omega arith), h 3 (omega arith))
+module _ (x y z : ℕ) (a : eqb 0 x ≡ false) (b : eqb 0 y ≡ false) (c : eqb 0 z ≡ false) where
+  numbered-by : (s : List ℕ) → numbered (x ∷ y ∷ z ∷ []) s ≡ ((eqb (byte s 0) x && (eqb (byte s 1) y && (eqb (byte s 2) z && true))) && digit (byte s 3))
+  unfolding same
+  numbered-by [] = rw a
+  numbered-by (p ∷ []) = rw b
+  numbered-by (p ∷ q ∷ []) = rw c
+  numbered-by (p ∷ q ∷ r ∷ s) = refl
 
+  numbered-same : (d u : List ℕ) → ((j : ℕ) → j < 4 → getD d j 0 ≡ getD u j 0) → numbered (x ∷ y ∷ z ∷ []) d ≡ numbered (x ∷ y ∷ z ∷ []) u
+  numbered-same d u h = numbered-by d ∙ rw (h 0 (omega arith), h 1 (omega arith), h 2 (omega arith), h 3 (omega arith)) (sym (numbered-by u))
+
+module _ (d u : List ℕ) (h : (j : ℕ) → j < 4 → getD d j 0 ≡ getD u j 0) where
   same-hidden : (b : List ℕ) → hidden b d ≡ hidden b u
   unfolding hidden
   same-hidden b = ap (λ (n : ℕ). begins 39 b && isIn n (47 ∷ 58 ∷ 45 ∷ [])) (h 0 (omega arith))
 
   same-like : taxLike d ≡ taxLike u
-  unfolding taxLike isTax isInn
-  same-like = ap₂ (λ (p q : Bool). p || q) (same-numbered 73 78 78) (same-numbered 200 205 205)
+  unfolding taxLike looksTax isInn
+  same-like = ap₂ (λ (p q : Bool). p || q) (numbered-same 73 78 78 refl refl refl d u h) (numbered-same 200 205 205 refl refl refl d u h)
 
   same-clauses : (m : Manner) (q : Bool) (b : List ℕ) → clauses m q b d ≡ clauses m q b u
   same-clauses told q b = refl
@@ -108,7 +118,7 @@ details-moved front mark o i (l ∷ ls) = ap (λ (k : ℕ). speech told k (drop 
 noted-moved : (s : Bool) (o i : ℕ) (ls : List (List ℕ)) → noted s (o + i) ls ≡ map (moved o) (noted s i ls)
 unfolding noted
 noted-moved s o i [] = refl
-noted-moved s o i (l ∷ ls) = go (isRpp l)
+noted-moved s o i (l ∷ ls) = go (opensRpp l)
   where
     go : (q : Bool) → pick q (details (5 + codeSize s) 2 (o + i + length l + 2) ls) (details (5 + codeSize s) 2 (o + i) (l ∷ ls)) ≡ map (moved o) (pick q (details (5 + codeSize s) 2 (i + length l + 2) ls) (details (5 + codeSize s) 2 i (l ∷ ls)))
     go true =
@@ -137,27 +147,27 @@ found-unheard o (speech m p b ∷ xs) = ap (λ (q : Bool). pick q (Broken 14 (o 
     go false e = e
 
 -- one field: its content is its lines with CR LF between them
-pub field-found : (kind o : ℕ) (t l : List ℕ) (ls : List (List ℕ)) → all (without 13) (l ∷ ls) ≡ true
-    → unheard (texts kind o (field t (l ∷ ls))) ≡ verdictAt (startOf o (field t (l ∷ ls))) (brokenIn codes kind t (joined (l ∷ ls)))
+pub field-found : (form : Form) (o : ℕ) (t l : List ℕ) (ls : List (List ℕ)) → all (without 13) (l ∷ ls) ≡ true
+    → unheard (texts form o (field t (l ∷ ls))) ≡ verdictAt (startOf o (field t (l ∷ ls))) (brokenIn codes form t (joined (l ∷ ls)))
 unfolding brokenIn
-field-found kind o t l ls e =
+field-found form o t l ls e =
     let n : ℕ = startOf o (field t (l ∷ ls)) in
     let z : n ≡ n + 0 = omega arith in
-    ap (λ (k : ℕ). unheard (speeches true (shapeOf kind t) k (l ∷ ls))) z
-    ∙ ap unheard (speeches-moved true (shapeOf kind t) n 0 (l ∷ ls))
-    ∙ found-unheard n (speeches true (shapeOf kind t) 0 (l ∷ ls))
-    ∙ ap (λ (k : List (List ℕ)). verdictAt n (found codes (speeches true (shapeOf kind t) 0 k))) (sym (lines-joined l ls e))
+    ap (λ (k : ℕ). unheard (speeches true (shapeOf form t) k (l ∷ ls))) z
+    ∙ ap unheard (speeches-moved true (shapeOf form t) n 0 (l ∷ ls))
+    ∙ found-unheard n (speeches true (shapeOf form t) 0 (l ∷ ls))
+    ∙ ap (λ (k : List (List ℕ)). verdictAt n (found codes (speeches true (shapeOf form t) 0 k))) (sym (lines-joined l ls e))
 
 -- the place found lies in the content, or just behind it
-pub spot-within : (kind : ℕ) (t l : List ℕ) (ls : List (List ℕ)) (p : ℕ) → all (without 13) (l ∷ ls) ≡ true
-    → brokenIn codes kind t (joined (l ∷ ls)) ≡ At p → p ≤ length (joined (l ∷ ls)) + 4
-spot-within kind t l ls p e u =
+pub spot-within : (form : Form) (t l : List ℕ) (ls : List (List ℕ)) (p : ℕ) → all (without 13) (l ∷ ls) ≡ true
+    → brokenIn codes form t (joined (l ∷ ls)) ≡ At p → p ≤ length (joined (l ∷ ls)) + 4
+spot-within form t l ls p e u =
     let n : ℕ = startOf 0 (field t (l ∷ ls)) in
     let z = joined-length l ls in
-    let w = unheard-within (texts kind 0 (field t (l ∷ ls))) n (n + sizeOf (l ∷ ls) + 2) 14 (n + p) (speeches-within true (shapeOf kind t) n (l ∷ ls)) (field-found kind 0 t l ls e ∙ ap (verdictAt n) u) in
+    let w = unheard-within (texts form 0 (field t (l ∷ ls))) n (n + sizeOf (l ∷ ls) + 2) 14 (n + p) (speeches-within true (shapeOf form t) n (l ∷ ls)) (field-found form 0 t l ls e ∙ ap (verdictAt n) u) in
     omega (arith, w, z)
 
 -- field by field
-pub spoken-next : (kind o : ℕ) (f : Field) (fs : List Field) → unheard (spoken kind o (f ∷ fs)) ≡ then (unheard (texts kind o f)) (unheard (spoken kind (nextOf o f) fs))
+pub spoken-next : (form : Form) (o : ℕ) (f : Field) (fs : List Field) → unheard (spoken form o (f ∷ fs)) ≡ then (unheard (texts form o f)) (unheard (spoken form (nextOf o f) fs))
 unfolding spoken
-spoken-next kind o f fs = unheard-append (texts kind o f) (spoken kind (nextOf o f) fs)
+spoken-next form o f fs = unheard-append (texts form o f) (spoken form (nextOf o f) fs)

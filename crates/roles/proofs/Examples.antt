@@ -4,7 +4,7 @@ use Rattle.base.specs.Examples.{AllHold}
 use Rattle.base.specs.Bytes.{isIn, digit, capital, letter, marks, shared, xset, same}
 use Rattle.alphabets.specs.Grid.{grid, sign}
 use Rattle.alphabets.specs.Bank.{reads}
-use Rattle.values.specs.Values.{isTax}
+use Rattle.contents.specs.Tests.{looksTax}
 use Rattle.contents.specs.Tags.{tags103, tags202, heldBy}
 use Rattle.roles.specs.Role.{shapeOf, cast}
 use Rattle.roles.specs.Speech.{names, behind, details, noted, speeches}
@@ -13,6 +13,6 @@ use Rattle.roles.specs.Rule14.{hidden, isInn, taxLike, breaks, unheard, 
 use Rattle.roles.specs.Cases.{cases, Holds}
 
 pub worked : AllHold Holds cases
-unfolding cases isIn digit capital letter marks shared xset same grid sign reads tags103 tags202 shapeOf heldBy isTax cast names behind details noted speeches hidden isInn taxLike breaks unheard spoken signOf rule14
+unfolding cases isIn digit capital letter marks shared xset same grid sign reads tags103 tags202 shapeOf heldBy looksTax cast names behind details noted speeches hidden isInn taxLike breaks unheard spoken signOf rule14
 worked =
     (refl, (refl, (refl, (refl, (refl, (refl, (refl, (refl, (refl, (refl, (refl, (refl, (refl, (refl, (refl, (refl, (refl, (refl, (refl, (refl, (refl, (refl, (refl, (refl, (refl, (refl, (refl, (refl, (refl, (refl, (refl, (refl, (refl, (refl, (refl, (refl, (refl, (refl, (refl, (refl, (refl, (refl, (refl, (refl, (refl, (refl, (refl, (refl, (refl, (refl, (refl, (refl, (refl, (refl, (refl, (refl, (refl, (refl, (refl, tt)))))))))))))))))))))))))))))))))))))))))))))))))))))))))))

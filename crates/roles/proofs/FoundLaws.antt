@@ -9,6 +9,7 @@ use borrow.Author.Tests.{eq-eqb, ne-eqb, lt-ltb, le-ltb}
 use lib.Dec.{eqb, ltb}
 use lib.ListN.{length, take, drop, drop-of-length-le}
 use lib.Seq.{drop-nil}
+use Rattle.types.specs.declared.Form.{Form}
 use Rattle.base.specs.Choice.{pick}
 use Rattle.base.specs.Bytes.{begins, upTo}
 use Rattle.alphabets.specs.Pieces.{pieceIn, pieceOn, pieceAfter}
@@ -16,7 +17,8 @@ use Rattle.alphabets.specs.declared.pieces.Piece.{Piece}
 use Rattle.alphabets.specs.declared.pieces.Piece.the-variants.{Read, Stops}
 use Rattle.alphabets.proofs.PieceLaws.{piece-append}
 use Rattle.fields.specs.Lines.{split, linesIn}
-use Rattle.values.specs.Values.{isTax, isRpp}
+use Rattle.contents.specs.Tests.{looksTax}
+use Rattle.contents.specs.Parts.{opensRpp}
 use Rattle.roles.specs.Role.{copy, name, taxName, shapeOf, taxed, cast}
 use Rattle.roles.specs.Speech.{named, taxPlaced, names, behind, toldAt, details, noted, speeches}
 use Rattle.roles.specs.Found.{linesPast, muteIn, breaksIn, found, brokenIn, castFrom, lineBreaks, toldText, muteAfter}
@@ -31,7 +33,7 @@ names-line : (t : List ℕ) (i : ℕ) (tax : Bool) (l : List ℕ) (ls : List (Li
     → found t (names i (castFrom tax (l ∷ ls))) ≡ pick (lineBreaks t tax l) (At i) (found t (names (i + length l + 2) (castFrom false ls)))
 unfolding names found lineBreaks
 names-line t i false l ls = refl
-names-line t i true l ls = go (isTax l)
+names-line t i true l ls = go (looksTax l)
   where
     go : (q : Bool) → found t (names i (pick q (copy l) (taxName l) ∷ map name ls)) ≡ pick (pick q false (breaksIn t taxPlaced l)) (At i) (found t (names (i + length l + 2) (map name ls)))
     go true = refl
@@ -116,21 +118,21 @@ module _ (t c : List ℕ) (e : ℕ) (q : e ≡ 0 + upTo 13 (drop 0 c)) where
   agent-names = sym (by-first Agent ∙ after-copy false)
 
   -- 72 in 202
-  note-by : (r : Bool) → r ≡ isRpp (take e c) → found t (speeches true Note202 0 (linesIn c)) ≡ found t (pick r (details 16 2 (e + 2) (linesPast c e)) (details 16 2 0 (linesIn c)))
+  note-by : (r : Bool) → r ≡ opensRpp (take e c) → found t (speeches true Note202 0 (linesIn c)) ≡ found t (pick r (details 16 2 (e + 2) (linesPast c e)) (details 16 2 0 (linesIn c)))
   unfolding speeches noted
   note-by r b =
       by-first Note202
       ∙ ap₂ (λ (u : Bool) (k : ℕ). found t (pick u (details 16 2 k (linesPast c e)) (details 16 2 0 (take e c ∷ linesPast c e)))) (sym b) width
       ∙ ap (λ (ls : List (List ℕ)). found t (pick r (details 16 2 (e + 2) (linesPast c e)) (details 16 2 0 ls))) (sym (lines-head c e q))
 
-  pub note-none : false ≡ isRpp (take e c) → found t (details 16 2 0 (linesIn c)) ≡ found t (speeches true Note202 0 (linesIn c))
+  pub note-none : false ≡ opensRpp (take e c) → found t (details 16 2 0 (linesIn c)) ≡ found t (speeches true Note202 0 (linesIn c))
   note-none b = sym (note-by false b)
 
-  pub note-alone : true ≡ isRpp (take e c) → length c ≤ e → Nowhere ≡ found t (speeches true Note202 0 (linesIn c))
+  pub note-alone : true ≡ opensRpp (take e c) → length c ≤ e → Nowhere ≡ found t (speeches true Note202 0 (linesIn c))
   unfolding details found
   note-alone b h = sym (note-by true b ∙ ap (λ (ls : List (List ℕ)). found t (details 16 2 (e + 2) ls)) (past-none c e h))
 
-  pub note-more : true ≡ isRpp (take e c) → e < length c → found t (details 16 2 (e + 2) (linesIn (drop (e + 2) c))) ≡ found t (speeches true Note202 0 (linesIn c))
+  pub note-more : true ≡ opensRpp (take e c) → e < length c → found t (details 16 2 (e + 2) (linesIn (drop (e + 2) c))) ≡ found t (speeches true Note202 0 (linesIn c))
   note-more b h = sym (note-by true b ∙ ap (λ (ls : List (List ℕ)). found t (details 16 2 (e + 2) ls)) (past-some c e h))
 
 -- ---- a text over lines, piece by piece
@@ -222,9 +224,9 @@ module _ (t c : List ℕ) (at front mark e : ℕ) (q : e ≡ at + upTo 13 (drop 
         ap At z ∙ ap (λ (u : Bool). At (pick u (at + front) (at + (length (take (e - at) (drop at c)) + 2 + mark)))) (sym g) ∙ details-mute
 
 -- ---- by the shape
-pub by-shape : (t : List ℕ) (kind : ℕ) (tag c : List ℕ) (s : Shape) (r : Spot) → s ≡ shapeOf kind tag → r ≡ found t (speeches true s 0 (linesIn c)) → r ≡ brokenIn t kind tag c
+pub by-shape : (t : List ℕ) (form : Form) (tag c : List ℕ) (s : Shape) (r : Spot) → s ≡ shapeOf form tag → r ≡ found t (speeches true s 0 (linesIn c)) → r ≡ brokenIn t form tag c
 unfolding brokenIn
-by-shape t kind tag c s r e f = f ∙ ap (λ (z : Shape). found t (speeches true z 0 (linesIn c))) e
+by-shape t form tag c s r e f = f ∙ ap (λ (z : Shape). found t (speeches true z 0 (linesIn c))) e
 
 pub plain-none : (t : List ℕ) (ls : List (List ℕ)) → Nowhere ≡ found t (speeches true Plain 0 ls)
 unfolding speeches found

@@ -8,7 +8,7 @@ use types.Run.{OneOf, miss}
 use denote.Enum.Declared.{tagOf}
 use Rattle.base.specs.Choice.{pick}
 use Rattle.base.specs.Bytes.{begins}
-use Rattle.values.specs.Values.{isTax}
+use Rattle.contents.specs.Tests.{looksTax}
 use Rattle.roles.specs.Role.{Part, copy, name, taxName, lineOf, taxed, cast}
 use Rattle.roles.specs.Parts.{castBy, named, nextRole}
 use Rattle.roles.specs.declared.Role.{Role}
@@ -18,10 +18,10 @@ use Rattle.roles.specs.declared.Shape.the-variants.{Plain, Payer, Payee,
 use Rattle.roles.proofs.Shape.{the-type}
 
 pub payer-slash : (p : List ℕ) → begins 47 p ≡ true → false ≡ named OfPayer p
-payer-slash p e = sym (ap (λ (b : Bool). not b && not (isTax p)) e)
+payer-slash p e = sym (ap (λ (b : Bool). not b && not (looksTax p)) e)
 
-pub payer-tax : (p : List ℕ) {r : Bool} → begins 47 p ≡ false → r ≡ isTax p → not r ≡ named OfPayer p
-payer-tax p e f = ap not f ∙ sym (ap (λ (b : Bool). not b && not (isTax p)) e)
+pub payer-tax : (p : List ℕ) {r : Bool} → begins 47 p ≡ false → r ≡ looksTax p → not r ≡ named OfPayer p
+payer-tax p e f = ap not f ∙ sym (ap (λ (b : Bool). not b && not (looksTax p)) e)
 
 -- with the sign, and without it
 pub sign-off : (s : Bool) (role : Role) (p : List ℕ) → s ≡ false → false ≡ (s && named role p)
@@ -37,10 +37,10 @@ payer-next role p b e f = ap (λ (c : Bool). pick c Taxed Names) f ∙ sym (ap (
 -- ---- the parts as they are cast
 abbrev pub firstPart : Role → List ℕ → Part
 firstPart Copies p = copy p
-firstPart OfPayer p = pick (begins 47 p) (copy p) (pick (isTax p) (copy p) (taxName p))
+firstPart OfPayer p = pick (begins 47 p) (copy p) (pick (looksTax p) (copy p) (taxName p))
 firstPart OfPayee p = pick (begins 47 p) (copy p) (name p)
 firstPart OfAgent p = copy p
-firstPart Taxed p = pick (isTax p) (copy p) (taxName p)
+firstPart Taxed p = pick (looksTax p) (copy p) (taxName p)
 firstPart Names p = name p
 
 pub cast-none : (role : Role) → castBy role [] ≡ []
@@ -57,7 +57,7 @@ unfolding cast
 cast-cons Copies p ps = refl
 cast-cons OfPayer p ps = go (begins 47 p)
   where
-    go : (b : Bool) → pick b (copy p ∷ taxed ps) (taxed (p ∷ ps)) ≡ pick b (copy p) (pick (isTax p) (copy p) (taxName p)) ∷ castBy (pick b Taxed Names) ps
+    go : (b : Bool) → pick b (copy p ∷ taxed ps) (taxed (p ∷ ps)) ≡ pick b (copy p) (pick (looksTax p) (copy p) (taxName p)) ∷ castBy (pick b Taxed Names) ps
     go true = refl
     go false = refl
 cast-cons OfPayee p ps = refl
@@ -67,7 +67,7 @@ cast-cons Names p ps = refl
 
 pub first-line : (role : Role) (p : List ℕ) → lineOf (firstPart role p) ≡ p
 first-line Copies p = refl
-first-line OfPayer p = go (begins 47 p) (isTax p)
+first-line OfPayer p = go (begins 47 p) (looksTax p)
   where
     go : (a b : Bool) → lineOf (pick a (copy p) (pick b (copy p) (taxName p))) ≡ p
     go true b = refl
@@ -79,7 +79,7 @@ first-line OfPayee p = go (begins 47 p)
     go true = refl
     go false = refl
 first-line OfAgent p = refl
-first-line Taxed p = go (isTax p)
+first-line Taxed p = go (looksTax p)
   where
     go : (a : Bool) → lineOf (pick a (copy p) (taxName p)) ≡ p
     go true = refl

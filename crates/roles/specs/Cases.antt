@@ -4,6 +4,7 @@ use Prim.Native.String.{String}
 use mathlib.Core.Path.{_≡_}
 use mathlib.Core.Bool.{Bool, true, false}
 use mathlib.Core.List.{List, [], _∷_}
+use Rattle.types.specs.Form.{formOf}
 use Rattle.base.specs.Quoted.{bytes}
 use Rattle.base.specs.Calls.{stuck}
 use Rattle.base.specs.declared.Verdict.the-variants.{Fine, Broken}
@@ -31,11 +32,11 @@ abbrev pub signed : List Field → List Field
 signed fs = of "20" ("+A" ∷ []) ∷ fs
 
 abbrev pub Holds : Case → Type 0
-Holds (takes kind fs) = rule14 kind (signed fs) ≡ Fine
-Holds (refuses kind fs p) = rule14 kind (signed fs) ≡ Broken 14 p
-Holds (silent s kind fs) = rule14 kind (of "20" (s ∷ []) ∷ fs) ≡ Fine
-Holds (casts kind t ls ps) = cast (shapeOf kind (bytes t)) (texts ls) ≡ ps
-Holds (says s kind t ls xs) = speeches s (shapeOf kind (bytes t)) 0 (texts ls) ≡ xs
+Holds (takes kind fs) = rule14 (formOf kind) (signed fs) ≡ Fine
+Holds (refuses kind fs p) = rule14 (formOf kind) (signed fs) ≡ Broken 14 p
+Holds (silent s kind fs) = rule14 (formOf kind) (of "20" (s ∷ []) ∷ fs) ≡ Fine
+Holds (casts kind t ls ps) = cast (shapeOf (formOf kind) (bytes t)) (texts ls) ≡ ps
+Holds (says s kind t ls xs) = speeches s (shapeOf (formOf kind) (bytes t)) 0 (texts ls) ≡ xs
 Holds (stops b k) = reading true (bytes b) ≡ stuck k
 
 -- one field, its content lines

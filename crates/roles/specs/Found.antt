@@ -5,6 +5,7 @@ use mathlib.Core.Bool.{Bool, true, false, _||_, _&&_, not}
 use mathlib.Core.List.{List, [], _∷_, _++_, map}
 use lib.Dec.{eqb, ltb}
 use lib.ListN.{length, drop}
+use Rattle.types.specs.declared.Form.{Form}
 use Rattle.base.specs.Choice.{pick}
 use Rattle.base.specs.declared.Verdict.{Verdict}
 use Rattle.base.specs.declared.Verdict.the-variants.{Fine, Broken}
@@ -12,7 +13,7 @@ use Rattle.alphabets.specs.Pieces.{pieceIn, signsFrom}
 use Rattle.alphabets.specs.declared.pieces.Piece.{Piece}
 use Rattle.alphabets.specs.declared.pieces.Piece.the-variants.{Read, Stops}
 use Rattle.fields.specs.Lines.{linesIn}
-use Rattle.values.specs.Values.{isTax}
+use Rattle.contents.specs.Tests.{looksTax}
 use Rattle.roles.specs.Role.{Part, name, shapeOf, taxed}
 use Rattle.roles.specs.Speech.{Manner, named, taxPlaced, Speech, speech, behind, speeches}
 use Rattle.roles.specs.Rule14.{clauses}
@@ -35,8 +36,8 @@ unfoldable pub found : List ℕ → List Speech → Spot
 found t [] = Nowhere
 found t (speech m o b ∷ xs) = pick (breaksIn t m b) (At o) (found t xs)
 
-unfoldable pub brokenIn : List ℕ → ℕ → List ℕ → List ℕ → Spot
-brokenIn t kind tag c = found t (speeches true (shapeOf kind tag) 0 (linesIn c))
+unfoldable pub brokenIn : List ℕ → Form → List ℕ → List ℕ → Spot
+brokenIn t form tag c = found t (speeches true (shapeOf form tag) 0 (linesIn c))
 
 -- as a verdict, the content at o
 abbrev pub verdictAt : ℕ → Spot → Verdict
@@ -50,7 +51,7 @@ castFrom true ls = taxed ls
 castFrom false ls = map name ls
 
 unfoldable pub lineBreaks : List ℕ → Bool → List ℕ → Bool
-lineBreaks t tax l = pick tax (pick (isTax l) false (breaksIn t taxPlaced l)) (breaksIn t named l)
+lineBreaks t tax l = pick tax (pick (looksTax l) false (breaksIn t taxPlaced l)) (breaksIn t named l)
 
 -- the text of details
 abbrev pub toldText : ℕ → ℕ → List (List ℕ) → List ℕ

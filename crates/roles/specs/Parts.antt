@@ -5,7 +5,7 @@ use mathlib.Core.Bool.{Bool, true, false, not, _&&_}
 use mathlib.Core.List.{List, map}
 use Rattle.base.specs.Choice.{pick}
 use Rattle.base.specs.Bytes.{begins}
-use Rattle.values.specs.Values.{isTax}
+use Rattle.contents.specs.Tests.{looksTax}
 use Rattle.roles.specs.Role.{Part, copy, name, taxed, cast}
 use Rattle.roles.specs.declared.Shape.{Shape}
 use Rattle.roles.specs.declared.Shape.the-variants.{Plain, Payer, Payee, Agent, Details, Note103, Note202}
@@ -24,10 +24,10 @@ castBy Names ps = map name ps
 -- the first part is a name
 abbrev pub named : Role → List ℕ → Bool
 named Copies p = false
-named OfPayer p = not (begins 47 p) && not (isTax p)
+named OfPayer p = not (begins 47 p) && not (looksTax p)
 named OfPayee p = not (begins 47 p)
 named OfAgent p = false
-named Taxed p = not (isTax p)
+named Taxed p = not (looksTax p)
 named Names p = true
 
 -- what the parts behind it are

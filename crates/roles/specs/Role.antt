@@ -2,12 +2,13 @@
 -- S6, S7). Assumes nothing.
 use Prim.Native.Nat.{ℕ}
 use mathlib.Core.List.{List, [], _∷_, map}
+use Rattle.types.specs.declared.Form.{Form}
 use Rattle.base.specs.Choice.{pick}
 use Rattle.base.specs.Bytes.{begins}
 use Rattle.contents.specs.declared.Content.{Content}
 use Rattle.contents.specs.declared.Content.the-variants as holds
 use Rattle.contents.specs.Tags.{heldBy}
-use Rattle.values.specs.Values.{isTax}
+use Rattle.contents.specs.Tests.{looksTax}
 use Rattle.roles.specs.declared.Shape.{Shape}
 use Rattle.roles.specs.declared.Shape.the-variants.{Plain, Payer, Payee, Agent, Details, Note103, Note202}
 
@@ -32,8 +33,8 @@ shapeFor holds.Document = Note103
 shapeFor holds.DocumentAndDetails = Note202
 shapeFor holds.Regulatory = Plain
 
-unfoldable pub shapeOf : ℕ → List ℕ → Shape
-shapeOf kind t = shapeFor (heldBy kind t)
+unfoldable pub shapeOf : Form → List ℕ → Shape
+shapeOf form t = shapeFor (heldBy form t)
 
 -- ---- the lines cast
 -- a line that is copied, a name, a name in the tax place
@@ -48,7 +49,7 @@ lineOf (taxName p) = p
 -- from the tax place on: a tax line there is copied
 abbrev pub taxed : List (List ℕ) → List Part
 taxed [] = []
-taxed (p ∷ ps) = pick (isTax p) (copy p) (taxName p) ∷ map name ps
+taxed (p ∷ ps) = pick (looksTax p) (copy p) (taxName p) ∷ map name ps
 
 -- details and notes are cut otherwise: here their lines are copied
 unfoldable pub cast : Shape → List (List ℕ) → List Part

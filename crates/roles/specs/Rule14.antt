@@ -10,8 +10,9 @@ use Rattle.base.specs.declared.Verdict.the-variants.{Fine, Broken}
 use Rattle.alphabets.specs.Bank.{reading}
 use Rattle.fields.specs.Field.{Field, field}
 use Rattle.fields.specs.Places.{startOf, nextOf}
+use Rattle.types.specs.declared.Form.{Form}
 use Rattle.types.specs.Sign.{signOf}
-use Rattle.values.specs.Values.{numbered, isTax}
+use Rattle.contents.specs.Tests.{numbered, looksTax}
 use Rattle.roles.specs.Role.{shapeOf}
 use Rattle.roles.specs.Speech.{Manner, named, taxPlaced, told, Speech, speech, speeches}
 
@@ -30,7 +31,7 @@ unfoldable pub isInn : List ℕ → Bool
 isInn d = numbered (200 ∷ 205 ∷ 205 ∷ []) d
 
 unfoldable pub taxLike : List ℕ → Bool
-taxLike d = isTax d || isInn d
+taxLike d = looksTax d || isInn d
 
 -- details meet the first clause, names the first two, a name in the tax place all three; q: the first clause is broken
 abbrev pub clauses : Manner → Bool → List ℕ → List ℕ → Bool
@@ -47,12 +48,12 @@ unheard [] = Fine
 unheard (speech m o b ∷ xs) = pick (breaks m b) (Broken 14 o) (unheard xs)
 
 -- the texts of a field with its colon at o, and of a message's fields, the first colon at o
-abbrev pub texts : ℕ → ℕ → Field → List Speech
-texts kind o (field t ls) = speeches true (shapeOf kind t) (startOf o (field t ls)) ls
+abbrev pub texts : Form → ℕ → Field → List Speech
+texts form o (field t ls) = speeches true (shapeOf form t) (startOf o (field t ls)) ls
 
-unfoldable pub spoken : ℕ → ℕ → List Field → List Speech
-spoken kind o [] = []
-spoken kind o (f ∷ fs) = texts kind o f ++ spoken kind (nextOf o f) fs
+unfoldable pub spoken : Form → ℕ → List Field → List Speech
+spoken form o [] = []
+spoken form o (f ∷ fs) = texts form o f ++ spoken form (nextOf o f) fs
 
-unfoldable pub rule14 : ℕ → List Field → Verdict
-rule14 kind fs = pick (signOf fs) (unheard (spoken kind 5 fs)) Fine
+unfoldable pub rule14 : Form → List Field → Verdict
+rule14 form fs = pick (signOf fs) (unheard (spoken form 5 fs)) Fine

@@ -5,7 +5,7 @@ use mathlib.Core.List.{List, [], _∷_, _++_}
 use lib.Dec.{ltb}
 use lib.ListN.{length, drop}
 use Rattle.base.specs.Choice.{pick}
-use Rattle.values.specs.Values.{isRpp}
+use Rattle.contents.specs.Parts.{opensRpp}
 use Rattle.roles.specs.Role.{Part, copy, name, taxName, lineOf, cast}
 use Rattle.roles.specs.declared.Shape.{Shape}
 use Rattle.roles.specs.declared.Shape.the-variants.{Plain, Payer, Payee, Agent, Details, Note103, Note202}
@@ -48,7 +48,7 @@ codeSize false = 9
 -- 72 in 202: perhaps an RPP line, then details behind /NZP/ and //
 unfoldable pub noted : Bool → ℕ → List (List ℕ) → List Speech
 noted s o [] = []
-noted s o (l ∷ ls) = pick (isRpp l) (details (5 + codeSize s) 2 (o + length l + 2) ls) (details (5 + codeSize s) 2 o (l ∷ ls))
+noted s o (l ∷ ls) = pick (opensRpp l) (details (5 + codeSize s) 2 (o + length l + 2) ls) (details (5 + codeSize s) 2 o (l ∷ ls))
 
 -- ---- the texts of a field's lines, which stand from o on; s: with the sign
 unfoldable pub speeches : Bool → Shape → ℕ → List (List ℕ) → List Speech

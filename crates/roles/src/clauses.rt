@@ -5,12 +5,13 @@ ghost use mathlib.Core.List.{[], _∷_};
 ghost use Rattle.base.specs.Bytes.{isIn, begins};
 ghost use Rattle.alphabets.specs.Pieces.{pieceIn};
 ghost use Rattle.roles.specs.Speech.{named, taxPlaced};
+ghost use Rattle.roles.specs.Rule14.{isInn};
 ghost use Rattle.roles.specs.Found.{muteIn, breaksIn, lineBreaks};
 use alphabets::pieces::Piece;
 use alphabets::pieces::first_signs;
 use alphabets::pieces::read_piece;
-use values::parts::is_numbered;
-use values::parts::is_tax;
+use contents::lines::looks_tax;
+use contents::pieces::is_numbered;
 
 fn is_mark(b: u8) -> bool
     ensures { λ r. ⌜ r ≡ isIn b (47 ∷ 58 ∷ 45 ∷ []) ⌝ }
@@ -62,6 +63,17 @@ pub(crate) fn breaks_named(back: &[u8; 256], name: &[u8]) -> bool
     is_mark(f[0])
 }
 
+// INN in Cyrillic.
+const INN: [u8; 3] = [200, 205, 205];
+
+// Whether a reading begins with INN in Cyrillic and a digit.
+pub fn is_inn(d: &[u8]) -> bool
+    ensures { λ r. ⌜ r ≡ isInn (now (d .entry)) ⌝ }
+{
+    let inn = INN;
+    is_numbered(d, &inn)
+}
+
 fn breaks_tax(back: &[u8; 256], name: &[u8]) -> bool
     ensures { λ r. ⌜ r ≡ breaksIn (now (back .entry)) taxPlaced (now (name .entry)) ⌝ }
 {
@@ -69,10 +81,10 @@ fn breaks_tax(back: &[u8; 256], name: &[u8]) -> bool
         return true;
     }
     let f = first_signs(back, name);
-    if is_tax(&f) {
+    if looks_tax(&f) {
         return true;
     }
-    is_numbered(&f, 200, 205, 205)
+    is_inn(&f)
 }
 
 // A line from the tax place on: a tax line there is no text.
@@ -82,7 +94,7 @@ pub(crate) fn breaks_line(back: &[u8; 256], tax: bool, line: &[u8]) -> bool
     if !tax {
         return breaks_named(back, line);
     }
-    if is_tax(line) {
+    if looks_tax(line) {
         return false;
     }
     breaks_tax(back, line)

@@ -1,5 +1,5 @@
 // Which lines of a field are copied, names or details, and what 14 says of its texts.
-mod clauses;
+pub mod clauses;
 pub mod parts;
 pub mod shapes;
 pub mod texts;

@@ -6,7 +6,7 @@ ghost use Rattle.roles.specs.Parts.{named, nextRole, firstRole};
 use super::Role;
 use super::Shape;
 use super::clauses::starts;
-use values::parts::is_tax;
+use contents::lines::looks_tax;
 
 // A payer's first part is an account, or stands in the tax place.
 fn is_payer_name(p: &[u8]) -> bool
@@ -15,7 +15,7 @@ fn is_payer_name(p: &[u8]) -> bool
     if starts(47, p) {
         return false;
     }
-    !is_tax(p)
+    !looks_tax(p)
 }
 
 // Whether a part is a name that the sign makes a text of.
@@ -30,7 +30,7 @@ pub fn is_spoken(sign: bool, role: Role, p: &[u8]) -> bool
         Role::OfPayer => is_payer_name(p),
         Role::OfPayee => !starts(47, p),
         Role::OfAgent => false,
-        Role::Taxed => !is_tax(p),
+        Role::Taxed => !looks_tax(p),
         Role::Names => true,
     }
 }

@@ -5,6 +5,7 @@ ghost use Rattle.roles.specs.Role.{shapeFor, shapeOf};
 use super::Shape;
 use contents::Content;
 use contents::tags::held_by;
+use types::Form;
 
 fn shape_for(content: Content) -> Shape
     ensures { λ r. ⌜ r ≡ shapeFor content ⌝ }
@@ -31,8 +32,8 @@ fn shape_for(content: Content) -> Shape
     }
 }
 
-pub fn shape_of(kind: u32, tag: u32) -> Shape
-    ensures { λ r. ⌜ r ≡ shapeOf kind (unpack tag) ⌝ }
+pub fn shape_of(form: Form, tag: u32) -> Shape
+    ensures { λ r. ⌜ r ≡ shapeOf form (unpack tag) ⌝ }
 {
-    shape_for(held_by(kind, tag))
+    shape_for(held_by(form, tag))
 }

@@ -19,8 +19,9 @@ use super::shapes::shape_of;
 use alphabets::pieces::Piece;
 use alphabets::pieces::read_piece;
 use base::marks::mark_at;
+use contents::pieces::opens_rpp;
 use fields::lines::next_line;
-use values::parts::is_rpp;
+use types::Form;
 
 // The lines behind the one that ends at end are names, the first in the tax place or not.
 fn in_names(back: &[u8; 256], c: &[u8], end: usize, tax: bool) -> Spot
@@ -136,7 +137,7 @@ fn in_note(back: &[u8; 256], c: &[u8]) -> Spot
     ensures { λ r. ⌜ r ≡ found (now (back .entry)) (speeches true Note202 0 (linesIn (now (c .entry)))) ⌝ }
 {
     let e = mark_at(13, c, 0);
-    if !is_rpp(&c[..e]) {
+    if !opens_rpp(&c[..e]) {
         return in_details(back, c, 0, 16, 2);
     }
     if c.len() <= e {
@@ -146,10 +147,10 @@ fn in_note(back: &[u8; 256], c: &[u8]) -> Spot
 }
 
 // The first text that breaks 14 in the content of a field with that packed tag, of a message with the sign.
-pub fn broken_text(back: &[u8; 256], kind: u32, tag: u32, content: &[u8]) -> Spot
-    ensures { λ r. ⌜ r ≡ brokenIn (now (back .entry)) kind (unpack tag) (now (content .entry)) ⌝ }
+pub fn broken_text(back: &[u8; 256], form: Form, tag: u32, content: &[u8]) -> Spot
+    ensures { λ r. ⌜ r ≡ brokenIn (now (back .entry)) form (unpack tag) (now (content .entry)) ⌝ }
 {
-    match shape_of(kind, tag) {
+    match shape_of(form, tag) {
         Shape::Plain => Spot::Nowhere,
         Shape::Payer => in_party(back, content, true),
         Shape::Payee => in_party(back, content, false),

@@ -17,6 +17,7 @@ use Rattle.base.proofs.Room.{over-sets, puts-by}
 use Rattle.base.specs.Bytes.{begins}
 use Rattle.alphabets.specs.Steps.{codes}
 use Rattle.fields.specs.Field.{fields}
+use Rattle.types.specs.declared.Form.{Form}
 use Rattle.types.specs.Walk.{rule18}
 use Rattle.frame.specs.declared.Frame.{Frame}
 use Rattle.frame.specs.Frame.{frameBy}
@@ -33,52 +34,52 @@ use Rattle.sheets.specs.Calls.{readRules, SheetTo}
 use Rattle.sheets.specs.Steps.{sheetBy, Sound}
 use Rattle.sheets.proofs.ReadLaws.{sheet-same}
 
-module _ (kind : ℕ) (m out : List ℕ) where
+module _ (form : Form) (m out : List ℕ) where
   -- 17 comes behind the message's refusal
-  pub last-17 : {v w : Verdict} → verdictOf kind m ≡ v → short (sheetOf kind m) out ≡ w → first (readRules kind m out) ≡ then v w
+  pub last-17 : {v w : Verdict} → verdictOf form m ≡ v → short (sheetOf form m) out ≡ w → first (readRules form m out) ≡ then v w
   unfolding verdictOf
-  last-17 e q = first-last (messageRules kind m) (short (sheetOf kind m) out) ∙ ap₂ then e q
+  last-17 e q = first-last (messageRules form m) (short (sheetOf form m) out) ∙ ap₂ then e q
 
-  pub own-refused : {n p : ℕ} → verdictOf kind m ≡ Broken n p → SheetTo kind m out (Refused n p) out
+  pub own-refused : {n p : ℕ} → verdictOf form m ≡ Broken n p → SheetTo form m out (Refused n p) out
   unfolding SheetTo
-  own-refused {n} {p} e = gives-refused (readRules kind m out) (sheetOf kind m) out n p (last-17 e refl)
+  own-refused {n} {p} e = gives-refused (readRules form m out) (sheetOf form m) out n p (last-17 e refl)
 
-  module _ (v : verdictOf kind m ≡ Fine) where
-    sized : {now after : List ℕ} {n : ℕ} → Puts (sheetOf kind m) now 0 n after → n ≡ length (sheetOf kind m)
+  module _ (v : verdictOf form m ≡ Fine) where
+    sized : {now after : List ℕ} {n : ℕ} → Puts (sheetOf form m) now 0 n after → n ≡ length (sheetOf form m)
     sized p = p .answers ∙ zero-add _
 
-    pub sheet-short : {now after : List ℕ} {n : ℕ} → Puts (sheetOf kind m) now 0 n after → length out < n → SheetTo kind m out (Refused 17 n) out
+    pub sheet-short : {now after : List ℕ} {n : ℕ} → Puts (sheetOf form m) now 0 n after → length out < n → SheetTo form m out (Refused 17 n) out
     unfolding SheetTo
     sheet-short {n = n} p h =
         let z = sized p in
-        gives-refused (readRules kind m out) (sheetOf kind m) out 17 n (last-17 v (is-short (sheetOf kind m) out (omega arith)) ∙ ap (Broken 17) (sym z))
+        gives-refused (readRules form m out) (sheetOf form m) out 17 n (last-17 v (is-short (sheetOf form m) out (omega arith)) ∙ ap (Broken 17) (sym z))
 
-    pub sheet-done : {now mid after : List ℕ} {n r : ℕ} → Puts (sheetOf kind m) now 0 n mid → n ≤ length out → Puts (sheetOf kind m) out 0 r after → SheetTo kind m out (Done n) after
+    pub sheet-done : {now mid after : List ℕ} {n r : ℕ} → Puts (sheetOf form m) now 0 n mid → n ≤ length out → Puts (sheetOf form m) out 0 r after → SheetTo form m out (Done n) after
     unfolding SheetTo
     sheet-done {after = after} {n = n} p h q =
-        let t : List ℕ = sheetOf kind m in
+        let t : List ℕ = sheetOf form m in
         let z = sized p in
         let w : after ≡ over t out = q .fills (omega arith) ∙ sym (over-sets t out (omega arith)) in
-        subst (λ (o : List ℕ). Gives (readRules kind m out) t out (Done n) o) (sym w)
-        (subst (λ (j : ℕ). Gives (readRules kind m out) t out (Done j) (over t out)) (sym z)
-        (gives-done (readRules kind m out) t out (last-17 v (not-short t out (omega arith)))))
+        subst (λ (o : List ℕ). Gives (readRules form m out) t out (Done n) o) (sym w)
+        (subst (λ (j : ℕ). Gives (readRules form m out) t out (Done j) (over t out)) (sym z)
+        (gives-done (readRules form m out) t out (last-17 v (not-short t out (omega arith)))))
 
 -- what is put is the sheet
-pub sheet-put : (kind : ℕ) (m : List ℕ) → verdictOf kind m ≡ Fine → {b : List ℕ} → b ≡ codes → {g : Bool} → g ≡ begins 43 (firstOf (fields m)) → {out after : List ℕ} {r : ℕ}
-    → Puts (line (typeRecord kind) ++ 10 ∷ sheetBy b kind g (fields m)) out 0 r after → Puts (sheetOf kind m) out 0 r after
-sheet-put kind m v k i p =
-    let t = taken kind m (frame-clean kind m v) in
-    puts-by (ap₂ (λ (x : List ℕ) (s : Bool). line (typeRecord kind) ++ 10 ∷ sheetBy x kind s (fields m)) k (sign-is kind m (t .walk-fine) i) ∙ sheet-same kind m v) p
+pub sheet-put : (form : Form) (m : List ℕ) → verdictOf form m ≡ Fine → {b : List ℕ} → b ≡ codes → {g : Bool} → g ≡ begins 43 (firstOf (fields m)) → {out after : List ℕ} {r : ℕ}
+    → Puts (line (typeRecord form) ++ 10 ∷ sheetBy b form g (fields m)) out 0 r after → Puts (sheetOf form m) out 0 r after
+sheet-put form m v k i p =
+    let t = taken form m (frame-clean form m v) in
+    puts-by (ap₂ (λ (x : List ℕ) (s : Bool). line (typeRecord form) ++ 10 ∷ sheetBy x form s (fields m)) k (sign-is form m (t .walk-fine) i) ∙ sheet-same form m v) p
 
 -- ---- what a judged message says
-module _ (kind : ℕ) (m : List ℕ) where
-  pub type-fine : verdictOf kind m ≡ Fine → rule18 kind ≡ Fine
-  type-fine v = accepted-rules kind m v .pass .type
+module _ (form : Form) (m : List ℕ) where
+  pub type-fine : verdictOf form m ≡ Fine → rule18 form ≡ Fine
+  type-fine v = accepted-rules form m v .pass .type
 
-  module _ {f : Frame} (e : f ≡ judgedOf kind m) (q : f .verdict ≡ Fine) where
+  module _ {f : Frame} (e : f ≡ judgedOf form m) (q : f .verdict ≡ Fine) where
     judged-count : f .fields ≡ length (fields m)
     unfolding judgedOf frameBy
-    judged-count = ap (λ (x : Frame). x .fields) (e ∙ ap (λ (v : Verdict). frameBy v kind m) (judged-by kind m e q))
+    judged-count = ap (λ (x : Frame). x .fields) (e ∙ ap (λ (v : Verdict). frameBy v form m) (judged-by form m e q))
 
-    pub judged-sound : Sound kind m (f .spots) (f .fields)
-    judged-sound = record { fine = judged-by kind m e q; settled = settled (judged-found kind m e q); count = judged-count }
+    pub judged-sound : Sound form m (f .spots) (f .fields)
+    judged-sound = record { fine = judged-by form m e q; settled = settled (judged-found form m e q); count = judged-count }

@@ -13,7 +13,7 @@ use Rattle.base.specs.Choice.{pick}
 use Rattle.base.specs.Bytes.{upTo}
 use Rattle.base.specs.Calls.{placed, Puts}
 use Rattle.fields.specs.Lines.{linesIn}
-use Rattle.values.specs.Values.{isRpp}
+use Rattle.contents.specs.Parts.{opensRpp}
 use Rattle.roles.specs.Speech.{codeSize}
 use Rattle.roles.specs.Found.{linesPast}
 use Rattle.roles.specs.Parts.{firstRole}
@@ -47,13 +47,13 @@ module _ (c : List ℕ) (e : ℕ) (q : e ≡ 0 + upTo 13 (drop 0 c)) (t : List �
   head-small d z = (omega (arith, ap length z ∙ length-drop d (take e c), head-size c e q), head-within c e q)
 
   -- 72 of a 202
-  note-is : {b : Bool} → b ≡ isRpp (take e c) → tabbed (pick b (drop 5 (take e c) ∷ toldBy t s 5 2 (linesPast c e)) ([] ∷ toldBy t s 5 2 (linesIn c))) ≡ tabbed (noteBy t s (linesIn c))
+  note-is : {b : Bool} → b ≡ opensRpp (take e c) → tabbed (pick b (drop 5 (take e c) ∷ toldBy t s 5 2 (linesPast c e)) ([] ∷ toldBy t s 5 2 (linesIn c))) ≡ tabbed (noteBy t s (linesIn c))
   note-is {b} f =
       ap (λ (xs : List (List ℕ)). tabbed (pick b (drop 5 (take e c) ∷ toldBy t s 5 2 (linesPast c e)) ([] ∷ toldBy t s 5 2 xs))) (lines-head c e q)
       ∙ ap (λ (d : Bool). tabbed (pick d (drop 5 (take e c) ∷ toldBy t s 5 2 (linesPast c e)) ([] ∷ toldBy t s 5 2 (take e c ∷ linesPast c e)))) f
       ∙ ap (λ (xs : List (List ℕ)). tabbed (noteBy t s xs)) (sym (lines-head c e q))
 
-  module _ {b : Bool} (f : b ≡ isRpp (take e c)) where
+  module _ {b : Bool} (f : b ≡ opensRpp (take e c)) where
     pub note-none : {out mid after : List ℕ} {at r : ℕ} → b ≡ false → mid ≡ placed out at (9 ∷ []) → r ≤ at + 1 + length c + 7 → Puts (tabbed (toldBy t s 5 2 (linesIn c))) mid (at + 1) r after
         → (r ≤ at + length c + 8) × Puts (tabbed (noteBy t s (linesIn c))) out at r after
     note-none g m k p = (omega arith, puts-by (note-is (sym g ∙ f)) (tab-put m p))

@@ -5,7 +5,7 @@ use Rattle.base.specs.Calls.{long, short}
 use Rattle.base.specs.Bytes.{isIn, digit, capital, letter, marks, shared, xset, same}
 use Rattle.fields.specs.Field.{message, body, cut, upto, past, grouped, fields}
 use Rattle.fields.specs.Frame.{rule1, framed, rule2, scan, rule3, tagged, lineBad, badLine, rule4}
-use Rattle.types.specs.Form.{form103, form202, forms, placesOf}
+use Rattle.types.specs.Form.{places103, places202}
 use Rattle.types.specs.Walk.{find, wrong, walk, rule18, walked}
 use Rattle.types.specs.Sign.{signOf}
 use Rattle.judge.specs.Message.{verdictOf}
@@ -14,7 +14,7 @@ use Rattle.contents.specs.Tests as tests
 use Rattle.contents.specs.Rule8.{firstWrong, rightField, rule8}
 use Rattle.values.specs.Number.{onward}
 use Rattle.values.specs.Day.{leap, daysIn, isDay, yearOf, realDay, dated}
-use Rattle.values.specs.Values.{behindDigits, payment, pointIn, datesBehind, rpp, bothParts, parties, taxPlace, isTax, withKpp, taxes, valuesOf}
+use Rattle.values.specs.Values.{payment, rppDates, parties, taxes, customerTaxes, payerTaxes, valuesOf}
 use Rattle.values.specs.Judged.{firstBad, rule9, rule10, rule11, rule12, rule13}
 use Rattle.contents.specs.Tags.{tags103, tags202, heldBy}
 use Rattle.roles.specs.Role.{shapeOf, cast}
@@ -28,5 +28,5 @@ use Rattle.sheets.specs.Gather.{contentParts, gather, recordsOf, sheetOf
 use Rattle.sheets.specs.Cases.{Holds, cases}
 
 pub worked : AllHold Holds cases
-unfolding cases long short isIn digit capital letter marks shared xset same message body cut upto past grouped fields rule1 framed rule2 scan rule3 tagged lineBad badLine rule4 form103 form202 forms placesOf find wrong walk rule18 walked signOf verdictOf firstWrong rightField rule8 onward leap daysIn isDay yearOf realDay dated behindDigits payment pointIn datesBehind rpp bothParts parties taxPlace isTax withKpp taxes valuesOf firstBad rule9 rule10 rule11 rule12 rule13 tags103 tags202 shapeOf heldBy cast names details noted speeches roles-speech.behind hidden isInn taxLike breaks unheard spoken rule14 grid kind alphabets-grid.sign reads plainly contentParts gather recordsOf sheetOf capitalOrDigit tests.lead tests.ends tests.pair tests.isReference tests.isPurpose tests.isPayment tests.isOwnAccount tests.isPartyByBik tests.isParty tests.isBic tests.isAccount tests.isTax tests.looksTax tests.isRpp tests.details tests.right
+unfolding cases long short isIn digit capital letter marks shared xset same message body cut upto past grouped fields rule1 framed rule2 scan rule3 tagged lineBad badLine rule4 places103 places202 find wrong walk rule18 walked signOf verdictOf firstWrong rightField rule8 onward leap daysIn isDay yearOf realDay dated payment parties tests.looksTax taxes valuesOf firstBad rule9 rule10 rule11 rule12 rule13 tags103 tags202 shapeOf heldBy cast names details noted speeches roles-speech.behind hidden isInn taxLike breaks unheard spoken rule14 grid kind alphabets-grid.sign reads plainly contentParts gather recordsOf sheetOf capitalOrDigit tests.lead tests.ends tests.pair tests.isReference tests.isPurpose tests.isPayment tests.isOwnAccount tests.isPartyByBik tests.isParty tests.isBic tests.isAccount tests.isTax tests.isRpp tests.details tests.right rppDates customerTaxes payerTaxes
 worked = (refl, refl) also (refl, refl) also refl also refl also tt

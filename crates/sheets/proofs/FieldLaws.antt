@@ -25,11 +25,13 @@ use Rattle.fields.specs.ByLines.{joined}
 use Rattle.fields.proofs.TagLaws.{Shape, plain, lettered, shape-of}
 use Rattle.fields.proofs.PackLaws.{packed-tag, unpack-pack}
 use Rattle.fields.proofs.PlaceLaws.{field-bytes, laid-joined}
+use Rattle.types.specs.declared.Form.{Form}
+use Rattle.types.specs.declared.Form.the-variants.{Other}
 use Rattle.types.specs.Walk.{rule18}
 use Rattle.types.proofs.TableLaws.{rule18-iff}
 use Rattle.fields.specs.Lines.{linesIn}
 use Rattle.fields.proofs.ContentLaws.{lines-joined}
-use Rattle.values.proofs.ValueLaws.{joined-length}
+use Rattle.fields.proofs.PlaceLaws.{joined-length}
 use Rattle.roles.specs.Role.{shapeOf}
 use Rattle.roles.specs.declared.Shape as roles
 use Rattle.judge.specs.Parts.{Settled}
@@ -48,21 +50,21 @@ pub tag-long : (f : List ℕ) → (byte f 3 ≡ 58 → ⊥) → 4 ≡ tagEnd f
 unfolding tagEnd
 tag-long f e = sym (ap (λ (b : Bool). pick b 3 4) (ne-eqb (byte f 3) 58 e))
 
-module _ (b : List ℕ) (kind : ℕ) (s : Bool) (f : List ℕ) {t : ℕ} (e : t ≡ tagEnd f) where
+module _ (b : List ℕ) (form : Form) (s : Bool) (f : List ℕ) {t : ℕ} (e : t ≡ tagEnd f) where
   abbrev tag : List ℕ
   tag = take (t - 1) (drop 1 f)
 
   abbrev content : List ℕ
   content = take (length f - (t + 1)) (drop (t + 1) f)
 
-  pub field-put : {sh : roles.Shape} {g : ℕ} → g ≡ packed f → sh ≡ shapeOf kind (unpack g) → Part f → {out mid now after : List ℕ} {at i n : ℕ} → mid ≡ placed out at tag → i ≡ at + length tag
-      → Puts (tabbed (contentBy b s sh (linesIn content))) mid i n now → after ≡ placed now n (10 ∷ []) → Puts (recordLine b kind s (fieldIn f)) out at (n + 1) after
+  pub field-put : {sh : roles.Shape} {g : ℕ} → g ≡ packed f → sh ≡ shapeOf form (unpack g) → Part f → {out mid now after : List ℕ} {at i n : ℕ} → mid ≡ placed out at tag → i ≡ at + length tag
+      → Puts (tabbed (contentBy b s sh (linesIn content))) mid i n now → after ≡ placed now n (10 ∷ []) → Puts (recordLine b form s (fieldIn f)) out at (n + 1) after
   field-put {sh} {g} h k o m x p a =
       let u : List ℕ = tabbed (contentBy b s sh (linesIn content)) in
-      let w : sh ≡ shapeOf kind tag = k ∙ ap (shapeOf kind) (ap unpack h ∙ o .tag-is ∙ ap (λ (j : ℕ). take (j - 1) (drop 1 f)) (sym e)) in
-      let v : u ≡ tabbed (contentBy b s (shapeOf kind tag) (linesIn (drop (t + 1) f))) = ap₂ (λ (z : roles.Shape) (d : List ℕ). tabbed (contentBy b s z (linesIn d))) w (past-in f (t + 1)) in
+      let w : sh ≡ shapeOf form tag = k ∙ ap (shapeOf form) (ap unpack h ∙ o .tag-is ∙ ap (λ (j : ℕ). take (j - 1) (drop 1 f)) (sym e)) in
+      let v : u ≡ tabbed (contentBy b s (shapeOf form tag) (linesIn (drop (t + 1) f))) = ap₂ (λ (z : roles.Shape) (d : List ℕ). tabbed (contentBy b s z (linesIn d))) w (past-in f (t + 1)) in
       puts-by
-      (ap (λ (z : List ℕ). (tag ++ z) ++ 10 ∷ []) v ∙ ap (λ (j : ℕ). recordLine b kind s (field (take (j - 1) (drop 1 f)) (linesIn (drop (j + 1) f)))) e)
+      (ap (λ (z : List ℕ). (tag ++ z) ++ 10 ∷ []) v ∙ ap (λ (j : ℕ). recordLine b form s (field (take (j - 1) (drop 1 f)) (linesIn (drop (j + 1) f)))) e)
       (puts-on (tag ++ u) (10 ∷ []) (puts-on tag u (puts-put {u = tag} x m) p) (puts-put refl a))
 
 pub tag-some : {t : ℕ} → 3 ≤ t → 1 ≤ t
@@ -164,12 +166,12 @@ module _ {m spots : List ℕ} (z : Settled m spots) (k : ℕ) (h : k < length (f
   at-on a b = let w = stands z k h in omega (arith, take-few (byte spots (k + 1) - 2 - byte spots k) (drop (byte spots k) m), w .far)
 
   -- ---- the sheet, record by record
-  pub sheet-on : (b : List ℕ) (kind : ℕ) (g : Bool) {u out now mid : List ℕ} {at n r : ℕ} → Leads u out at (sheetBy b kind g (drop k (fields m))) now n
-      → Puts (recordLine b kind g (fieldIn part)) now n r mid → Leads u out at (sheetBy b kind g (drop (k + 1) (fields m))) mid r
-  sheet-on b kind g f p =
-      let l = line (recordBy b kind g (fieldIn part)) in
-      let u = sheetBy b kind g (drop (k + 1) (fields m)) in
-      leads-on (l ++ 10 ∷ []) u (append-assoc l (10 ∷ []) u ∙ ap (sheetBy b kind g) field-step) f p
+  pub sheet-on : (b : List ℕ) (form : Form) (g : Bool) {u out now mid : List ℕ} {at n r : ℕ} → Leads u out at (sheetBy b form g (drop k (fields m))) now n
+      → Puts (recordLine b form g (fieldIn part)) now n r mid → Leads u out at (sheetBy b form g (drop (k + 1) (fields m))) mid r
+  sheet-on b form g f p =
+      let l = line (recordBy b form g (fieldIn part)) in
+      let u = sheetBy b form g (drop (k + 1) (fields m)) in
+      leads-on (l ++ 10 ∷ []) u (append-assoc l (10 ∷ []) u ∙ ap (sheetBy b form g) field-step) f p
 
 last-spot : {m spots : List ℕ} → Settled m spots → (n : ℕ) → n ≡ length (fields m) → byte spots n + 2 ≤ length m
 last-spot z zero e = omega (arith, z .start, (z .stand 0 (omega arith)) .dash)
@@ -178,20 +180,17 @@ last-spot {m} {spots} z (suc k) e = subst (λ (j : ℕ). byte spots j + 2 ≤ le
 pub at-end : {m spots : List ℕ} → Settled m spots → {k n at : ℕ} → n ≡ length (fields m) → n ≤ k → k ≤ n → at ≤ byte spots k + 2 + 5 * k → at ≤ length m + 70
 at-end {m} {spots} z {k} {n} e h j a = omega (arith, a, z .few, last-spot z k (omega arith))
 
-pub sheet-end : (m : List ℕ) (k n : ℕ) → n ≡ length (fields m) → n ≤ k → (b : List ℕ) (kind : ℕ) (g : Bool) {out mid now : List ℕ} {at j : ℕ} → Puts (line (typeRecord kind) ++ 10 ∷ []) out 0 at mid
-    → Leads (sheetBy b kind g (fields m)) mid at (sheetBy b kind g (drop k (fields m))) now j → Puts (line (typeRecord kind) ++ 10 ∷ sheetBy b kind g (fields m)) out 0 j now
-sheet-end m k n e h b kind g {now = now} {j = j} p f =
-    let u = sheetBy b kind g (fields m) in
-    let l = line (typeRecord kind) in
-    puts-by (append-assoc l (10 ∷ []) u) (puts-on (l ++ 10 ∷ []) u p (f j now (puts-by (ap (sheetBy b kind g) (sym (drop-of-length-le (fields m) {i = k} (omega arith)))) puts-none)))
+pub sheet-end : (m : List ℕ) (k n : ℕ) → n ≡ length (fields m) → n ≤ k → (b : List ℕ) (form : Form) (g : Bool) {out mid now : List ℕ} {at j : ℕ} → Puts (line (typeRecord form) ++ 10 ∷ []) out 0 at mid
+    → Leads (sheetBy b form g (fields m)) mid at (sheetBy b form g (drop k (fields m))) now j → Puts (line (typeRecord form) ++ 10 ∷ sheetBy b form g (fields m)) out 0 j now
+sheet-end m k n e h b form g {now = now} {j = j} p f =
+    let u = sheetBy b form g (fields m) in
+    let l = line (typeRecord form) in
+    puts-by (append-assoc l (10 ∷ []) u) (puts-on (l ++ 10 ∷ []) u p (f j now (puts-by (ap (sheetBy b form g) (sym (drop-of-length-le (fields m) {i = k} (omega arith)))) puts-none)))
 
 -- ---- the type
-pub type-put : (kind : ℕ) {to : ℕ} {u out after : List ℕ} → kind ≡ to → u ≡ line (typeRecord to) ++ 10 ∷ [] → 7 ≡ length u → after ≡ placed out 0 u → Puts (line (typeRecord kind) ++ 10 ∷ []) out 0 7 after
-type-put kind {to} {u} {out} {after} e f n p = puts-by (f ∙ ap (λ (x : ℕ). line (typeRecord x) ++ 10 ∷ []) (sym e)) (puts-put {u = u} {out = out} {after = after} {at = 0} (n ∙ sym (zero-add (length u))) p)
+pub type-put : (form : Form) {to : Form} {u out after : List ℕ} → form ≡ to → u ≡ line (typeRecord to) ++ 10 ∷ [] → 7 ≡ length u → after ≡ placed out 0 u → Puts (line (typeRecord form) ++ 10 ∷ []) out 0 7 after
+type-put form {to} {u} {out} {after} e f n p = puts-by (f ∙ ap (λ (x : Form). line (typeRecord x) ++ 10 ∷ []) (sym e)) (puts-put {u = u} {out = out} {after = after} {at = 0} (n ∙ sym (zero-add (length u))) p)
 
-pub other-type : (kind : ℕ) → rule18 kind ≡ Fine → (kind ≡ 103 → ⊥) → kind ≡ 202
-other-type kind e h = go (eqb kind 202) refl
-  where
-    go : (b : Bool) → eqb kind 202 ≡ b → kind ≡ 202
-    go true f = eqb-true kind 202 f
-    go false f = absurd (fine-broken 18 0 (sym e ∙ rule18-iff kind .1 (h, eqb-false kind 202 f)))
+pub no-other : {form : Form} → rule18 form ≡ Fine → form ≡ Other → ⊥
+unfolding rule18
+no-other e q = fine-broken 18 0 (sym e ∙ ap rule18 q)

@@ -24,9 +24,11 @@ use Rattle.alphabets.proofs.Theorems.{plain-iff, plain-only}
 use Rattle.fields.specs.Field.{Field, field, fields, linesOf}
 use Rattle.fields.specs.Places.{startOf, nextOf}
 use Rattle.fields.proofs.FieldLaws.{fields-in}
+use Rattle.types.specs.declared.Form.{Form}
 use Rattle.types.specs.Sign.{signOf}
 use Rattle.frame.proofs.CallLaws.{taken}
-use Rattle.values.specs.Values.{isTax, isRpp}
+use Rattle.contents.specs.Tests.{looksTax}
+use Rattle.contents.specs.Parts.{opensRpp}
 use Rattle.roles.specs.Role.{shapeOf, Part, copy, name, taxName, lineOf, cast}
 use Rattle.roles.specs.Parts.{castBy, named, nextRole}
 use Rattle.roles.specs.Speech as speech
@@ -76,7 +78,7 @@ voiced false p w = plain-whole p w
 
 first-read : (s : Bool) (role : Role) (p : List ℕ) → Reads s (firstPart role p) → saidBy codes (s && named role p) false p ≡ partFor s (firstPart role p)
 first-read s Copies p w = copied s p
-first-read s OfPayer p w = go (begins 47 p) (isTax p) w
+first-read s OfPayer p w = go (begins 47 p) (looksTax p) w
   where
     go : (a b : Bool) → Reads s (pick a (copy p) (pick b (copy p) (taxName p))) → saidBy codes (s && (not a && not b)) false p ≡ partFor s (pick a (copy p) (pick b (copy p) (taxName p)))
     go true b w = copied s p
@@ -88,7 +90,7 @@ first-read s OfPayee p w = go (begins 47 p) w
     go true w = copied s p
     go false w = voiced s p w
 first-read s OfAgent p w = copied s p
-first-read s Taxed p w = go (isTax p) w
+first-read s Taxed p w = go (looksTax p) w
   where
     go : (a : Bool) → Reads s (pick a (copy p) (taxName p)) → saidBy codes (s && not a) false p ≡ partFor s (pick a (copy p) (taxName p))
     go true w = copied s p
@@ -173,13 +175,13 @@ told-same s first mark (l ∷ ls) w =
     ap (λ (x : List ℕ). codeDigits s (drop first l) ∷ x ∷ []) (over-reads s (cutBy (first + codeSize s) mark (l ∷ ls)) (subst (Speaks s) e w) ∙ ap (λ (x : List ℕ). textOf (reading s x)) (sym e))
 
 pub record Noted (s : Bool) (l : List ℕ) (ls : List (List ℕ)) : Type 0 where
-  pub behind-rpp : isRpp l ≡ true → Told s (5 + codeSize s) 2 ls
-  pub from-first : isRpp l ≡ false → Told s (5 + codeSize s) 2 (l ∷ ls)
+  pub behind-rpp : opensRpp l ≡ true → Told s (5 + codeSize s) 2 ls
+  pub from-first : opensRpp l ≡ false → Told s (5 + codeSize s) 2 (l ∷ ls)
 
 note-same : (s : Bool) (l : List ℕ) (ls : List (List ℕ)) → Noted s l ls → noteBy codes s (l ∷ ls) ≡ noteParts s (l ∷ ls)
-note-same s l ls w = go (isRpp l) refl
+note-same s l ls w = go (opensRpp l) refl
   where
-    go : (b : Bool) → isRpp l ≡ b → pick b (drop 5 l ∷ toldBy codes s 5 2 ls) ([] ∷ toldBy codes s 5 2 (l ∷ ls)) ≡ pick b (drop 5 l ∷ toldParts s 5 2 ls) ([] ∷ toldParts s 5 2 (l ∷ ls))
+    go : (b : Bool) → opensRpp l ≡ b → pick b (drop 5 l ∷ toldBy codes s 5 2 ls) ([] ∷ toldBy codes s 5 2 (l ∷ ls)) ≡ pick b (drop 5 l ∷ toldParts s 5 2 ls) ([] ∷ toldParts s 5 2 (l ∷ ls))
     go true e = ap (λ (x : List (List ℕ)). drop 5 l ∷ x) (told-same s 5 2 ls (w .behind-rpp e))
     go false e = ap (λ (x : List (List ℕ)). [] ∷ x) (told-same s 5 2 (l ∷ ls) (w .from-first e))
 
@@ -279,44 +281,44 @@ plain-readable Note202 [] e = tt
 plain-readable Note202 (l ∷ ls) e = record { behind-rpp = λ _. told-in 14 2 ls (right (all xset l) _ e); from-first = λ _. told-in 14 2 (l ∷ ls) e }
 
 -- ---- the fields
-abbrev pub AllReadable : ℕ → Bool → List Field → Type 0
-AllReadable kind s [] = Unit {0}
-AllReadable kind s (field t ls ∷ fs) = Readable s (shapeOf kind t) ls × AllReadable kind s fs
+abbrev pub AllReadable : Form → Bool → List Field → Type 0
+AllReadable form s [] = Unit {0}
+AllReadable form s (field t ls ∷ fs) = Readable s (shapeOf form t) ls × AllReadable form s fs
 
 heard-split : (xs ys : List Speech) → Heard (xs ++ ys) → Heard xs × Heard ys
 heard-split [] ys h = (tt, h)
 heard-split (speech.speech m o b ∷ xs) ys h = let k = heard-split xs ys (h .1) in ((h .0, k .0), k .1)
 
-fields-heard : (kind o : ℕ) (fs : List Field) → Heard (texts kind o fs) → AllReadable kind true fs
+fields-heard : (form : Form) (o : ℕ) (fs : List Field) → Heard (texts form o fs) → AllReadable form true fs
 unfolding texts
-fields-heard kind o [] h = tt
-fields-heard kind o (field t ls ∷ fs) h =
+fields-heard form o [] h = tt
+fields-heard form o (field t ls ∷ fs) h =
     let f = field t ls in
-    let k = heard-split (speeches true (shapeOf kind t) (startOf o f) ls) (texts kind (nextOf o f) fs) h in
-    (signed-readable (shapeOf kind t) (startOf o f) ls (k .0), fields-heard kind (nextOf o f) fs (k .1))
+    let k = heard-split (speeches true (shapeOf form t) (startOf o f) ls) (texts form (nextOf o f) fs) h in
+    (signed-readable (shapeOf form t) (startOf o f) ls (k .0), fields-heard form (nextOf o f) fs (k .1))
 
-fields-plain : (kind : ℕ) (fs : List Field) → all (all xset) (linesOf fs) ≡ true → AllReadable kind false fs
-fields-plain kind [] e = tt
-fields-plain kind (field t [] ∷ fs) e = (plain-readable (shapeOf kind t) [] refl, fields-plain kind fs e)
-fields-plain kind (field t (l ∷ ls) ∷ fs) e =
+fields-plain : (form : Form) (fs : List Field) → all (all xset) (linesOf fs) ≡ true → AllReadable form false fs
+fields-plain form [] e = tt
+fields-plain form (field t [] ∷ fs) e = (plain-readable (shapeOf form t) [] refl, fields-plain form fs e)
+fields-plain form (field t (l ∷ ls) ∷ fs) e =
     let p : all (all xset) ((58 ∷ (t ++ 58 ∷ l)) ∷ ls) ≡ true = all-front (all xset) ((58 ∷ (t ++ 58 ∷ l)) ∷ ls) (linesOf fs) e in
     let h : all xset (58 ∷ (t ++ 58 ∷ l)) ≡ true = left (all xset (58 ∷ (t ++ 58 ∷ l))) (all (all xset) ls) p in
     let k : all xset l ≡ true = right (xset 58) (all xset l) (all-behind xset t (58 ∷ l) (right (xset 58) (all xset (t ++ 58 ∷ l)) h)) in (
-      plain-readable (shapeOf kind t) (l ∷ ls) (ap (λ (b : Bool). b && all (all xset) ls) k ∙ right (all xset (58 ∷ (t ++ 58 ∷ l))) (all (all xset) ls) p),
-      fields-plain kind fs (all-behind (all xset) ((58 ∷ (t ++ 58 ∷ l)) ∷ ls) (linesOf fs) e),
+      plain-readable (shapeOf form t) (l ∷ ls) (ap (λ (b : Bool). b && all (all xset) ls) k ∙ right (all xset (58 ∷ (t ++ 58 ∷ l))) (all (all xset) ls) p),
+      fields-plain form fs (all-behind (all xset) ((58 ∷ (t ++ 58 ∷ l)) ∷ ls) (linesOf fs) e),
     )
 
-records-same : (kind : ℕ) (s : Bool) (fs : List Field) → AllReadable kind s fs → map (recordBy codes kind s) fs ≡ map (recordFor kind s) fs
-records-same kind s [] w = refl
-records-same kind s (field t ls ∷ fs) w = ap₂ (λ (r : Record) (rs : List Record). r ∷ rs) (ap (field t) (content-same s (shapeOf kind t) ls (w .0))) (records-same kind s fs (w .1))
+records-same : (form : Form) (s : Bool) (fs : List Field) → AllReadable form s fs → map (recordBy codes form s) fs ≡ map (recordFor form s) fs
+records-same form s [] w = refl
+records-same form s (field t ls ∷ fs) w = ap₂ (λ (r : Record) (rs : List Record). r ∷ rs) (ap (field t) (content-same s (shapeOf form t) ls (w .0))) (records-same form s fs (w .1))
 
 -- ---- a message that no rule refuses
-module _ (kind : ℕ) (m : List ℕ) (v : verdictOf kind m ≡ Fine) where
-  pub readable : (s : Bool) → signOf (fields m) ≡ s → AllReadable kind s (fields m)
-  readable true e = fields-heard kind 5 (fields m) (rule14-fine kind (fields m) .0 (accepted-rules kind m v .inside .texts) e)
-  readable false e = let t = taken kind m (frame-clean kind m v) in fields-plain kind (fields m) (fields-in m (t .frame-fine) (t .bytes-fine) (t .lines-fine))
+module _ (form : Form) (m : List ℕ) (v : verdictOf form m ≡ Fine) where
+  pub readable : (s : Bool) → signOf (fields m) ≡ s → AllReadable form s (fields m)
+  readable true e = fields-heard form 5 (fields m) (rule14-fine form (fields m) .0 (accepted-rules form m v .inside .texts) e)
+  readable false e = let t = taken form m (frame-clean form m v) in fields-plain form (fields m) (fields-in m (t .frame-fine) (t .bytes-fine) (t .lines-fine))
 
-  pub sheet-same : line (typeRecord kind) ++ 10 ∷ sheetBy codes kind (signOf (fields m)) (fields m) ≡ sheetOf kind m
+  pub sheet-same : line (typeRecord form) ++ 10 ∷ sheetBy codes form (signOf (fields m)) (fields m) ≡ sheetOf form m
   unfolding sheetOf recordsOf gather
   sheet-same =
-      ap (λ (rs : List Record). line (typeRecord kind) ++ 10 ∷ sheet rs) (records-same kind (signOf (fields m)) (fields m) (readable (signOf (fields m)) refl))
+      ap (λ (rs : List Record). line (typeRecord form) ++ 10 ∷ sheet rs) (records-same form (signOf (fields m)) (fields m) (readable (signOf (fields m)) refl))

@@ -14,6 +14,7 @@ use Rattle.base.specs.declared.Outcome.the-variants.{Done, Refused}
 use Rattle.base.proofs.RuleLaws.{Clean, FirstOf, accepted-iff, refused-iff}
 use Rattle.base.proofs.CallLaws.{gives-one, accepted, refused, is-short}
 use Rattle.fields.specs.Field.{fields}
+use Rattle.types.specs.declared.Form.{Form}
 use Rattle.types.specs.Sign.{signOf}
 use Rattle.judge.specs.Message.{verdictOf}
 use Rattle.sheets.specs.Gather.{sheetOf}
@@ -22,48 +23,48 @@ use Rattle.sheets.proofs.ReadLaws.{AllReadable, readable}
 use Rattle.sheets.proofs.CallLaws.{last-17}
 
 -- any two outcomes are equal, lent units counted
-pub sheet-one : (kind : ℕ) (m out : List ℕ) {r q : Outcome} {a b : List ℕ} → SheetTo kind m out r a → SheetTo kind m out q b → (r ≡ q) × (a ≡ b)
+pub sheet-one : (form : Form) (m out : List ℕ) {r q : Outcome} {a b : List ℕ} → SheetTo form m out r a → SheetTo form m out q b → (r ≡ q) × (a ≡ b)
 unfolding SheetTo
-sheet-one kind m out g h = gives-one g h
+sheet-one form m out g h = gives-one g h
 
-module _ (kind : ℕ) (m out : List ℕ) (r : Outcome) (after : List ℕ) (g : SheetTo kind m out r after) where
+module _ (form : Form) (m out : List ℕ) (r : Outcome) (after : List ℕ) (g : SheetTo form m out r after) where
   -- the outcome by the first rule that is broken
-  by-first : {v : Verdict} → first (readRules kind m out) ≡ v → r ≡ outcome v (length (sheetOf kind m))
+  by-first : {v : Verdict} → first (readRules form m out) ≡ v → r ≡ outcome v (length (sheetOf form m))
   unfolding SheetTo
-  by-first e = g .answers ∙ ap (λ (v : Verdict). outcome v (length (sheetOf kind m))) e
+  by-first e = g .answers ∙ ap (λ (v : Verdict). outcome v (length (sheetOf form m))) e
 
-  held : {q : Outcome} → r ≡ q → Gives (readRules kind m out) (sheetOf kind m) out q after
+  held : {q : Outcome} → r ≡ q → Gives (readRules form m out) (sheetOf form m) out q after
   unfolding SheetTo
-  held e = subst (λ (x : Outcome). Gives (readRules kind m out) (sheetOf kind m) out x after) e g
+  held e = subst (λ (x : Outcome). Gives (readRules form m out) (sheetOf form m) out x after) e g
 
   -- accepted exactly if no rule is broken: with the sheet's length, and the sheet over the front of the room
-  pub sheet-accepted : ((n : ℕ) × (r ≡ Done n)) ↔ Clean (readRules kind m out)
+  pub sheet-accepted : ((n : ℕ) × (r ≡ Done n)) ↔ Clean (readRules form m out)
   sheet-accepted = (
-    λ e. accepted-iff (readRules kind m out) .0 (accepted (readRules kind m out) (sheetOf kind m) out (e .0) after (held (e .1)) .clean),
-    λ c. (length (sheetOf kind m), by-first (accepted-iff (readRules kind m out) .1 c)),
+    λ e. accepted-iff (readRules form m out) .0 (accepted (readRules form m out) (sheetOf form m) out (e .0) after (held (e .1)) .clean),
+    λ c. (length (sheetOf form m), by-first (accepted-iff (readRules form m out) .1 c)),
   )
 
-  pub sheet-filled : (n : ℕ) → r ≡ Done n → (n ≡ length (sheetOf kind m)) × (after ≡ over (sheetOf kind m) out)
-  sheet-filled n e = let a = accepted (readRules kind m out) (sheetOf kind m) out n after (held e) in (a .count, a .filled)
+  pub sheet-filled : (n : ℕ) → r ≡ Done n → (n ≡ length (sheetOf form m)) × (after ≡ over (sheetOf form m) out)
+  sheet-filled n e = let a = accepted (readRules form m out) (sheetOf form m) out n after (held e) in (a .count, a .filled)
 
   -- refused exactly by the first that is broken, and then the room is as it was
-  pub sheet-refused : (n p : ℕ) → (r ≡ Refused n p) ↔ FirstOf (readRules kind m out) n p
+  pub sheet-refused : (n p : ℕ) → (r ≡ Refused n p) ↔ FirstOf (readRules form m out) n p
   sheet-refused n p = (
-    λ e. refused-iff (readRules kind m out) n p .0 (refused (readRules kind m out) (sheetOf kind m) out n p after (held e) .0),
-    λ f. by-first (refused-iff (readRules kind m out) n p .1 f),
+    λ e. refused-iff (readRules form m out) n p .0 (refused (readRules form m out) (sheetOf form m) out n p after (held e) .0),
+    λ f. by-first (refused-iff (readRules form m out) n p .1 f),
   )
 
   pub sheet-kept : (n p : ℕ) → r ≡ Refused n p → after ≡ out
-  sheet-kept n p e = refused (readRules kind m out) (sheetOf kind m) out n p after (held e) .1
+  sheet-kept n p e = refused (readRules form m out) (sheetOf form m) out n p after (held e) .1
 
   -- a refused message keeps its number and place, whatever the room
-  pub sheet-own : (n p : ℕ) → verdictOf kind m ≡ Broken n p → r ≡ Refused n p
-  sheet-own n p e = by-first (last-17 kind m out e refl)
+  pub sheet-own : (n p : ℕ) → verdictOf form m ≡ Broken n p → r ≡ Refused n p
+  sheet-own n p e = by-first (last-17 form m out e refl)
 
   -- 17 for an accepted one: the room is shorter than the sheet, and the place is the sheet's length
-  pub sheet-narrow : verdictOf kind m ≡ Fine → length out < length (sheetOf kind m) → r ≡ Refused 17 (length (sheetOf kind m))
-  sheet-narrow e h = by-first (last-17 kind m out e (is-short (sheetOf kind m) out h))
+  pub sheet-narrow : verdictOf form m ≡ Fine → length out < length (sheetOf form m) → r ≡ Refused 17 (length (sheetOf form m))
+  sheet-narrow e h = by-first (last-17 form m out e (is-short (sheetOf form m) out h))
 
 -- every text of an accepted message reads, so that no part of its sheet stands for a text without a reading
-pub texts-read : (kind : ℕ) (m : List ℕ) → verdictOf kind m ≡ Fine → AllReadable kind (signOf (fields m)) (fields m)
-texts-read kind m v = readable kind m v (signOf (fields m)) refl
+pub texts-read : (form : Form) (m : List ℕ) → verdictOf form m ≡ Fine → AllReadable form (signOf (fields m)) (fields m)
+texts-read form m v = readable form m v (signOf (fields m)) refl

@@ -4,6 +4,7 @@ use Prim.Native.Nat.{ℕ}
 use Prim.Native.String.{String}
 use mathlib.Core.Path.{_≡_}
 use mathlib.Core.List.{List, [], _∷_}
+use Rattle.types.specs.Form.{formOf}
 use Rattle.base.specs.Quoted.{bytes}
 use Rattle.base.specs.Rules.{first}
 use Rattle.base.specs.declared.Verdict.the-variants.{Fine, Broken}
@@ -18,8 +19,8 @@ pub data Case : Type 0 where
   refused : ℕ → String → ℕ → ℕ → Case
 
 abbrev pub Holds : Case → Type 0
-Holds (read kind m s) = (first (readRules kind (bytes m) (desk s)) ≡ Fine) × (sheetOf kind (bytes m) ≡ desk s)
-Holds (refused kind m n p) = first (readRules kind (bytes m) []) ≡ Broken n p
+Holds (read kind m s) = (first (readRules (formOf kind) (bytes m) (desk s)) ≡ Fine) × (sheetOf (formOf kind) (bytes m) ≡ desk s)
+Holds (refused kind m n p) = first (readRules (formOf kind) (bytes m) []) ≡ Broken n p
 
 unfoldable pub cases : List Case
 cases =

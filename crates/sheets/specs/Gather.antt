@@ -8,8 +8,10 @@ use Rattle.base.specs.Quoted.{bytes}
 use Rattle.base.specs.Calls.{textOf}
 use Rattle.alphabets.specs.Bank.{reading}
 use Rattle.fields.specs.Field.{Field, field, fields}
+use Rattle.types.specs.declared.Form.{Form}
+use Rattle.types.specs.declared.Form.the-variants.{Other, Mt103, Mt202}
 use Rattle.types.specs.Sign.{signOf}
-use Rattle.values.specs.Values.{isRpp}
+use Rattle.contents.specs.Parts.{opensRpp}
 use Rattle.roles.specs.Role.{shapeOf, Part, copy, name, taxName, cast}
 use Rattle.roles.specs.Speech.{codeSize, behind}
 use Rattle.roles.specs.declared.Shape.{Shape}
@@ -36,7 +38,7 @@ toldParts s first mark (l ∷ ls) = codeDigits s (drop first l) ∷ textOf (read
 -- 72 of a 202: what follows /RPP/ or an empty part, then VO digits and text
 abbrev pub noteParts : Bool → List (List ℕ) → List (List ℕ)
 noteParts s [] = []
-noteParts s (l ∷ ls) = pick (isRpp l) (drop 5 l ∷ toldParts s 5 2 ls) ([] ∷ toldParts s 5 2 (l ∷ ls))
+noteParts s (l ∷ ls) = pick (opensRpp l) (drop 5 l ∷ toldParts s 5 2 ls) ([] ∷ toldParts s 5 2 (l ∷ ls))
 
 unfoldable pub contentParts : Bool → Shape → List (List ℕ) → List (List ℕ)
 contentParts s Details ls = toldParts s 0 0 ls
@@ -48,22 +50,24 @@ contentParts s Payee ls = map (partFor s) (cast Payee ls)
 contentParts s Agent ls = map (partFor s) (cast Agent ls)
 
 -- ---- from fields to records
-abbrev pub recordFor : ℕ → Bool → Field → Record
-recordFor kind s (field t ls) = field t (contentParts s (shapeOf kind t) ls)
+abbrev pub recordFor : Form → Bool → Field → Record
+recordFor form s (field t ls) = field t (contentParts s (shapeOf form t) ls)
 
-unfoldable pub gather : ℕ → Bool → List Field → List Record
-gather kind s fs = map (recordFor kind s) fs
+unfoldable pub gather : Form → Bool → List Field → List Record
+gather form s fs = map (recordFor form s) fs
 
 -- the first record names the type
-abbrev pub typeDigits : ℕ → List ℕ
-typeDigits kind = (48 + kind / 100 % 10) ∷ (48 + kind / 10 % 10) ∷ (48 + kind % 10) ∷ []
+abbrev pub typeName : Form → List ℕ
+typeName Mt103 = bytes "103"
+typeName Mt202 = bytes "202"
+typeName Other = []
 
-abbrev pub typeRecord : ℕ → Record
-typeRecord kind = field (bytes "MT") (typeDigits kind ∷ [])
+abbrev pub typeRecord : Form → Record
+typeRecord form = field (bytes "MT") (typeName form ∷ [])
 
-unfoldable pub recordsOf : ℕ → List ℕ → List Record
-recordsOf kind m = typeRecord kind ∷ gather kind (signOf (fields m)) (fields m)
+unfoldable pub recordsOf : Form → List ℕ → List Record
+recordsOf form m = typeRecord form ∷ gather form (signOf (fields m)) (fields m)
 
 -- the sheet of a message
-unfoldable pub sheetOf : ℕ → List ℕ → List ℕ
-sheetOf kind m = sheet (recordsOf kind m)
+unfoldable pub sheetOf : Form → List ℕ → List ℕ
+sheetOf form m = sheet (recordsOf form m)

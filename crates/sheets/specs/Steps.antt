@@ -6,6 +6,7 @@ use mathlib.Core.Bool.{Bool, false, _&&_}
 use mathlib.Core.List.{List, [], _∷_, _++_, map}
 use lib.Dec.{eqb}
 use lib.ListN.{length, take, drop}
+use Rattle.types.specs.declared.Form.{Form}
 use Rattle.base.specs.Choice.{pick}
 use Rattle.base.specs.Bytes.{byte}
 use Rattle.base.specs.declared.Verdict.the-variants.{Fine}
@@ -17,7 +18,7 @@ use Rattle.fields.specs.Field.{Field, field, fields}
 use Rattle.fields.specs.Frame.{limit}
 use Rattle.fields.specs.Shapes.{unpack, packed}
 use Rattle.fields.specs.Lines.{linesIn}
-use Rattle.values.specs.Values.{isRpp}
+use Rattle.contents.specs.Parts.{opensRpp}
 use Rattle.roles.specs.Role.{shapeOf}
 use Rattle.roles.specs.Parts.{named, nextRole}
 use Rattle.roles.specs.Speech.{codeSize}
@@ -64,7 +65,7 @@ toldBy t s first mark (l ∷ ls) = codeDigits s (drop first l) ∷ overBy t s fa
 -- 72 of a 202: what follows /RPP/ or an empty part, then details
 abbrev pub noteBy : List ℕ → Bool → List (List ℕ) → List (List ℕ)
 noteBy t s [] = []
-noteBy t s (l ∷ ls) = pick (isRpp l) (drop 5 l ∷ toldBy t s 5 2 ls) ([] ∷ toldBy t s 5 2 (l ∷ ls))
+noteBy t s (l ∷ ls) = pick (opensRpp l) (drop 5 l ∷ toldBy t s 5 2 ls) ([] ∷ toldBy t s 5 2 (l ∷ ls))
 
 -- ---- the content parts of a field, by the shape of its tag
 unfoldable pub contentBy : List ℕ → Bool → Shape → List (List ℕ) → List (List ℕ)
@@ -90,17 +91,17 @@ pub record Part (f : List ℕ) : Type 0 where
   pub within : length f ≤ limit
   pub tag-is : unpack (packed f) ≡ take (tagEnd f - 1) (drop 1 f)
 
-abbrev pub recordBy : List ℕ → ℕ → Bool → Field → Record
-recordBy t kind s (field g ls) = field g (contentBy t s (shapeOf kind g) ls)
+abbrev pub recordBy : List ℕ → Form → Bool → Field → Record
+recordBy t form s (field g ls) = field g (contentBy t s (shapeOf form g) ls)
 
-abbrev pub recordLine : List ℕ → ℕ → Bool → Field → List ℕ
-recordLine t kind s f = line (recordBy t kind s f) ++ 10 ∷ []
+abbrev pub recordLine : List ℕ → Form → Bool → Field → List ℕ
+recordLine t form s f = line (recordBy t form s f) ++ 10 ∷ []
 
-abbrev pub sheetBy : List ℕ → ℕ → Bool → List Field → List ℕ
-sheetBy t kind s fs = sheet (map (recordBy t kind s) fs)
+abbrev pub sheetBy : List ℕ → Form → Bool → List Field → List ℕ
+sheetBy t form s fs = sheet (map (recordBy t form s) fs)
 
 -- ---- an accepted message: where its fields stand, and how many there are
-pub record Sound (kind : ℕ) (m spots : List ℕ) (n : ℕ) : Type 0 where
-  pub fine : verdictOf kind m ≡ Fine
+pub record Sound (form : Form) (m spots : List ℕ) (n : ℕ) : Type 0 where
+  pub fine : verdictOf form m ≡ Fine
   pub settled : Settled m spots
   pub count : n ≡ length (fields m)

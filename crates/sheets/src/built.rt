@@ -18,6 +18,7 @@ use fields::line_tag;
 use frame::SPOTS;
 use judge::sign::is_signed;
 use roles::shapes::shape_of;
+use types::Form;
 
 // Where the second colon stands.
 fn tag_end(f: &[u8]) -> usize
@@ -41,11 +42,11 @@ fn put_tag(f: &[u8], out: &mut [u8], at: usize) -> usize
 }
 
 // A field, without the CR LF behind it, as a record.
-fn put_field(back: &[u8; 256], kind: u32, sign: bool, f: &[u8], out: &mut [u8], at: usize) -> usize
+fn put_field(back: &[u8; 256], form: Form, sign: bool, f: &[u8], out: &mut [u8], at: usize) -> usize
     requires { ⌜ Part (now f) × (at ≤ 100000) ⌝ }
-    ensures { λ r. ⌜ (r ≤ at + length (now (f .entry)) + 7) × Puts (recordLine (now (back .entry)) kind sign (fieldIn (now (f .entry)))) (now (out .entry)) at r (now (out .exit)) ⌝ }
+    ensures { λ r. ⌜ (r ≤ at + length (now (f .entry)) + 7) × Puts (recordLine (now (back .entry)) form sign (fieldIn (now (f .entry)))) (now (out .entry)) at r (now (out .exit)) ⌝ }
 {
-    let shape = shape_of(kind, line_tag(f));
+    let shape = shape_of(form, line_tag(f));
     let t = put_tag(f, out, at);
     let n = at + t - 1;
     let e = put_content(back, shape, sign, &f[t + 1..], out, n);
@@ -54,37 +55,39 @@ fn put_field(back: &[u8; 256], kind: u32, sign: bool, f: &[u8], out: &mut [u8], 
 }
 
 // The first record names the type.
-fn put_type(kind: u32, out: &mut [u8]) -> usize
-    requires { ⌜ rule18 kind ≡ Fine ⌝ }
-    ensures { λ r. ⌜ (r ≡ 7) × Puts (line (typeRecord kind) ++ 10 ∷ []) (now (out .entry)) 0 r (now (out .exit)) ⌝ }
+const TYPE_RECORD: usize = 7;
+
+fn put_type(form: Form, out: &mut [u8]) -> usize
+    requires { ⌜ rule18 form ≡ Fine ⌝ }
+    ensures { λ r. ⌜ (r ≡ 7) × Puts (line (typeRecord form) ++ 10 ∷ []) (now (out .entry)) 0 r (now (out .exit)) ⌝ }
 {
-    if kind == 103 {
-        put(out, 0, b"MT\t103\n");
-        return 7;
+    match form {
+        Form::Mt103 => put(out, 0, b"MT\t103\n"),
+        Form::Mt202 => put(out, 0, b"MT\t202\n"),
+        Form::Other => {}
     }
-    put(out, 0, b"MT\t202\n");
-    7
+    TYPE_RECORD
 }
 
 // The records of the fields, the first of them behind seven bytes.
 fn put_records(
     back: &[u8; 256],
-    kind: u32,
+    form: Form,
     sign: bool,
     m: &[u8],
     spots: &[u32; SPOTS],
     n: usize,
     out: &mut [u8],
 ) -> usize
-    requires { ⌜ (rule18 kind ≡ Fine) × Settled (now m) (now spots) × (n ≡ length (fields (now m))) ⌝ }
-    ensures { λ r. ⌜ (r ≤ length (now (m .entry)) + 70) × Puts (line (typeRecord kind) ++ 10 ∷ sheetBy (now (back .entry)) kind sign (fields (now (m .entry)))) (now (out .entry)) 0 r (now (out .exit)) ⌝ }
+    requires { ⌜ (rule18 form ≡ Fine) × Settled (now m) (now spots) × (n ≡ length (fields (now m))) ⌝ }
+    ensures { λ r. ⌜ (r ≤ length (now (m .entry)) + 70) × Puts (line (typeRecord form) ++ 10 ∷ sheetBy (now (back .entry)) form sign (fields (now (m .entry)))) (now (out .entry)) 0 r (now (out .exit)) ⌝ }
 {
-    let mut at = put_type(kind, out);
+    let mut at = put_type(form, out);
     let mut k = 0;
     while k < n {
         let o = spots[k] as usize;
         let e = spots[k + 1] as usize;
-        at = put_field(back, kind, sign, &m[o..e - 2], out, at);
+        at = put_field(back, form, sign, &m[o..e - 2], out, at);
         k += 1;
     }
     at
@@ -92,16 +95,16 @@ fn put_records(
 
 // The sheet of an accepted message, at most 70 bytes longer than it; a place counts on where the room has ended.
 pub(crate) fn put_sheet(
-    kind: u32,
+    form: Form,
     m: &[u8],
     spots: &[u32; SPOTS],
     n: usize,
     out: &mut [u8],
 ) -> usize
-    requires { ⌜ Sound kind (now m) (now spots) n ⌝ }
-    ensures { λ r. ⌜ (r ≤ length (now (m .entry)) + 70) × Puts (sheetOf kind (now (m .entry))) (now (out .entry)) 0 r (now (out .exit)) ⌝ }
+    requires { ⌜ Sound form (now m) (now spots) n ⌝ }
+    ensures { λ r. ⌜ (r ≤ length (now (m .entry)) + 70) × Puts (sheetOf form (now (m .entry))) (now (out .entry)) 0 r (now (out .exit)) ⌝ }
 {
     let back = back_table();
     let sign = is_signed(m);
-    put_records(&back, kind, sign, m, spots, n, out)
+    put_records(&back, form, sign, m, spots, n, out)
 }

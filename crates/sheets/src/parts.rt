@@ -15,11 +15,11 @@ use base::bytes::front;
 use base::bytes::past;
 use base::bytes::put;
 use base::marks::mark_at;
+use contents::pieces::opens_rpp;
 use fields::lines::next_line;
 use roles::Role;
 use roles::Shape;
 use roles::parts::first_role;
-use values::parts::is_rpp;
 
 // The VO digits behind the code's front.
 fn digits_of(sign: bool, l: &[u8]) -> &[u8]
@@ -65,7 +65,7 @@ fn put_note(back: &[u8; 256], sign: bool, c: &[u8], out: &mut [u8], at: usize) -
     ensures { λ r. ⌜ (r ≤ at + length (now (c .entry)) + 8) × Puts (tabbed (noteBy (now (back .entry)) sign (linesIn (now (c .entry))))) (now (out .entry)) at r (now (out .exit)) ⌝ }
 {
     let e = mark_at(13, c, 0);
-    if !is_rpp(&c[..e]) {
+    if !opens_rpp(&c[..e]) {
         put(out, at, b"\t");
         return put_told(back, sign, 5, 2, c, out, at + 1);
     }

@@ -10,8 +10,9 @@ use lib.Dec.{eqb}
 use lib.ListN.{length, take, drop, length-append, length-drop}
 use lib.Seq.{take-append-le, drop-append-le, take-at}
 use borrow.Author.Tests.{eqb-true}
-use Rattle.base.specs.Choice.{all}
-use Rattle.base.specs.Bytes.{digit}
+use Rattle.types.specs.Walk.{rule18}
+use Rattle.base.specs.Choice.{all, pick}
+use Rattle.base.specs.Bytes.{digit, same}
 use Rattle.base.specs.Quoted.{bytes}
 use Rattle.base.specs.Rules.{then, first}
 use Rattle.base.specs.Calls.{textOf, short, outcome, room}
@@ -21,12 +22,15 @@ use Rattle.base.specs.declared.Outcome.{Outcome}
 use Rattle.base.specs.declared.Outcome.the-variants.{Done, Refused}
 use Rattle.base.proofs.Bools.{left, right}
 use Rattle.base.proofs.ByteLaws.{digit-range}
-use Rattle.base.proofs.RuleLaws.{Clean, first-last}
+use Rattle.base.proofs.RuleLaws.{fine-broken, Clean, first-last}
 use Rattle.base.proofs.CallLaws.{is-short, not-short}
 use Rattle.alphabets.specs.Bank.{reading}
 use Rattle.alphabets.specs.Best.{writing}
 use Rattle.alphabets.proofs.Theorems.{reads-back}
 use Rattle.fields.specs.Field.{Field, field, fields}
+use Rattle.types.specs.declared.Form.{Form}
+use Rattle.types.specs.declared.Form.the-variants.{Other, Mt103, Mt202}
+use Rattle.types.specs.Form.{formOf}
 use Rattle.types.specs.Sign.{signOf}
 use Rattle.roles.specs.Role.{shapeOf, Part, copy, name, taxName, lineOf, cast}
 use Rattle.roles.specs.Speech as speech
@@ -36,7 +40,7 @@ use Rattle.roles.specs.declared.Shape.the-variants.{Plain, Payer, Payee, Agent}
 use Rattle.roles.proofs.BreachLaws.{same-lines}
 use Rattle.judge.specs.Message.{messageRules, verdictOf}
 use Rattle.records.specs.Record.{Record, sheet, records}
-use Rattle.records.specs.Rule19.{digits, number, sheetType, sheetSign}
+use Rattle.records.specs.Rule19.{digits, number, sheetForm, sheetSign}
 use Rattle.records.specs.Sentences.{Right, plain, agent, payer, payee, details, note103, note202, Sound}
 use Rattle.records.proofs.RuleLaws.{fine-sound, named}
 use Rattle.records.proofs.SoundLaws.{sound-sheet, sound-type}
@@ -52,7 +56,7 @@ use Rattle.written.proofs.ReadyLaws.{speaks, Laid, laid, Ready}
 use Rattle.written.proofs.CastLaws.{turned, cast-again, frontOf, nextOf, told-again}
 use Rattle.written.proofs.BuiltLaws.{AllPass, records-pass, built-fields, built-sign}
 use Rattle.written.proofs.Theorems as writer
-use Rattle.sheets.specs.Gather.{partFor, codeDigits, toldParts, noteParts, contentParts, gather, typeDigits, typeRecord, recordsOf, sheetOf}
+use Rattle.sheets.specs.Gather.{partFor, codeDigits, toldParts, noteParts, contentParts, gather, typeName, typeRecord, recordsOf, sheetOf}
 use Rattle.sheets.specs.Calls.{readRules, SheetTo}
 
 -- ---- parts that are copied or names
@@ -143,6 +147,7 @@ spelt-back p s vo t d a u =
 -- 72 of a 202: with and without an RPP line
 note-back : (s : Bool) (r vo t : List ℕ) → digits 5 vo ≡ true → all (speaks s) (copy vo ∷ name t ∷ []) ≡ true
     → isUnfit (sizeFor (notePlace r) (codeSize s) (told s (vo ∷ t ∷ []))) ≡ false → noteParts s (noteLines s (r ∷ vo ∷ t ∷ [])) ≡ r ∷ vo ∷ t ∷ []
+unfolding same
 note-back s [] vo t d a u =
     let h : Laid In72 (codeSize s) (told s (vo ∷ t ∷ [])) = laid In72 (codeSize s) (told s (vo ∷ t ∷ [])) u in
     ap (noteParts s) (h .is) ∙ ap (λ (k : List (List ℕ)). [] ∷ toldParts s 5 2 k) (sym (h .is)) ∙ ap (λ (k : List (List ℕ)). [] ∷ k) (spelt-back In72 s vo t d a u)
@@ -164,13 +169,17 @@ content-back s sh ps w = go (w .is-right) (w .says) (w .fits)
     go (note202 r v t d e) a u = note-back s r v t d (right (speaks s (copy r)) _ a) u
 
 -- ---- records and the first of them
-pub gather-back : (kind : ℕ) (s : Bool) (rs : List Record) → AllPass kind s rs → gather kind s (spread kind s rs) ≡ rs
+pub gather-back : (form : Form) (s : Bool) (rs : List Record) → AllPass form s rs → gather form s (spread form s rs) ≡ rs
 unfolding gather spread
-gather-back kind s [] w = refl
-gather-back kind s (field t ps ∷ rs) w =
-    ap₂ (λ (k : List (List ℕ)) (l : List Record). field t k ∷ l) (content-back s (shapeOf kind t) ps (w .0 .1)) (gather-back kind s rs (w .1))
+gather-back form s [] w = refl
+gather-back form s (field t ps ∷ rs) w =
+    ap₂ (λ (k : List (List ℕ)) (l : List Record). field t k ∷ l) (content-back s (shapeOf form t) ps (w .0 .1)) (gather-back form s rs (w .1))
 
-digits-number : (p : List ℕ) → digits 3 p ≡ true → typeDigits (number p) ≡ p
+-- three digits of a number
+abbrev threeDigits : ℕ → List ℕ
+threeDigits n = (48 + n / 100 % 10) ∷ (48 + n / 10 % 10) ∷ (48 + n % 10) ∷ []
+
+digits-number : (p : List ℕ) → digits 3 p ≡ true → threeDigits (number p) ≡ p
 unfolding digits
 digits-number [] d = absurd (false≢true d)
 digits-number (a ∷ []) d = absurd (false≢true d)
@@ -190,24 +199,35 @@ digits-number (a ∷ b ∷ c ∷ []) d =
     let w : 48 + n % 10 ≡ c = omega (arith, fc .0, fc .1, q) in
     ap (λ (k : ℕ). k ∷ (48 + n / 10 % 10) ∷ (48 + n % 10) ∷ []) u ∙ ap₂ (λ (k j : ℕ). a ∷ k ∷ j ∷ []) v w
 
+-- a type that is one of the two is named as it was
+named-back : (p : List ℕ) → digits 3 p ≡ true → rule18 (formOf (number p)) ≡ Fine → typeName (formOf (number p)) ≡ p
+unfolding rule18
+named-back p d e = go (eqb (number p) 103) (eqb (number p) 202) refl refl e
+  where
+    go : (a b : Bool) → eqb (number p) 103 ≡ a → eqb (number p) 202 ≡ b → rule18 (pick a Mt103 (pick b Mt202 Other)) ≡ Fine → typeName (pick a Mt103 (pick b Mt202 Other)) ≡ p
+    go true b x y e = ap threeDigits (sym (eqb-true (number p) 103 x)) ∙ digits-number p d
+    go false true x y e = ap threeDigits (sym (eqb-true (number p) 202 y)) ∙ digits-number p d
+    go false false x y e = absurd (fine-broken 18 0 (sym e))
+
 -- ---- a sheet that no rule before 17 refuses
 module _ (s : List ℕ) (c : Clean (sheetRules s)) where
   is-sound : Sound s
   is-sound = fine-sound s (sheet-rules s c .sound)
 
-  type-back : typeRecord (sheetType s) ≡ is-sound .head
+  type-back : typeRecord (sheetForm s) ≡ is-sound .head
   type-back =
       let n = named (is-sound .head) (is-sound .names) in
-      ap typeRecord (sound-type s is-sound ∙ n .worth) ∙ ap (λ (p : List ℕ). field (bytes "MT") (p ∷ [])) (digits-number (n .type) (n .three)) ∙ sym (n .is)
+      let f = sound-type s is-sound ∙ n .worth in
+      ap typeRecord f ∙ ap (λ (p : List ℕ). field (bytes "MT") (p ∷ [])) (named-back (n .type) (n .three) (ap rule18 (sym f) ∙ sheet-rules s c .type)) ∙ sym (n .is)
 
-  records-back : gather (sheetType s) (signOf (fields (messageFor s))) (fields (messageFor s)) ≡ is-sound .behind
+  records-back : gather (sheetForm s) (signOf (fields (messageFor s))) (fields (messageFor s)) ≡ is-sound .behind
   unfolding fieldsOf
   records-back =
-      ap (λ (fs : List Field). gather (sheetType s) (signOf fs) fs) (built-fields s c) ∙ ap (λ (b : Bool). gather (sheetType s) b (fieldsOf s)) (built-sign s c)
-      ∙ gather-back (sheetType s) (sheetSign s) (tail (records s)) (records-pass s c) ∙ ap tail (is-sound .list)
+      ap (λ (fs : List Field). gather (sheetForm s) (signOf fs) fs) (built-fields s c) ∙ ap (λ (b : Bool). gather (sheetForm s) b (fieldsOf s)) (built-sign s c)
+      ∙ gather-back (sheetForm s) (sheetSign s) (tail (records s)) (records-pass s c) ∙ ap tail (is-sound .list)
 
   -- the sheet of its message is the sheet
-  pub sheet-back : sheetOf (sheetType s) (messageFor s) ≡ s
+  pub sheet-back : sheetOf (sheetForm s) (messageFor s) ≡ s
   unfolding sheetOf recordsOf
   sheet-back = ap₂ (λ (r : Record) (rs : List Record). sheet (r ∷ rs)) type-back records-back ∙ sym (sound-sheet s is-sound)
 
@@ -221,18 +241,18 @@ module _ (s out a : List ℕ) (n : ℕ) (g : MessageTo s out (Done n) a) where
   written-message =
       ap (take n) (is-written .filled) ∙ take-at (messageFor s) (drop (length (messageFor s)) out) n (sym (is-written .count))
 
-  pub written-fine : verdictOf (sheetType s) (take n a) ≡ Fine
-  written-fine = ap (verdictOf (sheetType s)) written-message ∙ is-written .message-fine
+  pub written-fine : verdictOf (sheetForm s) (take n a) ≡ Fine
+  written-fine = ap (verdictOf (sheetForm s)) written-message ∙ is-written .message-fine
 
-  pub written-sheet : sheetOf (sheetType s) (take n a) ≡ s
-  written-sheet = ap (sheetOf (sheetType s)) written-message ∙ sheet-back s (is-written .clean)
+  pub written-sheet : sheetOf (sheetForm s) (take n a) ≡ s
+  written-sheet = ap (sheetOf (sheetForm s)) written-message ∙ sheet-back s (is-written .clean)
 
-  module _ (back : List ℕ) (r : Outcome) (b : List ℕ) (h : SheetTo (sheetType s) (take n a) back r b) where
+  module _ (back : List ℕ) (r : Outcome) (b : List ℕ) (h : SheetTo (sheetForm s) (take n a) back r b) where
     -- 17 alone can refuse to read it
-    read-rules : first (readRules (sheetType s) (take n a) back) ≡ short s back
+    read-rules : first (readRules (sheetForm s) (take n a) back) ≡ short s back
     unfolding verdictOf
     read-rules =
-        first-last (messageRules (sheetType s) (take n a)) (short (sheetOf (sheetType s) (take n a)) back)
+        first-last (messageRules (sheetForm s) (take n a)) (short (sheetOf (sheetForm s) (take n a)) back)
         ∙ ap₂ (λ (v : Verdict) (t : List ℕ). then v (short t back)) written-fine written-sheet
 
     read-as : {v : Verdict} → short s back ≡ v → (r ≡ outcome v (length s)) × (b ≡ room v s back)

@@ -19,7 +19,9 @@ use Rattle.frame.specs.Cases.{sample}
 use Rattle.fields.specs.Field.{Field, field, message, body, cut, upto, past, grouped, fields}
 use Rattle.fields.specs.Frame.{rule1, framed, rule2, scan, rule3, tagged, lineBad, badLine, rule4}
 use Rattle.fields.specs.Shapes.{shaped}
-use Rattle.types.specs.Form.{form103, form202, forms, placesOf}
+use Rattle.types.specs.declared.Form.{Form}
+use Rattle.types.specs.declared.Form.the-variants.{Mt103, Mt202}
+use Rattle.types.specs.Form.{places103, places202}
 use Rattle.types.specs.Walk.{find, wrong, walk, rule18, walked}
 use Rattle.types.specs.Sign.{signOf}
 use Rattle.judge.specs.Message.{messageRules, NoneBroken, verdictOf}
@@ -29,7 +31,7 @@ use Rattle.contents.specs.Tests as tests
 use Rattle.contents.specs.Rule8.{firstWrong, rightField, rule8}
 use Rattle.values.specs.Number.{onward}
 use Rattle.values.specs.Day.{leap, daysIn, isDay, yearOf, realDay, dated}
-use Rattle.values.specs.Values.{behindDigits, payment, pointIn, datesBehind, rpp, bothParts, parties, taxPlace, isTax, withKpp, taxes, valuesOf}
+use Rattle.values.specs.Values.{payment, rppDates, parties, taxes, customerTaxes, payerTaxes, valuesOf}
 use Rattle.values.specs.Judged.{firstBad, rule9, rule10, rule11, rule12, rule13}
 use Rattle.contents.specs.Tags.{tags103, tags202, heldBy}
 use Rattle.roles.specs.Role.{shapeOf, cast}
@@ -47,7 +49,7 @@ use Rattle.alphabets.specs.Best.{latinNext, best, bad, writes}
 use Rattle.alphabets.proofs.Back.{reads-best}
 use Rattle.records.specs.Cases.{desk}
 use Rattle.records.specs.Record.{Record, sheet, pieces, recordOf, records, rest, begun}
-use Rattle.records.specs.Rule19.{digits, general, untaxed, sound, badFrom, judge, sheetSign, sheetType, rule19}
+use Rattle.records.specs.Rule19.{digits, general, untaxed, sound, badFrom, judge, sheetSign, sheetForm, rule19}
 use Rattle.details.specs.Breaking.{opens, last, broken}
 use Rattle.details.specs.Breaking as breaking
 use Rattle.details.specs.Layouts.{linesFor, sizeFor}
@@ -60,8 +62,8 @@ use Rattle.sheets.specs.Gather.{codeDigits, contentParts, recordFor, gather, ty
 use Rattle.trips.specs.Cases.{Holds, plain202, plainSheet, signed202, signedSheet, otherwise103, otherwiseSheet, best103, trips, idle, stops}
 
 -- ---- a message's refusal, 14 apart from the rest
-abbrev Easy : ℕ → List ℕ → Type 0
-Easy kind m = rule14 kind (fields m) ≡ Fine → NoneBroken kind m
+abbrev Easy : Form → List ℕ → Type 0
+Easy form m = rule14 form (fields m) ≡ Fine → NoneBroken form m
 
 -- a text with this reading breaks no clause of 14
 heard-by : (m : Manner) (b d : List ℕ) → reads false b ≡ said d → clauses m (empty d) b d ≡ false → breaks m b ≡ false
@@ -73,35 +75,35 @@ room : (s : List ℕ) → short s s ≡ Fine
 unfolding short
 room s = ap (λ (b : Bool). pick b (Broken 17 (length s)) Fine) (le-ltb (length s) (length s) (omega arith))
 
-read-fine : (kind : ℕ) (m s out : List ℕ) → verdictOf kind m ≡ Fine → sheetOf kind m ≡ s → first (readRules kind m out) ≡ short s out
+read-fine : (form : Form) (m s out : List ℕ) → verdictOf form m ≡ Fine → sheetOf form m ≡ s → first (readRules form m out) ≡ short s out
 unfolding verdictOf
-read-fine kind m s out e h =
-    first-last (messageRules kind m) (short (sheetOf kind m) out) ∙ ap (λ (v : Verdict). then v (short (sheetOf kind m) out)) e ∙ ap (λ (x : List ℕ). short x out) h
+read-fine form m s out e h =
+    first-last (messageRules form m) (short (sheetOf form m) out) ∙ ap (λ (v : Verdict). then v (short (sheetOf form m) out)) e ∙ ap (λ (x : List ℕ). short x out) h
 
-abbrev Written : ℕ → List ℕ → List ℕ → Type 0
-Written kind s n = (first (sheetRules s) ≡ Fine) × (sheetType s ≡ kind) × (messageFor s ≡ n)
+abbrev Written : Form → List ℕ → List ℕ → Type 0
+Written form s n = (first (sheetRules s) ≡ Fine) × (sheetForm s ≡ form) × (messageFor s ≡ n)
 
-there-and-back : (kind : ℕ) (m s n : List ℕ) → verdictOf kind m ≡ Fine → sheetOf kind m ≡ s → Written kind s n → verdictOf kind n ≡ Fine
-    → (first (readRules kind m s) ≡ Fine) × (sheetOf kind m ≡ s) × (first (writeRules s n) ≡ Fine) × (messageFor s ≡ n)
-there-and-back kind m s n e h (r, t, w) v = (
-  read-fine kind m s s e h ∙ room s,
+there-and-back : (form : Form) (m s n : List ℕ) → verdictOf form m ≡ Fine → sheetOf form m ≡ s → Written form s n → verdictOf form n ≡ Fine
+    → (first (readRules form m s) ≡ Fine) × (sheetOf form m ≡ s) × (first (writeRules s n) ≡ Fine) × (messageFor s ≡ n)
+there-and-back form m s n e h (r, t, w) v = (
+  read-fine form m s s e h ∙ room s,
   h,
   rules-write s n (record { sheet = sheet-rules s (first-clean (sheetRules s) r); room = ap (λ (x : List ℕ). short x n) w ∙ room n; own = ap atStart (ap₂ verdictOf t w ∙ v) }),
   w,
 )
 
 -- ---- the trips with short texts
-all-fine : (verdictOf 103 (bytes sample) ≡ Fine) × (verdictOf 202 (bytes plain202) ≡ Fine) × (verdictOf 103 (bytes otherwise103) ≡ Fine) × (verdictOf 103 (bytes best103) ≡ Fine)
-unfolding verdictOf rule18 form103 form202 forms placesOf long rule1 framed body same rule2 scan xset isIn digit capital letter marks shared rule3 cut tagged lineBad badLine rule4 upto past grouped fields find wrong walk walked signOf firstWrong rightField rule8 onward leap daysIn isDay yearOf realDay dated behindDigits payment pointIn datesBehind rpp bothParts parties taxPlace isTax withKpp taxes valuesOf firstBad rule9 rule10 rule11 rule12 rule13 spoken speeches names details noted speeches-of.behind shapeOf heldBy tags103 tags202 cast hidden isInn taxLike breaks unheard rule14 grid signs.sign reads capitalOrDigit tests.lead tests.ends tests.pair tests.isReference tests.isPurpose tests.isPayment tests.isOwnAccount tests.isPartyByBik tests.isParty tests.isBic tests.isAccount tests.isTax tests.looksTax tests.isRpp tests.details tests.right
+all-fine : (verdictOf Mt103 (bytes sample) ≡ Fine) × (verdictOf Mt202 (bytes plain202) ≡ Fine) × (verdictOf Mt103 (bytes otherwise103) ≡ Fine) × (verdictOf Mt103 (bytes best103) ≡ Fine)
+unfolding verdictOf rule18 places103 places202 long rule1 framed body same rule2 scan xset isIn digit capital letter marks shared rule3 cut tagged lineBad badLine rule4 upto past grouped fields find wrong walk walked signOf firstWrong rightField rule8 onward leap daysIn isDay yearOf realDay dated payment parties tests.looksTax taxes valuesOf firstBad rule9 rule10 rule11 rule12 rule13 spoken speeches names details noted speeches-of.behind shapeOf heldBy tags103 tags202 cast hidden isInn taxLike breaks unheard rule14 grid signs.sign reads capitalOrDigit tests.lead tests.ends tests.pair tests.isReference tests.isPurpose tests.isPayment tests.isOwnAccount tests.isPartyByBik tests.isParty tests.isBic tests.isAccount tests.isTax tests.isRpp tests.details tests.right rppDates customerTaxes payerTaxes
 all-fine = (refl, refl, refl, refl)
 
-all-read : (sheetOf 103 (bytes sample) ≡ desk sheet103) × (sheetOf 202 (bytes plain202) ≡ desk plainSheet) × (sheetOf 103 (bytes otherwise103) ≡ desk otherwiseSheet)
-unfolding sheetOf recordsOf gather contentParts body cut upto past grouped fields signOf shapeOf heldBy tags103 tags202 cast isTax same isIn digit speeches-of.behind plainly xset reads signs.sign grid marks capital letter shared
+all-read : (sheetOf Mt103 (bytes sample) ≡ desk sheet103) × (sheetOf Mt202 (bytes plain202) ≡ desk plainSheet) × (sheetOf Mt103 (bytes otherwise103) ≡ desk otherwiseSheet)
+unfolding sheetOf recordsOf gather contentParts body cut upto past grouped fields signOf shapeOf heldBy tags103 tags202 cast tests.looksTax same isIn digit speeches-of.behind plainly xset reads signs.sign grid marks capital letter shared
 all-read = (refl, refl, refl)
 
-all-written : Written 103 (desk sheet103) (bytes sample) × Written 202 (desk plainSheet) (bytes plain202) × Written 202 (desk signedSheet) (bytes signed202)
-    × Written 103 (desk otherwiseSheet) (bytes best103)
-unfolding same tags103 shapeOf heldBy cast grid marks isIn digit capital letter shared long form103 form202 forms placesOf rule18 shaped signOf isTax isInn xset plainly kind latinNext best bad writes pieces recordOf records rest begun digits general untaxed sound badFrom judge sheetSign sheetType rule19 opens last broken breaking.breaks sizeFor unsaid rule15 crowded rule16 tags202 linesFor contentLines spread fieldsOf messageFor message
+all-written : Written Mt103 (desk sheet103) (bytes sample) × Written Mt202 (desk plainSheet) (bytes plain202) × Written Mt202 (desk signedSheet) (bytes signed202)
+    × Written Mt103 (desk otherwiseSheet) (bytes best103)
+unfolding same tags103 shapeOf heldBy cast grid marks isIn digit capital letter shared long places103 places202 rule18 shaped signOf tests.looksTax isInn xset plainly kind latinNext best bad writes pieces recordOf records rest begun digits general untaxed sound badFrom judge sheetSign sheetForm rule19 opens last broken breaking.breaks sizeFor unsaid rule15 crowded rule16 tags202 linesFor contentLines spread fieldsOf messageFor message
 all-written = ((refl, refl, refl), (refl, refl, refl), (refl, refl, refl), (refl, refl, refl))
 
 short-by-one : short (desk sheet103) (replicate 166 0) ≡ Broken 17 167
@@ -114,47 +116,47 @@ signed-reads : (reads false (bytes "SBERBANK 'OOO'") ≡ said (desk "СБЕРБ�
 unfolding best bad latinNext kind grid marks isIn digit capital letter shared
 signed-reads = (reads-best false (desk "СБЕРБАНК OOO") refl, reads-best false (desk "ПЕРЕВОД СРЕДСТВ ПО ДОГОВОРУ A") refl)
 
-signed-easy : Easy 202 (bytes signed202)
-unfolding rule18 form103 form202 forms placesOf long rule1 framed body same rule2 scan xset isIn digit capital letter marks shared rule3 cut tagged lineBad badLine rule4 upto past grouped fields find wrong walk walked signOf firstWrong rightField rule8 onward leap daysIn isDay yearOf realDay dated behindDigits payment pointIn datesBehind rpp bothParts parties taxPlace isTax withKpp taxes valuesOf firstBad rule9 rule10 rule11 rule12 rule13 capitalOrDigit tests.lead tests.ends tests.pair tests.isReference tests.isPurpose tests.isPayment tests.isOwnAccount tests.isPartyByBik tests.isParty tests.isBic tests.isAccount tests.isTax tests.looksTax tests.isRpp tests.details tests.right tags103 tags202 heldBy
+signed-easy : Easy Mt202 (bytes signed202)
+unfolding rule18 places103 places202 long rule1 framed body same rule2 scan xset isIn digit capital letter marks shared rule3 cut tagged lineBad badLine rule4 upto past grouped fields find wrong walk walked signOf firstWrong rightField rule8 onward leap daysIn isDay yearOf realDay dated payment parties tests.looksTax taxes valuesOf firstBad rule9 rule10 rule11 rule12 rule13 capitalOrDigit tests.lead tests.ends tests.pair tests.isReference tests.isPurpose tests.isPayment tests.isOwnAccount tests.isPartyByBik tests.isParty tests.isBic tests.isAccount tests.isTax tests.isRpp tests.details tests.right tags103 tags202 heldBy rppDates customerTaxes payerTaxes
 signed-easy e =
     record {
       pass = record { type = refl; size = refl; frame = refl; bytes = refl; lines = refl; walk = refl };
       inside = record { contents = refl; days = refl; currency = refl; banks = refl; parties = refl; taxes = refl; texts = e };
     }
 
-signed-texts : spoken 202 5 (fields (bytes signed202)) ≡ speech named 120 (bytes "SBERBANK 'OOO'") ∷ speech told 185 (bytes "PEREVOD SREDSTV PO DOGOVORU 'A'") ∷ []
-unfolding spoken speeches names details noted speeches-of.behind shapeOf heldBy tags103 tags202 cast isTax same digit body cut upto past grouped fields isIn
+signed-texts : spoken Mt202 5 (fields (bytes signed202)) ≡ speech named 120 (bytes "SBERBANK 'OOO'") ∷ speech told 185 (bytes "PEREVOD SREDSTV PO DOGOVORU 'A'") ∷ []
+unfolding spoken speeches names details noted speeches-of.behind shapeOf heldBy tags103 tags202 cast tests.looksTax same digit body cut upto past grouped fields isIn
 signed-texts = refl
 
-signed-14 : rule14 202 (fields (bytes signed202)) ≡ Fine
-unfolding hidden taxLike isTax isInn same digit isIn
+signed-14 : rule14 Mt202 (fields (bytes signed202)) ≡ Fine
+unfolding hidden taxLike tests.looksTax isInn same digit isIn
 signed-14 =
-    rule14-fine 202 (fields (bytes signed202)) .1
+    rule14-fine Mt202 (fields (bytes signed202)) .1
     (λ e. subst Heard (sym signed-texts) (heard-by named _ _ (signed-reads .0) refl, (heard-by told _ _ (signed-reads .1) refl, tt)))
 
 -- its sheet, of the readings of the two
 abbrev signed-with : Answer → Answer → List ℕ
 signed-with a b =
     sheet
-    (typeRecord 202 ∷ field (bytes "20") (bytes "+B2" ∷ []) ∷ field (bytes "21") (bytes "NONREF" ∷ []) ∷ field (bytes "32A") (bytes "240301RUB1000," ∷ [])
+    (typeRecord Mt202 ∷ field (bytes "20") (bytes "+B2" ∷ []) ∷ field (bytes "21") (bytes "NONREF" ∷ []) ∷ field (bytes "32A") (bytes "240301RUB1000," ∷ [])
     ∷ field (bytes "53B") (bytes "/D/30111810500000100000" ∷ []) ∷ field (bytes "58D") (bytes "/30101810400000000225" ∷ bytes "INN7707083893" ∷ textOf a ∷ [])
     ∷ field (bytes "72") (bytes "7.240301.5.ELEK.240301" ∷ bytes "10100" ∷ textOf b ∷ []) ∷ [])
 
-signed-sheet : sheetOf 202 (bytes signed202) ≡ desk signedSheet
-unfolding sheetOf recordsOf gather contentParts body cut upto past grouped fields signOf shapeOf heldBy tags103 tags202 cast isTax same isIn digit speeches-of.behind
+signed-sheet : sheetOf Mt202 (bytes signed202) ≡ desk signedSheet
+unfolding sheetOf recordsOf gather contentParts body cut upto past grouped fields signOf shapeOf heldBy tags103 tags202 cast tests.looksTax same isIn digit speeches-of.behind
 signed-sheet = ap₂ signed-with (signed-reads .0) (signed-reads .1)
 
-signed-fine : verdictOf 202 (bytes signed202) ≡ Fine
-signed-fine = rules-accepted 202 (bytes signed202) (signed-easy signed-14)
+signed-fine : verdictOf Mt202 (bytes signed202) ≡ Fine
+signed-fine = rules-accepted Mt202 (bytes signed202) (signed-easy signed-14)
 
 pub worked : AllHold Holds trips
 unfolding trips
 worked =
-    there-and-back 103 (bytes sample) (desk sheet103) (bytes sample) (all-fine .0) (all-read .0) (all-written .0) (all-fine .0)
-    also there-and-back 202 (bytes plain202) (desk plainSheet) (bytes plain202) (all-fine .1) (all-read .1) (all-written .1) (all-fine .1)
-    also there-and-back 202 (bytes signed202) (desk signedSheet) (bytes signed202) signed-fine signed-sheet (all-written .2) signed-fine
-    also (read-fine 103 (bytes sample) (desk sheet103) (replicate 166 0) (all-fine .0) (all-read .0) ∙ short-by-one)
-    also there-and-back 103 (bytes otherwise103) (desk otherwiseSheet) (bytes best103) (all-fine .2) (all-read .2) (all-written .3) (all-fine .3)
+    there-and-back Mt103 (bytes sample) (desk sheet103) (bytes sample) (all-fine .0) (all-read .0) (all-written .0) (all-fine .0)
+    also there-and-back Mt202 (bytes plain202) (desk plainSheet) (bytes plain202) (all-fine .1) (all-read .1) (all-written .1) (all-fine .1)
+    also there-and-back Mt202 (bytes signed202) (desk signedSheet) (bytes signed202) signed-fine signed-sheet (all-written .2) signed-fine
+    also (read-fine Mt103 (bytes sample) (desk sheet103) (replicate 166 0) (all-fine .0) (all-read .0) ∙ short-by-one)
+    also there-and-back Mt103 (bytes otherwise103) (desk otherwiseSheet) (bytes best103) (all-fine .2) (all-read .2) (all-written .3) (all-fine .3)
     also tt
 
 -- ---- the idle pair
@@ -185,53 +187,53 @@ idle-fields : fields (bytes idle) ≡ fore ++ field (bytes "70") (dashed ∷ byt
 unfolding body cut upto past grouped fields
 idle-fields = refl
 
-idle-texts : spoken 103 5 (fore ++ field (bytes "70") (dashed ∷ bytes "''--" ∷ []) ∷ aft)
+idle-texts : spoken Mt103 5 (fore ++ field (bytes "70") (dashed ∷ bytes "''--" ∷ []) ∷ aft)
     ≡ speech taxPlaced 61 (bytes "'NORD'") ∷ speech taxPlaced 126 (bytes "OOO PoTR") ∷ speech told 151 (replicate 23 45 ++ bytes "''--") ∷ []
-unfolding spoken speeches names details speeches-of.behind shapeOf heldBy tags103 cast isTax same digit
+unfolding spoken speeches names details speeches-of.behind shapeOf heldBy tags103 cast tests.looksTax same digit
 idle-texts = refl
 
 names-heard : (breaks taxPlaced (bytes "'NORD'") ≡ false) × (breaks taxPlaced (bytes "OOO PoTR") ≡ false)
-unfolding breaks hidden isInn taxLike isTax reads signs.sign grid marks isIn digit capital letter shared
+unfolding breaks hidden isInn taxLike tests.looksTax same reads signs.sign grid marks isIn digit capital letter shared
 names-heard = (refl, refl)
 
-idle-14 : rule14 103 (fields (bytes idle)) ≡ Fine
+idle-14 : rule14 Mt103 (fields (bytes idle)) ≡ Fine
 idle-14 =
-    rule14-fine 103 (fields (bytes idle)) .1
-    (λ e. subst Heard (sym (ap (spoken 103 5) idle-fields ∙ idle-texts)) (names-heard .0, (names-heard .1, (heard-by told _ _ idle-reads refl, tt))))
+    rule14-fine Mt103 (fields (bytes idle)) .1
+    (λ e. subst Heard (sym (ap (spoken Mt103 5) idle-fields ∙ idle-texts)) (names-heard .0, (names-heard .1, (heard-by told _ _ idle-reads refl, tt))))
 
-idle-easy : Easy 103 (bytes idle)
-unfolding rule18 form103 form202 forms placesOf long rule1 framed body same rule2 scan xset isIn digit capital letter marks shared rule3 cut tagged lineBad badLine rule4 upto past grouped fields find wrong walk walked signOf firstWrong rightField rule8 onward leap daysIn isDay yearOf realDay dated behindDigits payment pointIn datesBehind rpp bothParts parties taxPlace isTax withKpp taxes valuesOf firstBad rule9 rule10 rule11 rule12 rule13 capitalOrDigit tests.lead tests.ends tests.pair tests.isReference tests.isPurpose tests.isPayment tests.isOwnAccount tests.isPartyByBik tests.isParty tests.isBic tests.isAccount tests.isTax tests.looksTax tests.isRpp tests.details tests.right tags103 tags202 heldBy
+idle-easy : Easy Mt103 (bytes idle)
+unfolding rule18 places103 places202 long rule1 framed body same rule2 scan xset isIn digit capital letter marks shared rule3 cut tagged lineBad badLine rule4 upto past grouped fields find wrong walk walked signOf firstWrong rightField rule8 onward leap daysIn isDay yearOf realDay dated payment parties tests.looksTax taxes valuesOf firstBad rule9 rule10 rule11 rule12 rule13 capitalOrDigit tests.lead tests.ends tests.pair tests.isReference tests.isPurpose tests.isPayment tests.isOwnAccount tests.isPartyByBik tests.isParty tests.isBic tests.isAccount tests.isTax tests.isRpp tests.details tests.right tags103 tags202 heldBy rppDates customerTaxes payerTaxes
 idle-easy e =
     record {
       pass = record { type = refl; size = refl; frame = refl; bytes = refl; lines = refl; walk = refl };
       inside = record { contents = refl; days = refl; currency = refl; banks = refl; parties = refl; taxes = refl; texts = e };
     }
 
-idle-fine : verdictOf 103 (bytes idle) ≡ Fine
-idle-fine = rules-accepted 103 (bytes idle) (idle-easy idle-14)
+idle-fine : verdictOf Mt103 (bytes idle) ≡ Fine
+idle-fine = rules-accepted Mt103 (bytes idle) (idle-easy idle-14)
 
 -- ---- its sheet
-details-record : (kind : ℕ) (t l : List ℕ) (ls : List (List ℕ)) (b d : List ℕ) → shapeOf kind t ≡ Details → drop 11 l ++ speeches-of.behind 0 ls ≡ b → reads false b ≡ said d
-    → recordFor kind true (field t (l ∷ ls)) ≡ field t (codeDigits true l ∷ d ∷ [])
+details-record : (form : Form) (t l : List ℕ) (ls : List (List ℕ)) (b d : List ℕ) → shapeOf form t ≡ Details → drop 11 l ++ speeches-of.behind 0 ls ≡ b → reads false b ≡ said d
+    → recordFor form true (field t (l ∷ ls)) ≡ field t (codeDigits true l ∷ d ∷ [])
 unfolding contentParts
-details-record kind t l ls b d e h r =
+details-record form t l ls b d e h r =
     ap (λ (sh : Shape). field t (contentParts true sh (l ∷ ls))) e ∙ ap (λ (x : List ℕ). field t (codeDigits true l ∷ textOf (reading true x) ∷ [])) h
     ∙ ap (λ (a : Answer). field t (codeDigits true l ∷ textOf a ∷ [])) r
 
-gather-around : (kind : ℕ) (s : Bool) (fs : List Field) (f : Field) (gs : List Field) (r : Record) → recordFor kind s f ≡ r
-    → gather kind s (fs ++ f ∷ gs) ≡ gather kind s fs ++ r ∷ gather kind s gs
+gather-around : (form : Form) (s : Bool) (fs : List Field) (f : Field) (gs : List Field) (r : Record) → recordFor form s f ≡ r
+    → gather form s (fs ++ f ∷ gs) ≡ gather form s fs ++ r ∷ gather form s gs
 unfolding gather
-gather-around kind s [] f gs r e = ap (λ (x : Record). x ∷ map (recordFor kind s) gs) e
-gather-around kind s (g ∷ fs) f gs r e = ap (λ (x : List Record). recordFor kind s g ∷ x) (gather-around kind s fs f gs r e)
+gather-around form s [] f gs r e = ap (λ (x : Record). x ∷ map (recordFor form s) gs) e
+gather-around form s (g ∷ fs) f gs r e = ap (λ (x : List Record). recordFor form s g ∷ x) (gather-around form s fs f gs r e)
 
-sheet-of : (kind : ℕ) (m : List ℕ) (fs : List Field) (s : Bool) (rs : List Record) → fields m ≡ fs → signOf fs ≡ s → gather kind s fs ≡ rs
-    → sheetOf kind m ≡ sheet (typeRecord kind ∷ rs)
+sheet-of : (form : Form) (m : List ℕ) (fs : List Field) (s : Bool) (rs : List Record) → fields m ≡ fs → signOf fs ≡ s → gather form s fs ≡ rs
+    → sheetOf form m ≡ sheet (typeRecord form ∷ rs)
 unfolding sheetOf recordsOf
-sheet-of kind m fs s rs e h r =
-    ap (λ (x : List Field). sheet (typeRecord kind ∷ gather kind (signOf x) x)) e ∙ ap (λ (b : Bool). sheet (typeRecord kind ∷ gather kind b fs)) h
-    ∙ ap (λ (x : List Record). sheet (typeRecord kind ∷ x)) r
+sheet-of form m fs s rs e h r =
+    ap (λ (x : List Field). sheet (typeRecord form ∷ gather form (signOf x) x)) e ∙ ap (λ (b : Bool). sheet (typeRecord form ∷ gather form b fs)) h
+    ∙ ap (λ (x : List Record). sheet (typeRecord form ∷ x)) r
 
-is-details : shapeOf 103 (bytes "70") ≡ Details
+is-details : shapeOf Mt103 (bytes "70") ≡ Details
 unfolding shapeOf heldBy tags103 same
 is-details = refl
 
@@ -239,24 +241,24 @@ is-text : drop 11 dashed ++ speeches-of.behind 0 (bytes "''--" ∷ []) ≡ repli
 unfolding speeches-of.behind
 is-text = refl
 
-idle-record : recordFor 103 true (field (bytes "70") (dashed ∷ bytes "''--" ∷ [])) ≡ field (bytes "70") (codeDigits true dashed ∷ (replicate 23 45 ++ bytes "--") ∷ [])
-idle-record = details-record 103 (bytes "70") dashed (bytes "''--" ∷ []) (replicate 23 45 ++ bytes "''--") (replicate 23 45 ++ bytes "--") is-details is-text idle-reads
+idle-record : recordFor Mt103 true (field (bytes "70") (dashed ∷ bytes "''--" ∷ [])) ≡ field (bytes "70") (codeDigits true dashed ∷ (replicate 23 45 ++ bytes "--") ∷ [])
+idle-record = details-record Mt103 (bytes "70") dashed (bytes "''--" ∷ []) (replicate 23 45 ++ bytes "''--") (replicate 23 45 ++ bytes "--") is-details is-text idle-reads
 
 -- the sheet by its records, and 16 over it
 abbrev its-records : List Record
-its-records = gather 103 true fore ++ field (bytes "70") (codeDigits true dashed ∷ (replicate 23 45 ++ bytes "--") ∷ []) ∷ gather 103 true aft
+its-records = gather Mt103 true fore ++ field (bytes "70") (codeDigits true dashed ∷ (replicate 23 45 ++ bytes "--") ∷ []) ∷ gather Mt103 true aft
 
 has-sign : signOf (fore ++ field (bytes "70") (dashed ∷ bytes "''--" ∷ []) ∷ aft) ≡ true
 unfolding signOf same
 has-sign = refl
 
-idle-sheet : sheetOf 103 (bytes idle) ≡ sheet (typeRecord 103 ∷ its-records)
+idle-sheet : sheetOf Mt103 (bytes idle) ≡ sheet (typeRecord Mt103 ∷ its-records)
 idle-sheet =
-    sheet-of 103 (bytes idle) (fore ++ field (bytes "70") (dashed ∷ bytes "''--" ∷ []) ∷ aft) true its-records idle-fields has-sign
-    (gather-around 103 true fore (field (bytes "70") (dashed ∷ bytes "''--" ∷ [])) aft _ idle-record)
+    sheet-of Mt103 (bytes idle) (fore ++ field (bytes "70") (dashed ∷ bytes "''--" ∷ []) ∷ aft) true its-records idle-fields has-sign
+    (gather-around Mt103 true fore (field (bytes "70") (dashed ∷ bytes "''--" ∷ [])) aft _ idle-record)
 
-idle-crowded : first (sheetRules (sheet (typeRecord 103 ∷ its-records))) ≡ Broken 16 0
-unfolding contentParts gather same tags103 shapeOf heldBy cast reads signs.sign grid marks isIn digit capital letter shared long form103 form202 forms placesOf rule18 shaped signOf isTax isInn xset plainly kind latinNext best bad writes pieces recordOf records rest begun digits general untaxed sound badFrom judge sheetSign sheetType rule19 opens last broken breaking.breaks sizeFor unsaid rule15 crowded rule16
+idle-crowded : first (sheetRules (sheet (typeRecord Mt103 ∷ its-records))) ≡ Broken 16 0
+unfolding contentParts gather same tags103 shapeOf heldBy cast reads signs.sign grid marks isIn digit capital letter shared long places103 places202 rule18 shaped signOf tests.looksTax isInn xset plainly kind latinNext best bad writes pieces recordOf records rest begun digits general untaxed sound badFrom judge sheetSign sheetForm rule19 opens last broken breaking.breaks sizeFor unsaid rule15 crowded rule16
 idle-crowded = refl
 
 pub stopped : AllHold Holds stops

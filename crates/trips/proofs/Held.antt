@@ -5,6 +5,7 @@ use mathlib.Core.Path.{_≡_}
 use mathlib.Core.Bool.{Bool, true, false}
 use mathlib.Core.List.{List}
 use lib.ListN.{length}
+use Rattle.types.specs.declared.Form.{Form}
 use Rattle.base.specs.Choice.{all}
 use Rattle.base.specs.Bytes.{begins, empty}
 use Rattle.base.specs.Calls.{said, textOf}
@@ -12,7 +13,7 @@ use Rattle.alphabets.specs.Bank.{reading}
 use Rattle.fields.specs.Field.{Field, field, lined, laid}
 use Rattle.fields.specs.Shapes.{shaped}
 use Rattle.contents.specs.Rule8.{rightField}
-use Rattle.values.specs.Values.{isTax}
+use Rattle.contents.specs.Tests.{looksTax}
 use Rattle.roles.specs.Role.{shapeOf, Part, copy, name, taxName}
 use Rattle.roles.specs.Speech.{speeches}
 use Rattle.roles.specs.Sentences.{Heard}
@@ -27,14 +28,14 @@ use Rattle.sheets.specs.Gather.{contentParts}
 use Rattle.trips.specs.Again.{again}
 
 -- ---- a field of a message that no rule refuses; s: its sign
-pub record Held (kind : ℕ) (s : Bool) (t : List ℕ) (ls : List (List ℕ)) : Type 0 where
+pub record Held (form : Form) (s : Bool) (t : List ℕ) (ls : List (List ℕ)) : Type 0 where
   pub tagged : shaped t ≡ true
   pub fair : Fair ls
-  pub right : rightField kind s (field t ls) ≡ true
-  pub heard : s ≡ true → Heard (speeches true (shapeOf kind t) 0 ls)
+  pub right : rightField form s (field t ls) ≡ true
+  pub heard : s ≡ true → Heard (speeches true (shapeOf form t) 0 ls)
 
-abbrev pub HeldField : ℕ → Bool → Field → Type 0
-HeldField kind s (field t ls) = Held kind s t ls
+abbrev pub HeldField : Form → Bool → Field → Type 0
+HeldField form s (field t ls) = Held form s t ls
 
 -- ---- a name: it says something, and what is written for that keeps what decides on its part
 pub record Kept (s : Bool) (l : List ℕ) : Type 0 where
@@ -48,9 +49,9 @@ pub record Kept (s : Bool) (l : List ℕ) : Type 0 where
 
 pub record TaxKept (s : Bool) (l : List ℕ) : Type 0 where
   pub as-name : Kept s l
-  pub untaxed : isTax l ≡ false
-  pub untaxed-read : isTax (textOf (reading s l)) ≡ false
-  pub untaxed-again : isTax (again s l) ≡ false
+  pub untaxed : looksTax l ≡ false
+  pub untaxed-read : looksTax (textOf (reading s l)) ≡ false
+  pub untaxed-again : looksTax (again s l) ≡ false
 
 abbrev pub KeptPart : Bool → Part → Type 0
 KeptPart s (copy l) = Unit {0}
@@ -70,12 +71,12 @@ pub data Noted : Shape → Type 0 where
   note202 : Noted Note202
 
 -- ---- its record: right by 19, written by 15, without tab and LF, no longer than the field; it fits, but for details with the sign
-pub record Sheeted (kind : ℕ) (s : Bool) (t : List ℕ) (ls : List (List ℕ)) : Type 0 where
-  pub is-sound : sound s (shapeOf kind t) (contentParts s (shapeOf kind t) ls) ≡ true
-  pub says : all (speaks s) (castParts (shapeOf kind t) (contentParts s (shapeOf kind t) ls)) ≡ true
-  pub textual : all plainText (contentParts s (shapeOf kind t) ls) ≡ true
-  pub no-longer : length (line (field t (contentParts s (shapeOf kind t) ls))) + 1 ≤ length (laid (lined (field t ls)))
-  pub fits : crowded s (shapeOf kind t) (contentParts s (shapeOf kind t) ls) ≡ true → (s ≡ true) × (shapeOf kind t ≡ Details)
+pub record Sheeted (form : Form) (s : Bool) (t : List ℕ) (ls : List (List ℕ)) : Type 0 where
+  pub is-sound : sound s (shapeOf form t) (contentParts s (shapeOf form t) ls) ≡ true
+  pub says : all (speaks s) (castParts (shapeOf form t) (contentParts s (shapeOf form t) ls)) ≡ true
+  pub textual : all plainText (contentParts s (shapeOf form t) ls) ≡ true
+  pub no-longer : length (line (field t (contentParts s (shapeOf form t) ls))) + 1 ≤ length (laid (lined (field t ls)))
+  pub fits : crowded s (shapeOf form t) (contentParts s (shapeOf form t) ls) ≡ true → (s ≡ true) × (shapeOf form t ≡ Details)
 
-abbrev pub SheetedField : ℕ → Bool → Field → Type 0
-SheetedField kind s (field t ls) = Sheeted kind s t ls
+abbrev pub SheetedField : Form → Bool → Field → Type 0
+SheetedField form s (field t ls) = Sheeted form s t ls

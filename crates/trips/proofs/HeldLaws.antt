@@ -13,6 +13,7 @@ use Rattle.fields.specs.Field.{Field, field, linesOf, fields}
 use Rattle.fields.specs.Places.{startOf, nextOf}
 use Rattle.fields.specs.Shapes.{shaped, goesOn, proper}
 use Rattle.fields.proofs.FieldLaws.{fields-proper, fields-in}
+use Rattle.types.specs.declared.Form.{Form}
 use Rattle.types.specs.Sign.{signOf}
 use Rattle.contents.specs.Rule8.{rightField}
 use Rattle.contents.proofs.RuleLaws.{rule8-fine}
@@ -51,9 +52,9 @@ heard-start sh o ls h =
     heard-moved o (speeches true sh 0 ls) (subst Heard (ap (λ (k : ℕ). speeches true sh k ls) z ∙ speeches-moved true sh o 0 ls) h)
 
 -- ---- field by field, the first colon at o
-module _ (kind : ℕ) (s : Bool) where
-  each-held : (o : ℕ) (fs : List Field) → all proper fs ≡ true → all (all xset) (linesOf fs) ≡ true → all (rightField kind s) fs ≡ true
-      → (s ≡ true → Heard (spoken kind o fs)) → Every (HeldField kind s) fs
+module _ (form : Form) (s : Bool) where
+  each-held : (o : ℕ) (fs : List Field) → all proper fs ≡ true → all (all xset) (linesOf fs) ≡ true → all (rightField form s) fs ≡ true
+      → (s ≡ true → Heard (spoken form o fs)) → Every (HeldField form s) fs
   unfolding spoken
   each-held o [] p x r h = tt
   each-held o (field t [] ∷ fs) p x r h = absurd (false≢true p)
@@ -66,16 +67,16 @@ module _ (kind : ℕ) (s : Bool) where
         record {
           tagged = left (shaped t) (all goesOn ls) q;
           fair = fair;
-          right = left (rightField kind s f) _ r;
-          heard = λ g. heard-start (shapeOf kind t) (startOf o f) (l ∷ ls) (heard-front (texts kind o f) (spoken kind (nextOf o f) fs) (h g));
+          right = left (rightField form s f) _ r;
+          heard = λ g. heard-start (shapeOf form t) (startOf o f) (l ∷ ls) (heard-front (texts form o f) (spoken form (nextOf o f) fs) (h g));
         },
-        each-held (nextOf o f) fs (right (proper f) (all proper fs) p) (all-behind (all xset) ls (linesOf fs) y) (right (rightField kind s f) _ r)
-            (λ g. heard-behind (texts kind o f) (spoken kind (nextOf o f) fs) (h g)),
+        each-held (nextOf o f) fs (right (proper f) (all proper fs) p) (all-behind (all xset) ls (linesOf fs) y) (right (rightField form s f) _ r)
+            (λ g. heard-behind (texts form o f) (spoken form (nextOf o f) fs) (h g)),
       )
 
-pub all-held : (kind : ℕ) (m : List ℕ) → verdictOf kind m ≡ Fine → Every (HeldField kind (signOf (fields m))) (fields m)
-all-held kind m e =
-    let c = accepted-rules kind m e in
+pub all-held : (form : Form) (m : List ℕ) → verdictOf form m ≡ Fine → Every (HeldField form (signOf (fields m))) (fields m)
+all-held form m e =
+    let c = accepted-rules form m e in
     let p = c .pass in
-    each-held kind (signOf (fields m)) 5 (fields m) (fields-proper m (p .lines)) (fields-in m (p .frame) (p .bytes) (p .lines)) (rule8-fine kind m .0 (c .inside .contents))
-    (rule14-fine kind (fields m) .0 (c .inside .texts))
+    each-held form (signOf (fields m)) 5 (fields m) (fields-proper m (p .lines)) (fields-in m (p .frame) (p .bytes) (p .lines)) (rule8-fine form m .0 (c .inside .contents))
+    (rule14-fine form (fields m) .0 (c .inside .texts))

@@ -5,7 +5,6 @@ pub mod NameLaws
 pub mod DetailLaws
 pub mod ToldLaws
 pub mod HeldLaws
-pub mod LineLaws
 pub mod ValueLaws
 pub mod BackLaws
 pub mod SheetLaws

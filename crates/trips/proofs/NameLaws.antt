@@ -9,15 +9,16 @@ use lib.Dec.{eqb}
 use lib.ListN.{length, length-append}
 use borrow.Author.Tests.{eqb-true}
 use Rattle.base.specs.Choice.{pick, all}
-use Rattle.base.specs.Bytes.{byte, begins, empty, digit, xset}
+use Rattle.base.specs.Bytes.{byte, begins, empty, digit, xset, same}
 use Rattle.base.specs.Quoted.{bytes}
 use Rattle.base.proofs.Bools.{left, right, both, isnt}
 use Rattle.alphabets.proofs.Theorems.{plain-iff, no-shorter}
 use Rattle.fields.specs.Field.{field, lined, laid}
 use Rattle.fields.specs.Shapes.{goesOn}
+use Rattle.types.specs.declared.Form.{Form}
 use Rattle.types.specs.Sign.{firstLine}
 use Rattle.contents.proofs.SizeLaws.{right-nonempty}
-use Rattle.values.specs.Values.{starts, isTax}
+use Rattle.contents.specs.Tests.{looksTax, starts}
 use Rattle.roles.specs.Role.{shapeOf, Part, copy, name, taxName, lineOf, taxed, cast}
 use Rattle.roles.specs.Speech.{names, speeches}
 use Rattle.roles.specs.Rule14.{isInn}
@@ -55,9 +56,9 @@ clear-kept {s} {l} w =
     }
 
 -- what is written again for a name in the tax place is no tax line
-no-tax : (s : Bool) (l : List ℕ) → ClearTax s l → isTax (again s l) ≡ false
+no-tax : (s : Bool) (l : List ℕ) → ClearTax s l → looksTax (again s l) ≡ false
 no-tax true l w = spelt-tax (readAs true l) (again true l) (writes-again true l (w .as-name)) (w .no-inn refl)
-no-tax false l w = ap isTax (plain-same (readAs false l) (again false l) (writes-again false l (w .as-name))) ∙ w .untaxed-read
+no-tax false l w = ap looksTax (plain-same (readAs false l) (again false l) (writes-again false l (w .as-name))) ∙ w .untaxed-read
 
 clear-tax-kept : {s : Bool} {l : List ℕ} → ClearTax s l → TaxKept s l
 clear-tax-kept {s} {l} w = record { as-name = clear-kept (w .as-name); untaxed = w .untaxed; untaxed-read = w .untaxed-read; untaxed-again = no-tax s l w }
@@ -77,7 +78,7 @@ signed-parts o [] h i t = tt
 signed-parts o (copy l ∷ xs) h i t = (left (all xset l) _ i, signed-parts (o + length l + 2) xs h (right (all xset l) _ i) t)
 signed-parts o (name l ∷ xs) h i t = (heard-clear l (h .0), signed-parts (o + length l + 2) xs (h .1) (right (all xset l) _ i) t)
 signed-parts o (taxName l ∷ xs) h i t =
-    (heard-tax l (h .0) (isnt (isTax l) (left (not (isTax l)) _ t)), signed-parts (o + length l + 2) xs (h .1) (right (all xset l) _ i) (right (not (isTax l)) _ t))
+    (heard-tax l (h .0) (isnt (looksTax l) (left (not (looksTax l)) _ t)), signed-parts (o + length l + 2) xs (h .1) (right (all xset l) _ i) (right (not (looksTax l)) _ t))
 
 plain-parts : (xs : List Part) → all some (map lineOf xs) ≡ true → all (all xset) (map lineOf xs) ≡ true → all untaxed xs ≡ true → Every (ClearPart false) xs
 plain-parts [] e i t = tt
@@ -87,7 +88,7 @@ plain-parts (x ∷ xs) e i t =
     one : (x : Part) → some (lineOf x) ≡ true → all xset (lineOf x) ≡ true → untaxed x ≡ true → ClearPart false x
     one (copy l) e i t = i
     one (name l) e i t = plain-clear l i (isnt (empty l) e)
-    one (taxName l) e i t = plain-tax l i (isnt (empty l) e) (isnt (isTax l) t)
+    one (taxName l) e i t = plain-tax l i (isnt (empty l) e) (isnt (looksTax l) t)
 
 -- copied lines have no text that 14 looks at
 copied-parts : (s : Bool) (ls : List (List ℕ)) → all (all xset) ls ≡ true → Every (ClearPart s) (map copy ls)
@@ -120,8 +121,8 @@ module _ (ls : List (List ℕ)) (fair : Fair ls) (front : empty (firstLine ls) �
   cast-clear false _ payee h = plain-parts (cast Payee ls) (lines-some Payee) (lines-in Payee) (cast-untaxed Payee ls)
   cast-clear false _ agent h = plain-parts (cast Agent ls) (lines-some Agent) (lines-in Agent) (cast-untaxed Agent ls)
 
-held-clear : (kind : ℕ) (s : Bool) (t : List ℕ) (ls : List (List ℕ)) → LineByLine (shapeOf kind t) → Held kind s t ls → Every (ClearPart s) (cast (shapeOf kind t) ls)
-held-clear kind s t ls v h = cast-clear ls (h .fair) (right-nonempty kind s t ls (h .right)) s (shapeOf kind t) v (h .heard)
+held-clear : (form : Form) (s : Bool) (t : List ℕ) (ls : List (List ℕ)) → LineByLine (shapeOf form t) → Held form s t ls → Every (ClearPart s) (cast (shapeOf form t) ls)
+held-clear form s t ls v h = cast-clear ls (h .fair) (right-nonempty form s t ls (h .right)) s (shapeOf form t) v (h .heard)
 
 all-kept : (s : Bool) (xs : List Part) → Every (ClearPart s) xs → Every (KeptPart s) xs
 all-kept s [] w = tt
@@ -132,8 +133,8 @@ all-kept s (x ∷ xs) w = (one x (w .0), all-kept s xs (w .1))
     one (name l) w = clear-kept w
     one (taxName l) w = clear-tax-kept w
 
-pub held-kept : (kind : ℕ) (s : Bool) (t : List ℕ) (ls : List (List ℕ)) → LineByLine (shapeOf kind t) → Held kind s t ls → Every (KeptPart s) (cast (shapeOf kind t) ls)
-held-kept kind s t ls v h = all-kept s (cast (shapeOf kind t) ls) (held-clear kind s t ls v h)
+pub held-kept : (form : Form) (s : Bool) (t : List ℕ) (ls : List (List ℕ)) → LineByLine (shapeOf form t) → Held form s t ls → Every (KeptPart s) (cast (shapeOf form t) ls)
+held-kept form s t ls v h = all-kept s (cast (shapeOf form t) ls) (held-clear form s t ls v h)
 
 -- ---- read, and cast again
 module _ (s : Bool) where
@@ -177,12 +178,12 @@ module _ (s : Bool) where
   lines-are _ ps agent = refl
 
 -- the lines written again, part by part
-pub held-lines : (kind : ℕ) (s : Bool) (t : List ℕ) (ls : List (List ℕ)) → LineByLine (shapeOf kind t) → Held kind s t ls
-    → contentLines s (shapeOf kind t) (contentParts s (shapeOf kind t) ls) ≡ map (lineAgain s) (cast (shapeOf kind t) ls)
-held-lines kind s t ls v h =
-    let sh : Shape = shapeOf kind t in
+pub held-lines : (form : Form) (s : Bool) (t : List ℕ) (ls : List (List ℕ)) → LineByLine (shapeOf form t) → Held form s t ls
+    → contentLines s (shapeOf form t) (contentParts s (shapeOf form t) ls) ≡ map (lineAgain s) (cast (shapeOf form t) ls)
+held-lines form s t ls v h =
+    let sh : Shape = shapeOf form t in
     ap (contentLines s sh) (parts-are s sh ls v) ∙ lines-are s sh (map (partFor s) (cast sh ls)) v
-    ∙ ap (map (lineFor s)) (cast-read s sh ls (held-clear kind s t ls v h)) ∙ lines-again s (cast sh ls)
+    ∙ ap (map (lineFor s)) (cast-read s sh ls (held-clear form s t ls v h)) ∙ lines-again s (cast sh ls)
 
 -- ---- the record
 cast-parts : (sh : Shape) (ps : List (List ℕ)) → LineByLine sh → castParts sh ps ≡ cast sh ps
@@ -192,11 +193,12 @@ cast-parts _ ps payee = refl
 cast-parts _ ps agent = refl
 
 -- a tax line begins with Latin INN
-tax-inn : (l : List ℕ) → isTax l ≡ true → isInn l ≡ false
-unfolding isTax isInn
-tax-inn l e =
-    let n : byte l 0 ≡ 73 = eqb-true (byte l 0) 73 (left (eqb (byte l 0) 73) _ (left (starts (bytes "INN") l) _ e)) in
-    ap (λ (x : ℕ). (eqb x 200 && (eqb (byte l 1) 205 && (eqb (byte l 2) 205 && true))) && digit (byte l 3)) n
+tax-inn : (l : List ℕ) → looksTax l ≡ true → isInn l ≡ false
+unfolding looksTax isInn same digit
+tax-inn [] e = refl
+tax-inn (x ∷ l) e =
+    let n : x ≡ 73 = eqb-true x 73 (left (eqb x 73) _ (left (starts (bytes "INN") (x ∷ l)) _ e)) in
+    ap (λ (y : ℕ). isInn (y ∷ l)) n
 
 module _ (s : Bool) where
   part-some : (x : Part) → ClearPart s x → some (lineOf x) ≡ true → some (partFor s x) ≡ true
@@ -253,14 +255,14 @@ module _ (s : Bool) where
       omega (arith, part-size x (w .0), parts-size xs (w .1), length-append (partFor s x) (tabbed (map (partFor s) xs)), length-append (lineOf x) (13 ∷ 10 ∷ laid (map lineOf xs)))
 
   -- S5: what is read in the tax place
-  placed-inn : (b : Bool) (l : List ℕ) → isTax l ≡ b → s ≡ true → ClearPart s (pick b (copy l) (taxName l)) → isInn (partFor s (pick b (copy l) (taxName l))) ≡ false
+  placed-inn : (b : Bool) (l : List ℕ) → looksTax l ≡ b → s ≡ true → ClearPart s (pick b (copy l) (taxName l)) → isInn (partFor s (pick b (copy l) (taxName l))) ≡ false
   placed-inn true l e q w = tax-inn l e
   placed-inn false l e q w = w .no-inn q
 
   first-inn : (ls : List (List ℕ)) → s ≡ true → Every (ClearPart s) (taxed ls) → isInn (firstLine (map (partFor s) (taxed ls))) ≡ false
-  unfolding isInn
+  unfolding isInn same
   first-inn [] q w = refl
-  first-inn (l ∷ ls) q w = placed-inn (isTax l) l refl q (w .0)
+  first-inn (l ∷ ls) q w = placed-inn (looksTax l) l refl q (w .0)
 
   part-head : (b : Bool) (l : List ℕ) → ClearPart s (pick b (copy l) (taxName l)) → begins 47 (partFor s (pick b (copy l) (taxName l))) ≡ begins 47 l
   part-head true l w = refl
@@ -270,8 +272,8 @@ module _ (s : Bool) where
       → isInn (taxPart Payer (map (partFor s) (pick b (copy l ∷ taxed ls) (taxed (l ∷ ls))))) ≡ false
   payer-inn true l ls e q w = ap (λ (b : Bool). isInn (pick b (firstLine (map (partFor s) (taxed ls))) l)) e ∙ first-inn ls q (w .1)
   payer-inn false l ls e q w =
-      let p : List ℕ = partFor s (pick (isTax l) (copy l) (taxName l)) in
-      ap (λ (b : Bool). isInn (pick b (firstLine (map (partFor s) (map name ls))) p)) (part-head (isTax l) l (w .0) ∙ e) ∙ placed-inn (isTax l) l refl q (w .0)
+      let p : List ℕ = partFor s (pick (looksTax l) (copy l) (taxName l)) in
+      ap (λ (b : Bool). isInn (pick b (firstLine (map (partFor s) (map name ls))) p)) (part-head (looksTax l) l (w .0) ∙ e) ∙ placed-inn (looksTax l) l refl q (w .0)
 
   not-inn : (p : List ℕ) → (s ≡ true → isInn p ≡ false) → rule19.untaxed s p ≡ true
   unfolding rule19.untaxed
@@ -307,17 +309,17 @@ record-size t [] ps e h = absurd (true≢false e)
 record-size t (l ∷ ls) ps e h =
     omega (arith, length-append t (tabbed ps), length-append l (13 ∷ 10 ∷ laid ls), length-append (58 ∷ t ++ 58 ∷ l) (13 ∷ 10 ∷ laid ls), length-append t (58 ∷ l))
 
-pub sheeted-names : (kind : ℕ) (s : Bool) (t : List ℕ) (ls : List (List ℕ)) → LineByLine (shapeOf kind t) → Held kind s t ls → Sheeted kind s t ls
-sheeted-names kind s t ls v h =
-    let sh : Shape = shapeOf kind t in
+pub sheeted-names : (form : Form) (s : Bool) (t : List ℕ) (ls : List (List ℕ)) → LineByLine (shapeOf form t) → Held form s t ls → Sheeted form s t ls
+sheeted-names form s t ls v h =
+    let sh : Shape = shapeOf form t in
     let xs : List Part = cast sh ls in
     let ps : List (List ℕ) = contentParts s sh ls in
     let i : ps ≡ map (partFor s) xs = parts-are s sh ls v in
-    let w : Every (ClearPart s) xs = held-clear kind s t ls v h in
+    let w : Every (ClearPart s) xs = held-clear form s t ls v h in
     let is : castParts sh ps ≡ map (turned (readAs s)) xs = cast-parts sh ps v ∙ ap (cast sh) i ∙ cast-read s sh ls w in
     let n : length (tabbed ps) ≤ length (laid ls) = omega (arith, ap (λ (k : List (List ℕ)). length (tabbed k)) i, parts-size s xs w, ap (λ (k : List (List ℕ)). length (laid k)) (same-lines sh ls)) in
     record {
-      is-sound = ap (sound s sh) i ∙ parts-sound s sh ls v (h .fair) (right-nonempty kind s t ls (h .right)) w;
+      is-sound = ap (sound s sh) i ∙ parts-sound s sh ls v (h .fair) (right-nonempty form s t ls (h .right)) w;
       says = ap (all (speaks s)) is ∙ parts-say s xs w;
       textual = ap (all plainText) i ∙ parts-textual s xs w;
       no-longer = record-size t ls ps (h .fair .some) n;

@@ -8,6 +8,7 @@ use native.Mathlib.Omega.{arith}
 use lib.Dec.{eqb}
 use lib.ListN.{length, length-map}
 use borrow.Author.Tests.{eqb-true}
+use Rattle.types.specs.declared.Form.{Form}
 use Rattle.base.specs.Choice.{pick}
 use Rattle.base.specs.Bytes.{begins, empty, digit}
 use Rattle.base.specs.Quoted.{bytes}
@@ -22,33 +23,15 @@ use Rattle.contents.specs.Fields.{LooksTax, IsAccount, Each, Names, BankByName,
 use Rattle.contents.specs.Tags.{heldBy}
 use Rattle.contents.specs.Rule8.{rightField}
 use Rattle.contents.proofs.RuleLaws.{field-says}
-use Rattle.contents.proofs.LineTests.{begins-says}
+use Rattle.contents.proofs.LineTests.{begins-says, looks-says}
 use Rattle.contents.proofs.FieldLaws.{tax-looks}
-use Rattle.values.specs.Values.{isTax, starts}
+use Rattle.contents.specs.Tests.{looksTax, starts}
 use Rattle.roles.specs.Role.{copy, name, taxName, taxed, cast, shapeFor, shapeOf}
 use Rattle.roles.specs.declared.Shape.the-variants as shape
 use Rattle.written.specs.Sentences.{Every}
 use Rattle.trips.specs.Again.{again, lineAgain, fieldAgain}
 use Rattle.trips.proofs.Held.{Held, Kept, KeptPart, LineByLine}
 use Rattle.trips.proofs.NameLaws.{held-kept, held-lines}
-
--- ---- a line begins INN and a digit exactly if 13 takes it for a tax line
-tax-says : (l : List ℕ) → Says (LooksTax l) (isTax l)
-unfolding isTax digit
-tax-says l = says-by (made l) (λ t. ap isTax (t .2 .line) ∙ t .2 .digit-first)
-  where
-    made : (l : List ℕ) → isTax l ≡ true → LooksTax l
-    made [] e = absurd (false≢true e)
-    made (a ∷ []) e = absurd (false≢true (right (starts (bytes "INN") (a ∷ [])) _ e))
-    made (a ∷ b ∷ []) e = absurd (false≢true (right (starts (bytes "INN") (a ∷ b ∷ [])) _ e))
-    made (a ∷ b ∷ c ∷ []) e = absurd (false≢true (right (starts (bytes "INN") (a ∷ b ∷ c ∷ [])) _ e))
-    made (a ∷ b ∷ c ∷ d ∷ s) e =
-        let w = left (starts (bytes "INN") (a ∷ b ∷ c ∷ d ∷ s)) _ e in
-        let p = right (eqb a 73) _ w in
-        let i = eqb-true a 73 (left (eqb a 73) _ w) in
-        let j = eqb-true b 78 (left (eqb b 78) _ p) in
-        let k = eqb-true c 78 (left (eqb c 78) _ (right (eqb b 78) _ p)) in
-        (d, s, record { digit-first = right (starts (bytes "INN") (a ∷ b ∷ c ∷ d ∷ s)) _ e; line = cc })
 
 account-slash : (l : List ℕ) → IsAccount l → begins 47 l ≡ true
 account-slash l a = is-so (begins-says l) (a .0, a .1 .line)
@@ -76,13 +59,13 @@ module _ (s : Bool) where
   -- ---- the tax place: a tax line is copied, and a name there does not become one
   tax-pass : (twelve : Bool) (ls : List (List ℕ)) → Every (KeptPart s) (taxed ls) → Beside twelve ls → Beside twelve (map (lineAgain s) (taxed ls))
   tax-pass twelve [] k r = r
-  tax-pass twelve (l ∷ ls) k r = go (isTax l) refl (k .0) r
+  tax-pass twelve (l ∷ ls) k r = go (looksTax l) refl (k .0) r
     where
-      go : (b : Bool) → isTax l ≡ b → KeptPart s (pick b (copy l) (taxName l)) → Beside twelve (l ∷ ls) → Beside twelve (map (lineAgain s) (pick b (copy l) (taxName l) ∷ map name ls))
+      go : (b : Bool) → looksTax l ≡ b → KeptPart s (pick b (copy l) (taxName l)) → Beside twelve (l ∷ ls) → Beside twelve (map (lineAgain s) (pick b (copy l) (taxName l) ∷ map name ls))
       go true e a (inl t) = inl (t .0, names-pass ls (k .1) (t .1))
-      go true e a (inr n) = absurd (n .0 (tax-says l .so e, tt))
-      go false e a (inl t) = absurd (tax-says l .not-so e (tax-looks twelve l (t .0)))
-      go false e a (inr n) = inr (λ t. tax-says (again s l) .not-so (a .untaxed-again) (t .0), names-pass (l ∷ ls) (a .as-name, k .1) (n .1))
+      go true e a (inr n) = absurd (n .0 (looks-says l .so e, tt))
+      go false e a (inl t) = absurd (looks-says l .not-so e (tax-looks twelve l (t .0)))
+      go false e a (inr n) = inr (λ t. looks-says (again s l) .not-so (a .untaxed-again) (t .0), names-pass (l ∷ ls) (a .as-name, k .1) (n .1))
 
   -- ---- by shape: the first line is an account or a party line, which stays, or in 50K the tax place
   customer-pass : (twelve : Bool) (ls : List (List ℕ)) → Every (KeptPart s) (cast shape.Payee ls) → Customer twelve ls → Customer twelve (map (lineAgain s) (cast shape.Payee ls))
@@ -104,7 +87,7 @@ module _ (s : Bool) where
       go true e k (inl c) = inl (c .0, tax-pass true ls (k .1) (c .1))
       go true e k (inr p) = absurd (p .0 (begins-says l .so e, tt))
       go false e k (inl c) = absurd (true≢false (sym (account-slash l (c .0)) ∙ e))
-      go false e k (inr p) = inr (λ x. begins-says (lineAgain s (pick (isTax l) (copy l) (taxName l))) .not-so (slash-pass (isTax l) l (k .0) ∙ e) (x .0), tax-pass true (l ∷ ls) k (p .1))
+      go false e k (inr p) = inr (λ x. begins-says (lineAgain s (pick (looksTax l) (copy l) (taxName l))) .not-so (slash-pass (looksTax l) l (k .0) ∙ e) (x .0), tax-pass true (l ∷ ls) k (p .1))
 
   agent-pass : (ls : List (List ℕ)) → Every (KeptPart s) (cast shape.Agent ls) → BankByName ls → BankByName (map (lineAgain s) (cast shape.Agent ls))
   unfolding cast
@@ -139,9 +122,9 @@ module _ (s : Bool) where
   lines-pass holds.Regulatory ls v k r = plain-pass holds.Regulatory ls r
 
 -- ---- 8, of a field written again
-pub named-again : (kind : ℕ) (s : Bool) (t : List ℕ) (ls : List (List ℕ)) → LineByLine (shapeOf kind t) → Held kind s t ls → rightField kind s (fieldAgain kind s (field t ls)) ≡ true
+pub named-again : (form : Form) (s : Bool) (t : List ℕ) (ls : List (List ℕ)) → LineByLine (shapeOf form t) → Held form s t ls → rightField form s (fieldAgain form s (field t ls)) ≡ true
 unfolding shapeOf
-named-again kind s t ls v h =
-    let c : Content = heldBy kind t in
-    field-says kind s (fieldAgain kind s (field t ls)) .1
-    (subst (Right c s) (sym (held-lines kind s t ls v h)) (lines-pass s c ls v (held-kept kind s t ls v h) (field-says kind s (field t ls) .0 (h .right))))
+named-again form s t ls v h =
+    let c : Content = heldBy form t in
+    field-says form s (fieldAgain form s (field t ls)) .1
+    (subst (Right c s) (sym (held-lines form s t ls v h)) (lines-pass s c ls v (held-kept form s t ls v h) (field-says form s (field t ls) .0 (h .right))))

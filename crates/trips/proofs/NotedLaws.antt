@@ -5,7 +5,7 @@ use mathlib.Core.Bool.{Bool, true, false, true≢false}
 use mathlib.Core.Logic.{inl, inr}
 use mathlib.Core.List.{List, [], _∷_, _++_}
 use Rattle.base.specs.Choice.{all}
-use Rattle.base.specs.Bytes.{empty}
+use Rattle.base.specs.Bytes.{empty, same}
 use Rattle.base.specs.Quoted.{bytes}
 use Rattle.base.specs.Calls.{textOf}
 use Rattle.base.proofs.Bools.{left, right}
@@ -65,7 +65,7 @@ module _ (s : Bool) where
 
   -- ---- 72 of a 202
   note-pass : (ls : List (List ℕ)) → RppAndDetails s ls → Ready s Note202 (contentParts s Note202 ls) → RppAndDetails s (contentLines s Note202 (contentParts s Note202 ls))
-  unfolding contentParts contentLines
+  unfolding contentParts contentLines same
   note-pass ls (inl d) w = go (d .3 .lines) w
     where
       go : {ls ks : List (List ℕ)} {k : List ℕ} → ls ≡ (bytes "/NZP/" ++ k) ∷ ks → Ready s Note202 (contentParts s Note202 ls) → RppAndDetails s (contentLines s Note202 (contentParts s Note202 ls))

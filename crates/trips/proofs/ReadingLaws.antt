@@ -18,7 +18,7 @@ use Rattle.alphabets.specs.Best.{writing}
 use Rattle.alphabets.proofs.GridLaws.{write-read}
 use Rattle.alphabets.proofs.Shortest.{Came, turned, signed, came}
 use Rattle.alphabets.proofs.Theorems.{plain-iff}
-use Rattle.values.specs.Values.{isTax}
+use Rattle.contents.specs.Tests.{looksTax}
 use Rattle.roles.specs.Speech.{named, taxPlaced}
 use Rattle.roles.specs.Rule14.{mute, hidden, isInn, taxLike, clauses, breaks}
 use Rattle.records.specs.Record.{plainText}
@@ -82,8 +82,8 @@ pub record Clear (s : Bool) (l : List ℕ) : Type 0 where
 
 pub record ClearTax (s : Bool) (l : List ℕ) : Type 0 where
   pub as-name : Clear s l
-  pub untaxed : isTax l ≡ false
-  pub untaxed-read : isTax (readAs s l) ≡ false
+  pub untaxed : looksTax l ≡ false
+  pub untaxed-read : looksTax (readAs s l) ≡ false
   pub no-inn : s ≡ true → isInn (readAs s l) ≡ false
 
 clear-by : (s : Bool) (l d : List ℕ) → reading s l ≡ said d → empty d ≡ false → ((c : ℕ) → Mark c → begins c d ≡ begins c l) → Clear s l
@@ -100,9 +100,9 @@ clear-by s l d r m h =
 pub plain-clear : (l : List ℕ) → all xset l ≡ true → empty l ≡ false → Clear false l
 plain-clear l h e = clear-by false l l (plain-iff l .1 h) e (λ c m. refl)
 
-pub plain-tax : (l : List ℕ) → all xset l ≡ true → empty l ≡ false → isTax l ≡ false → ClearTax false l
+pub plain-tax : (l : List ℕ) → all xset l ≡ true → empty l ≡ false → looksTax l ≡ false → ClearTax false l
 plain-tax l h e t =
-    record { as-name = plain-clear l h e; untaxed = t; untaxed-read = ap isTax (ap textOf (plain-iff l .1 h)) ∙ t; no-inn = λ q. absurd (false≢true q) }
+    record { as-name = plain-clear l h e; untaxed = t; untaxed-read = ap looksTax (ap textOf (plain-iff l .1 h)) ∙ t; no-inn = λ q. absurd (false≢true q) }
 
 signed-clear : (l d : List ℕ) → reads false l ≡ said d → empty d ≡ false → hidden l d ≡ false → Clear true l
 signed-clear l d r m h = clear-by true l d r m (λ c k. head-read c l d k r h)
@@ -119,7 +119,7 @@ heard-clear l e = go (reading true l) refl e
     go (stuck k) r e = absurd (true≢false e)
     go (said d) r e = let f = or-none (empty d) (hidden l d) e in signed-clear l d r (f .0) (f .1)
 
-pub heard-tax : (l : List ℕ) → breaks taxPlaced l ≡ false → isTax l ≡ false → ClearTax true l
+pub heard-tax : (l : List ℕ) → breaks taxPlaced l ≡ false → looksTax l ≡ false → ClearTax true l
 unfolding breaks taxLike
 heard-tax l e t = go (reading true l) refl e
   where
@@ -128,11 +128,11 @@ heard-tax l e t = go (reading true l) refl e
     go (said d) r e =
         let f = or-none (empty d) (hidden l d || taxLike d) e in
         let g = or-none (hidden l d) (taxLike d) (f .1) in
-        let h = or-none (isTax d) (isInn d) (g .1) in
+        let h = or-none (looksTax d) (isInn d) (g .1) in
         record {
           as-name = signed-clear l d r (f .0) (g .0);
           untaxed = t;
-          untaxed-read = ap isTax (ap textOf r) ∙ h .0;
+          untaxed-read = ap looksTax (ap textOf r) ∙ h .0;
           no-inn = λ q. ap isInn (ap textOf r) ∙ h .1;
         }
 

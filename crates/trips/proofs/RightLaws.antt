@@ -3,6 +3,7 @@ use Prim.Native.Nat.{ℕ}
 use mathlib.Core.Path.{_≡_, refl}
 use mathlib.Core.Bool.{Bool, true}
 use mathlib.Core.List.{List}
+use Rattle.types.specs.declared.Form.{Form}
 use Rattle.fields.specs.Field.{field}
 use Rattle.contents.specs.Fields.{Right}
 use Rattle.contents.specs.Tags.{heldBy}
@@ -19,24 +20,24 @@ use Rattle.trips.proofs.Held as held
 use Rattle.trips.proofs.NamedLaws.{named-again}
 use Rattle.trips.proofs.NotedLaws.{noted-again}
 
-pub right-again : (kind : ℕ) (s : Bool) (t : List ℕ) (ls : List (List ℕ)) → Held kind s t ls → Ready s (shapeOf kind t) (contentParts s (shapeOf kind t) ls)
-    → rightField kind s (field t (contentLines s (shapeOf kind t) (contentParts s (shapeOf kind t) ls))) ≡ true
+pub right-again : (form : Form) (s : Bool) (t : List ℕ) (ls : List (List ℕ)) → Held form s t ls → Ready s (shapeOf form t) (contentParts s (shapeOf form t) ls)
+    → rightField form s (field t (contentLines s (shapeOf form t) (contentParts s (shapeOf form t) ls))) ≡ true
 unfolding shapeOf
-right-again kind s t ls h w = field-says kind s (field t (contentLines s (shapeOf kind t) (contentParts s (shapeOf kind t) ls))) .1 (go (shapeOf kind t) refl)
+right-again form s t ls h w = field-says form s (field t (contentLines s (shapeOf form t) (contentParts s (shapeOf form t) ls))) .1 (go (shapeOf form t) refl)
   where
-    was : Right (heldBy kind t) s ls
-    was = field-says kind s (field t ls) .0 (h .right)
+    was : Right (heldBy form t) s ls
+    was = field-says form s (field t ls) .0 (h .right)
 
     Again : Type 0
-    Again = Right (heldBy kind t) s (contentLines s (shapeOf kind t) (contentParts s (shapeOf kind t) ls))
+    Again = Right (heldBy form t) s (contentLines s (shapeOf form t) (contentParts s (shapeOf form t) ls))
 
-    named : LineByLine (shapeOf kind t) → Again
-    named v = field-says kind s (field t (contentLines s (shapeOf kind t) (contentParts s (shapeOf kind t) ls))) .0 (named-again kind s t ls v h)
+    named : LineByLine (shapeOf form t) → Again
+    named v = field-says form s (field t (contentLines s (shapeOf form t) (contentParts s (shapeOf form t) ls))) .0 (named-again form s t ls v h)
 
-    noted : Noted (shapeOf kind t) → Again
-    noted v = noted-again (heldBy kind t) s ls v was w
+    noted : Noted (shapeOf form t) → Again
+    noted v = noted-again (heldBy form t) s ls v was w
 
-    go : (sh : Shape) → shapeOf kind t ≡ sh → Again
+    go : (sh : Shape) → shapeOf form t ≡ sh → Again
     go Plain e = named (rw e held.plain)
     go Payer e = named (rw e held.payer)
     go Payee e = named (rw e held.payee)

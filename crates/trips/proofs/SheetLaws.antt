@@ -26,6 +26,8 @@ use Rattle.fields.specs.Frame.{limit, rule1}
 use Rattle.fields.specs.Shapes.{shaped, shapedTag}
 use Rattle.fields.proofs.TagLaws.{shaped-without}
 use Rattle.fields.proofs.FieldLaws.{fields-shaped, message-fields}
+use Rattle.types.specs.declared.Form.{Form}
+use Rattle.types.specs.declared.Form.the-variants.{Other, Mt103, Mt202}
 use Rattle.types.specs.Walk.{rule18}
 use Rattle.types.specs.Sign.{firstLine, signOf}
 use Rattle.types.proofs.TableLaws.{rule18-iff}
@@ -38,7 +40,7 @@ use Rattle.judge.specs.Message.{verdictOf}
 use Rattle.judge.proofs.RuleLaws.{accepted-rules}
 use Rattle.records.specs.Record.{Record, sheet, pieces, front, final, recordOf, records, rest, begun, plainText, writable}
 use Rattle.records.specs.Places.{sizeOf}
-use Rattle.records.specs.Rule19.{digits, good, typed, typeIn, typeOf, sheetType, sheetSign, rule19}
+use Rattle.records.specs.Rule19.{digits, good, typed, formIn, namedForm, sheetForm, sheetSign, rule19}
 use Rattle.records.specs.Sentences.{Sound}
 use Rattle.records.proofs.PieceLaws.{some-piece}
 use Rattle.records.proofs.PlaceLaws.{size-sheet}
@@ -53,31 +55,20 @@ use Rattle.written.proofs.ExactLaws.{crowded-none}
 use Rattle.sheets.specs.Gather.{partFor, contentParts, recordFor, gather, typeRecord, recordsOf, sheetOf}
 use Rattle.trips.specs.Again.{Crowded70}
 use Rattle.trips.proofs.Held.{SheetedField}
-use Rattle.trips.proofs.ValueLaws.{Seen, as-details, seen}
+use Rattle.trips.proofs.ValueLaws.{details-70}
 
--- ---- the type is one of the two
-abbrev Known : ℕ → Type 0
-Known kind = (kind ≡ 103) ⊎ (kind ≡ 202)
+-- ---- the record of the type
+record Typed (form : Form) : Type 0 where
+  names : typed (typeRecord form) ≡ true
+  worth : formIn (typeRecord form) ≡ form
+  textual : writable (typeRecord form) ≡ true
+  says : (s : Bool) → speaking form s (typeRecord form) ≡ true
 
-is-known : (kind : ℕ) → rule18 kind ≡ Fine → Known kind
-is-known kind e = go (eqb kind 103) (eqb kind 202) refl refl
-  where
-    go : (a b : Bool) → eqb kind 103 ≡ a → eqb kind 202 ≡ b → Known kind
-    go true b p q = inl (eqb-true kind 103 p)
-    go false true p q = inr (eqb-true kind 202 q)
-    go false false p q = absurd (fine-broken 18 0 (sym e ∙ rule18-iff kind .1 (eqb-false kind 103 p, eqb-false kind 202 q)))
-
--- ---- its record
-record Typed (kind : ℕ) : Type 0 where
-  names : typed (typeRecord kind) ≡ true
-  worth : typeIn (typeRecord kind) ≡ kind
-  textual : writable (typeRecord kind) ≡ true
-  says : (s : Bool) → speaking kind s (typeRecord kind) ≡ true
-
-is-typed : (kind : ℕ) → Known kind → Typed kind
-unfolding same digits digit shapeOf heldBy tags103 tags202 cast plainly xset letter capital shared
-is-typed kind (inl e) = subst Typed (sym e) (record { names = refl; worth = refl; textual = refl; says = λ s. refl })
-is-typed kind (inr e) = subst Typed (sym e) (record { names = refl; worth = refl; textual = refl; says = λ s. refl })
+is-typed : (form : Form) → rule18 form ≡ Fine → Typed form
+unfolding rule18 same digits digit shapeOf heldBy tags103 tags202 cast plainly xset letter capital shared
+is-typed Mt103 e = record { names = refl; worth = refl; textual = refl; says = λ s. refl }
+is-typed Mt202 e = record { names = refl; worth = refl; textual = refl; says = λ s. refl }
+is-typed Other e = absurd (fine-broken 18 0 (sym e))
 
 -- ---- the sign: field 20 is copied, and nothing behind the last LF counts
 -- what keeps each tag, and the content of 20, keeps the sign
@@ -100,11 +91,11 @@ plain-parts s ls = go ls
     go [] = refl
     go (k ∷ ks) = ap (λ (r : List (List ℕ)). k ∷ r) (go ks)
 
-parts-20 : (kind : ℕ) (s : Bool) (ls : List (List ℕ)) → contentParts s (shapeOf kind (bytes "20")) ls ≡ ls
-parts-20 kind s ls = ap (λ (sh : Shape). contentParts s sh ls) (shape-20 kind s) ∙ plain-parts s ls
+parts-20 : (form : Form) (s : Bool) (ls : List (List ℕ)) → contentParts s (shapeOf form (bytes "20")) ls ≡ ls
+parts-20 form s ls = ap (λ (sh : Shape). contentParts s sh ls) (shape-20 form s) ∙ plain-parts s ls
 
-sign-gather : (kind : ℕ) (s : Bool) (fs : List Field) → signOf (map (recordFor kind s) fs) ≡ signOf fs
-sign-gather kind s fs = sign-kept (recordFor kind s) (λ (t : List ℕ). contentParts s (shapeOf kind t)) (λ t ls. refl) (parts-20 kind s) fs
+sign-gather : (form : Form) (s : Bool) (fs : List Field) → signOf (map (recordFor form s) fs) ≡ signOf fs
+sign-gather form s fs = sign-kept (recordFor form s) (λ (t : List ℕ). contentParts s (shapeOf form t)) (λ t ls. refl) (parts-20 form s) fs
 
 front-final : (ls : List (List ℕ)) → (ls ≡ [] → ⊥) → map recordOf ls ≡ map recordOf (front ls) ++ recordOf (final ls) ∷ []
 front-final [] n = absurd (n refl)
@@ -131,10 +122,10 @@ message-size : (fs : List Field) → length (message fs) ≡ length (laid (lines
 unfolding message
 message-size fs = omega (arith, length-append (laid (linesOf fs)) closing)
 
-records-size : (kind : ℕ) (s : Bool) (fs : List Field) → Every (SheetedField kind s) fs → sizeOf (map (recordFor kind s) fs) ≤ length (laid (linesOf fs))
-records-size kind s [] w = omega arith
-records-size kind s (field t ls ∷ fs) w =
-    let n = records-size kind s fs (w .1) in
+records-size : (form : Form) (s : Bool) (fs : List Field) → Every (SheetedField form s) fs → sizeOf (map (recordFor form s) fs) ≤ length (laid (linesOf fs))
+records-size form s [] w = omega arith
+records-size form s (field t ls ∷ fs) w =
+    let n = records-size form s fs (w .1) in
     let m = w .0 .no-longer in
     omega (arith, n, m, laid-both (lined (field t ls)) (linesOf fs))
 
@@ -143,106 +134,103 @@ tag-plain : (t : List ℕ) → shaped t ≡ true → plainText t ≡ true
 unfolding digit capital
 tag-plain t e = both (shaped-without 9 refl refl t e) (shaped-without 10 refl refl t e)
 
-module _ (kind : ℕ) (s : Bool) where
-  all-writable : (fs : List Field) → all shapedTag fs ≡ true → Every (SheetedField kind s) fs → all writable (map (recordFor kind s) fs) ≡ true
+module _ (form : Form) (s : Bool) where
+  all-writable : (fs : List Field) → all shapedTag fs ≡ true → Every (SheetedField form s) fs → all writable (map (recordFor form s) fs) ≡ true
   all-writable [] e w = refl
   all-writable (field t ls ∷ fs) e w =
       both (both (tag-plain t (left (shaped t) _ e)) (w .0 .textual)) (all-writable fs (right (shaped t) _ e) (w .1))
 
-  all-good : (fs : List Field) → all shapedTag fs ≡ true → Every (SheetedField kind s) fs → all (good kind s) (map (recordFor kind s) fs) ≡ true
+  all-good : (fs : List Field) → all shapedTag fs ≡ true → Every (SheetedField form s) fs → all (good form s) (map (recordFor form s) fs) ≡ true
   all-good [] e w = refl
   all-good (field t ls ∷ fs) e w = both (both (left (shaped t) _ e) (w .0 .is-sound)) (all-good fs (right (shaped t) _ e) (w .1))
 
-  all-speaking : (fs : List Field) → Every (SheetedField kind s) fs → all (speaking kind s) (map (recordFor kind s) fs) ≡ true
+  all-speaking : (fs : List Field) → Every (SheetedField form s) fs → all (speaking form s) (map (recordFor form s) fs) ≡ true
   all-speaking [] w = refl
   all-speaking (field t ls ∷ fs) w = both (w .0 .says) (all-speaking fs (w .1))
 
   -- what 16 refuses of them is 70 of a 103, with the sign
-  which-crowded : (fs : List Field) → Every (SheetedField kind s) fs → someCrowded kind s (map (recordFor kind s) fs) ≡ true → Crowded70 kind s fs
+  which-crowded : (fs : List Field) → Every (SheetedField form s) fs → someCrowded form s (map (recordFor form s) fs) ≡ true → Crowded70 form s fs
   which-crowded [] w e = absurd (false≢true e)
-  which-crowded (field t ls ∷ fs) w e = go (crowded s (shapeOf kind t) (contentParts s (shapeOf kind t) ls)) refl e (which-crowded fs (w .1))
+  which-crowded (field t ls ∷ fs) w e = go (crowded s (shapeOf form t) (contentParts s (shapeOf form t) ls)) refl e (which-crowded fs (w .1))
     where
-      this : s ≡ true → Seen kind t Details → crowded true Details (contentParts true Details ls) ≡ true → Crowded70 kind s (field t ls ∷ fs)
-      this a (as-details k i) q =
+      this : s ≡ true → (form ≡ Mt103) × (t ≡ bytes "70") → crowded true Details (contentParts true Details ls) ≡ true → Crowded70 form s (field t ls ∷ fs)
+      this a (k, i) q =
           record { type = k; sign = a; before = []; lines = ls; behind = fs; list = ap (λ (u : List ℕ). field u ls ∷ fs) i; no-way = crowded-none true Details (contentParts true Details ls) q }
 
-      go : (b : Bool) → crowded s (shapeOf kind t) (contentParts s (shapeOf kind t) ls) ≡ b → (b || someCrowded kind s (map (recordFor kind s) fs)) ≡ true
-          → (someCrowded kind s (map (recordFor kind s) fs) ≡ true → Crowded70 kind s fs) → Crowded70 kind s (field t ls ∷ fs)
-      go true q e ih = let f = w .0 .fits q in this (f .0) (rw (f .1) at (seen kind t)) (rw (f .0, f .1) at q)
+      go : (b : Bool) → crowded s (shapeOf form t) (contentParts s (shapeOf form t) ls) ≡ b → (b || someCrowded form s (map (recordFor form s) fs)) ≡ true
+          → (someCrowded form s (map (recordFor form s) fs) ≡ true → Crowded70 form s fs) → Crowded70 form s (field t ls ∷ fs)
+      go true q e ih = let f = w .0 .fits q in this (f .0) (details-70 form t (f .1)) (rw (f .0, f .1) at q)
       go false q e ih =
-          let v : Crowded70 kind s fs = ih e in
+          let v : Crowded70 form s fs = ih e in
           record { type = v .type; sign = v .sign; before = field t ls ∷ v .before; lines = v .lines; behind = v .behind; list = ap (λ (l : List Field). field t ls ∷ l) (v .list); no-way = v .no-way }
 
 -- ---- the sheet
-module _ (kind : ℕ) (s : Bool) (fs : List Field) (eighteen : rule18 kind ≡ Fine) (sign : s ≡ signOf fs) (tags : all shapedTag fs ≡ true) (each : Every (SheetedField kind s) fs) where
+module _ (form : Form) (s : Bool) (fs : List Field) (eighteen : rule18 form ≡ Fine) (sign : s ≡ signOf fs) (tags : all shapedTag fs ≡ true) (each : Every (SheetedField form s) fs) where
   abbrev pub sheetFor : List ℕ
-  sheetFor = sheet (typeRecord kind ∷ gather kind s fs)
+  sheetFor = sheet (typeRecord form ∷ gather form s fs)
 
-  known : Known kind
-  known = is-known kind eighteen
+  head : Typed form
+  head = is-typed form eighteen
 
-  head : Typed kind
-  head = is-typed kind known
-
-  can-write : all writable (typeRecord kind ∷ gather kind s fs) ≡ true
+  can-write : all writable (typeRecord form ∷ gather form s fs) ≡ true
   unfolding gather
-  can-write = both (head .textual) (all-writable kind s fs tags each)
+  can-write = both (head .textual) (all-writable form s fs tags each)
 
-  pub its-records : records sheetFor ≡ typeRecord kind ∷ gather kind s fs
-  its-records = records-sheet (typeRecord kind ∷ gather kind s fs) can-write
+  pub its-records : records sheetFor ≡ typeRecord form ∷ gather form s fs
+  its-records = records-sheet (typeRecord form ∷ gather form s fs) can-write
 
   pub its-rest : rest sheetFor ≡ []
-  its-rest = rest-sheet (typeRecord kind ∷ gather kind s fs) can-write
+  its-rest = rest-sheet (typeRecord form ∷ gather form s fs) can-write
 
-  pub its-type : sheetType sheetFor ≡ kind
-  unfolding sheetType
-  its-type = ap typeOf its-records ∙ head .worth
+  pub its-type : sheetForm sheetFor ≡ form
+  unfolding sheetForm
+  its-type = ap namedForm its-records ∙ head .worth
 
   pub its-sign : sheetSign sheetFor ≡ s
   unfolding sheetSign gather signOf same
   its-sign =
       ap signOf (begun-is sheetFor ∙ ap₂ (λ (rs : List Record) (w : List ℕ). rs ++ recordOf w ∷ []) its-records its-rest)
-      ∙ sign-end (typeRecord kind ∷ gather kind s fs) ∙ sign-gather kind s fs ∙ sym sign
+      ∙ sign-end (typeRecord form ∷ gather form s fs) ∙ sign-gather form s fs ∙ sym sign
 
   -- what is asked of its type, its sign and its records
-  read-as : {A : Type 0} (f : ℕ → Bool → List Record → A) → f (sheetType sheetFor) (sheetSign sheetFor) (records sheetFor) ≡ f kind s (typeRecord kind ∷ gather kind s fs)
-  read-as f = ap (λ (k : ℕ). f k (sheetSign sheetFor) (records sheetFor)) its-type ∙ ap₂ (f kind) its-sign its-records
+  read-as : {A : Type 0} (f : Form → Bool → List Record → A) → f (sheetForm sheetFor) (sheetSign sheetFor) (records sheetFor) ≡ f form s (typeRecord form ∷ gather form s fs)
+  read-as f = ap (λ (k : Form). f k (sheetSign sheetFor) (records sheetFor)) its-type ∙ ap₂ (f form) its-sign its-records
 
   -- ---- rule by rule
   pub its-sound : Sound sheetFor
   unfolding gather
   its-sound =
       record {
-        head = typeRecord kind;
-        behind = gather kind s fs;
+        head = typeRecord form;
+        behind = gather form s fs;
         list = its-records;
         names = head .names;
-        each = ap₂ (λ (k : ℕ) (b : Bool). all (good k b) (gather kind s fs)) (head .worth) its-sign ∙ all-good kind s fs tags each;
+        each = ap₂ (λ (k : Form) (b : Bool). all (good k b) (gather form s fs)) (head .worth) its-sign ∙ all-good form s fs tags each;
         ended = its-rest;
       }
 
   pub its-19 : rule19 sheetFor ≡ Fine
   its-19 = sound-fine sheetFor its-sound
 
-  pub its-18 : rule18 (sheetType sheetFor) ≡ Fine
+  pub its-18 : rule18 (sheetForm sheetFor) ≡ Fine
   its-18 = ap rule18 its-type ∙ eighteen
 
-  pub its-15 : rule15 (sheetType sheetFor) (sheetSign sheetFor) 0 (records sheetFor) ≡ Fine
+  pub its-15 : rule15 (sheetForm sheetFor) (sheetSign sheetFor) 0 (records sheetFor) ≡ Fine
   unfolding gather
   its-15 =
-      read-as (λ (k : ℕ) (b : Bool) (rs : List Record). rule15 k b 0 rs)
-      ∙ rule15-fine s kind 0 (typeRecord kind ∷ gather kind s fs) .1 (both (head .says s) (all-speaking kind s fs each))
+      read-as (λ (k : Form) (b : Bool) (rs : List Record). rule15 k b 0 rs)
+      ∙ rule15-fine s form 0 (typeRecord form ∷ gather form s fs) .1 (both (head .says s) (all-speaking form s fs each))
 
   abbrev sixteen : Verdict
-  sixteen = rule16 (sheetType sheetFor) (sheetSign sheetFor) (tail (records sheetFor))
+  sixteen = rule16 (sheetForm sheetFor) (sheetSign sheetFor) (tail (records sheetFor))
 
-  fits-or-not : (sixteen ≡ Fine) ⊎ ((sixteen ≡ Broken 16 0) × Crowded70 kind s fs)
+  fits-or-not : (sixteen ≡ Fine) ⊎ ((sixteen ≡ Broken 16 0) × Crowded70 form s fs)
   unfolding rule16 gather
-  fits-or-not = go (someCrowded kind s (gather kind s fs)) refl (read-as (λ (k : ℕ) (b : Bool) (rs : List Record). rule16 k b (tail rs)))
+  fits-or-not = go (someCrowded form s (gather form s fs)) refl (read-as (λ (k : Form) (b : Bool) (rs : List Record). rule16 k b (tail rs)))
     where
-      go : (b : Bool) → someCrowded kind s (map (recordFor kind s) fs) ≡ b → sixteen ≡ pick (someCrowded kind s (map (recordFor kind s) fs)) (Broken 16 0) Fine
-          → (sixteen ≡ Fine) ⊎ ((sixteen ≡ Broken 16 0) × Crowded70 kind s fs)
-      go true q e = inr (e ∙ ap (λ (b : Bool). pick b (Broken 16 0) Fine) q, which-crowded kind s fs each q)
+      go : (b : Bool) → someCrowded form s (map (recordFor form s) fs) ≡ b → sixteen ≡ pick (someCrowded form s (map (recordFor form s) fs)) (Broken 16 0) Fine
+          → (sixteen ≡ Fine) ⊎ ((sixteen ≡ Broken 16 0) × Crowded70 form s fs)
+      go true q e = inr (e ∙ ap (λ (b : Bool). pick b (Broken 16 0) Fine) q, which-crowded form s fs each q)
       go false q e = inl (e ∙ ap (λ (b : Bool). pick b (Broken 16 0) Fine) q)
 
   -- ---- a message within the limit: its sheet passes, or is refused by 16, and then for 70 of a 103 with the sign
@@ -250,17 +238,17 @@ module _ (kind : ℕ) (s : Bool) (fs : List Field) (eighteen : rule18 kind ≡ F
     pub its-size : length sheetFor ≤ limit
     unfolding gather
     its-size =
-        let n = size-sheet (typeRecord kind ∷ gather kind s fs) in
-        let m = records-size kind s fs each in
-        omega (arith, n, m, named-size (typeRecord kind) (head .names), message-size fs)
+        let n = size-sheet (typeRecord form ∷ gather form s fs) in
+        let m = records-size form s fs each in
+        omega (arith, n, m, named-size (typeRecord form) (head .names), message-size fs)
 
     pub its-1 : long limit sheetFor ≡ Fine
     its-1 = not-long limit sheetFor its-size
 
-    pub sheet-passes : Clean (sheetRules sheetFor) ⊎ ((first (sheetRules sheetFor) ≡ Broken 16 0) × Crowded70 kind s fs)
+    pub sheet-passes : Clean (sheetRules sheetFor) ⊎ ((first (sheetRules sheetFor) ≡ Broken 16 0) × Crowded70 form s fs)
     sheet-passes = go fits-or-not
       where
-        go : (sixteen ≡ Fine) ⊎ ((sixteen ≡ Broken 16 0) × Crowded70 kind s fs) → Clean (sheetRules sheetFor) ⊎ ((first (sheetRules sheetFor) ≡ Broken 16 0) × Crowded70 kind s fs)
+        go : (sixteen ≡ Fine) ⊎ ((sixteen ≡ Broken 16 0) × Crowded70 form s fs) → Clean (sheetRules sheetFor) ⊎ ((first (sheetRules sheetFor) ≡ Broken 16 0) × Crowded70 form s fs)
         go (inl e) = inl (rules-sheet sheetFor (record { size = its-1; sound = its-19; type = its-18; texts = its-15; details = e }))
         go (inr e) = inr (
           rw (its-1, its-19, its-18, its-15, e .0),
@@ -268,9 +256,9 @@ module _ (kind : ℕ) (s : Bool) (fs : List Field) (eighteen : rule18 kind ≡ F
         )
 
 -- ---- the sheet of an accepted message whose fields all have their records
-module _ (kind : ℕ) (m : List ℕ) (fine : verdictOf kind m ≡ Fine) (each : Every (SheetedField kind (signOf (fields m))) (fields m)) where
-  clean : EachFrameRule (λ v. v ≡ Fine) kind m
-  clean = accepted-rules kind m fine .pass
+module _ (form : Form) (m : List ℕ) (fine : verdictOf form m ≡ Fine) (each : Every (SheetedField form (signOf (fields m))) (fields m)) where
+  clean : EachFrameRule (λ v. v ≡ Fine) form m
+  clean = accepted-rules form m fine .pass
 
   tags : all shapedTag (fields m) ≡ true
   tags = fields-shaped m (clean .lines)
@@ -280,23 +268,23 @@ module _ (kind : ℕ) (m : List ℕ) (fine : verdictOf kind m ≡ Fine) (each : 
   within =
       subst (λ (k : List ℕ). length k ≤ limit) (sym (message-fields m (clean .frame) (clean .bytes) (clean .lines))) (within-limit limit m (clean .size))
 
-  pub accepted-type : sheetType (sheetOf kind m) ≡ kind
+  pub accepted-type : sheetForm (sheetOf form m) ≡ form
   unfolding sheetOf recordsOf
-  accepted-type = its-type kind (signOf (fields m)) (fields m) (clean .type) refl tags each
+  accepted-type = its-type form (signOf (fields m)) (fields m) (clean .type) refl tags each
 
-  pub accepted-sign : sheetSign (sheetOf kind m) ≡ signOf (fields m)
+  pub accepted-sign : sheetSign (sheetOf form m) ≡ signOf (fields m)
   unfolding sheetOf recordsOf
-  accepted-sign = its-sign kind (signOf (fields m)) (fields m) (clean .type) refl tags each
+  accepted-sign = its-sign form (signOf (fields m)) (fields m) (clean .type) refl tags each
 
-  pub accepted-passes : Clean (sheetRules (sheetOf kind m)) ⊎ ((first (sheetRules (sheetOf kind m)) ≡ Broken 16 0) × Crowded70 kind (signOf (fields m)) (fields m))
+  pub accepted-passes : Clean (sheetRules (sheetOf form m)) ⊎ ((first (sheetRules (sheetOf form m)) ≡ Broken 16 0) × Crowded70 form (signOf (fields m)) (fields m))
   unfolding sheetOf recordsOf
-  accepted-passes = sheet-passes kind (signOf (fields m)) (fields m) (clean .type) refl tags each within
+  accepted-passes = sheet-passes form (signOf (fields m)) (fields m) (clean .type) refl tags each within
 
   -- it is no longer than a message may be
-  pub accepted-size : length (sheetOf kind m) ≤ limit
+  pub accepted-size : length (sheetOf form m) ≤ limit
   unfolding sheetOf recordsOf
-  accepted-size = its-size kind (signOf (fields m)) (fields m) (clean .type) refl tags each within
+  accepted-size = its-size form (signOf (fields m)) (fields m) (clean .type) refl tags each within
 
-  pub accepted-records : tail (records (sheetOf kind m)) ≡ gather kind (signOf (fields m)) (fields m)
+  pub accepted-records : tail (records (sheetOf form m)) ≡ gather form (signOf (fields m)) (fields m)
   unfolding sheetOf recordsOf
-  accepted-records = ap tail (its-records kind (signOf (fields m)) (fields m) (clean .type) refl tags each)
+  accepted-records = ap tail (its-records form (signOf (fields m)) (fields m) (clean .type) refl tags each)

@@ -5,6 +5,7 @@ use mathlib.Core.Bool.{Bool, true, false, false≢true}
 use mathlib.Core.List.{List, [], _∷_}
 use native.Mathlib.Omega.{arith}
 use lib.ListN.{length, length-append}
+use Rattle.types.specs.declared.Form.{Form}
 use Rattle.base.specs.Bytes.{digit, capital}
 use Rattle.base.proofs.Bools.{right}
 use Rattle.fields.specs.Field.{field, lined, laid}
@@ -25,8 +26,8 @@ tag-short (a ∷ b ∷ []) e = omega arith
 tag-short (a ∷ b ∷ c ∷ []) e = omega arith
 tag-short (a ∷ b ∷ c ∷ d ∷ r) e = absurd (false≢true (right (capital c) false (right (digit b) _ (right (digit a) _ e))))
 
-pub right-short : (kind : ℕ) (s : Bool) (t : List ℕ) (ls : List (List ℕ)) → shaped t ≡ true → rightField kind s (field t ls) ≡ true → length (laid (lined (field t ls))) ≤ 300
-right-short kind s t [] e r = omega arith
-right-short kind s t (l ∷ ls) e r =
-    let b : sizeOf (l ∷ ls) ≤ 37 * 6 = right-size (heldBy kind t) s (l ∷ ls) (field-says kind s (field t (l ∷ ls)) .0 r) in
+pub right-short : (form : Form) (s : Bool) (t : List ℕ) (ls : List (List ℕ)) → shaped t ≡ true → rightField form s (field t ls) ≡ true → length (laid (lined (field t ls))) ≤ 300
+right-short form s t [] e r = omega arith
+right-short form s t (l ∷ ls) e r =
+    let b : sizeOf (l ∷ ls) ≤ 37 * 6 = right-size (heldBy form t) s (l ∷ ls) (field-says form s (field t (l ∷ ls)) .0 r) in
     omega (arith, tag-short t e, length-append t (58 ∷ l), laid-size (lined (field t (l ∷ ls))))

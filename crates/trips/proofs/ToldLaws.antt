@@ -9,8 +9,9 @@ use lib.Dec.{eqb}
 use lib.ListN.{length, take, drop, length-append}
 use lib.Seq.{take-at, drop-append-seam, drop-append-add}
 use borrow.Author.Tests.{eqb-true}
+use Rattle.types.specs.declared.Form.{Form}
 use Rattle.base.specs.Choice.{all}
-use Rattle.base.specs.Bytes.{byte, empty, xset}
+use Rattle.base.specs.Bytes.{byte, empty, xset, same}
 use Rattle.base.specs.Quoted.{bytes}
 use Rattle.base.specs.Calls.{Answer, said, textOf}
 use Rattle.base.proofs.Bools.{left, right, both, all-append, all-behind}
@@ -209,10 +210,10 @@ lined-size t (l ∷ ls) e =
     omega (arith, length-append (58 ∷ t ++ 58 ∷ l) (13 ∷ 10 ∷ laid ls), length-append t (58 ∷ l), length-append l (13 ∷ 10 ∷ laid ls))
 
 -- from the parts that it comes to
-sheeted-as : (kind : ℕ) (s : Bool) (t : List ℕ) (ls : List (List ℕ)) (sh : Shape) (ps : List (List ℕ)) → shapeOf kind t ≡ sh → contentParts s sh ls ≡ ps → empty ls ≡ false
+sheeted-as : (form : Form) (s : Bool) (t : List ℕ) (ls : List (List ℕ)) (sh : Shape) (ps : List (List ℕ)) → shapeOf form t ≡ sh → contentParts s sh ls ≡ ps → empty ls ≡ false
     → sound s sh ps ≡ true → all (speaks s) (castParts sh ps) ≡ true → all plainText ps ≡ true → length (line (field t ps)) ≤ length t + 1 + length (laid ls) → (crowded s sh ps ≡ true → (s ≡ true) × (sh ≡ Details))
-    → Sheeted kind s t ls
-sheeted-as kind s t ls sh ps e f z a b c d g = record {
+    → Sheeted form s t ls
+sheeted-as form s t ls sh ps e f z a b c d g = record {
   is-sound = rw (e, f) a;
   says = rw (e, f) b;
   textual = rw (e, f) c;
@@ -220,30 +221,30 @@ sheeted-as kind s t ls sh ps e f z a b c d g = record {
   fits = rw (e, f) g;
 }
 
-module _ (kind : ℕ) (s : Bool) (t : List ℕ) (ls : List (List ℕ)) (h : Held kind s t ls) where
-  heard-as : {sh : Shape} → shapeOf kind t ≡ sh → s ≡ true → Heard (speeches true sh 0 ls)
+module _ (form : Form) (s : Bool) (t : List ℕ) (ls : List (List ℕ)) (h : Held form s t ls) where
+  heard-as : {sh : Shape} → shapeOf form t ≡ sh → s ≡ true → Heard (speeches true sh 0 ls)
   heard-as e p = rw e at (h .heard p)
 
-  sheeted-70 : shapeOf kind t ≡ Details → Told In70 s ls → Sheeted kind s t ls
+  sheeted-70 : shapeOf form t ≡ Details → Told In70 s ls → Sheeted form s t ls
   unfolding contentParts sound crowded speeches
   sheeted-70 e w =
       let y : Means s (whole w) = told-says s w 0 (h .fair .inside) (heard-as e) in
       let g = gathered w y in
       let n : length (line (field t (w .vo ∷ y .desk ∷ []))) ≤ length t + 1 + length (laid ls) =
       omega (arith, length-append t (9 ∷ (w .vo ++ 9 ∷ (y .desk ++ []))), length-append (w .vo) (9 ∷ (y .desk ++ [])), length-append (y .desk) [], g .five, g .short, code-least s) in
-      sheeted-as kind s t ls Details (w .vo ∷ y .desk ∷ []) e (g .parts) (h .fair .some) (g .right-parts) (g .written) (g .plain) n (λ q. (unfit-signed s w y q, refl))
+      sheeted-as form s t ls Details (w .vo ∷ y .desk ∷ []) e (g .parts) (h .fair .some) (g .right-parts) (g .written) (g .plain) n (λ q. (unfit-signed s w y q, refl))
 
-  sheeted-103 : shapeOf kind t ≡ Note103 → (r : List ℕ) → ls ≡ rppLine r ∷ [] → empty r ≡ false → Sheeted kind s t ls
+  sheeted-103 : shapeOf form t ≡ Note103 → (r : List ℕ) → ls ≡ rppLine r ∷ [] → empty r ≡ false → Sheeted form s t ls
   unfolding contentParts sound crowded cast
   sheeted-103 e r i z =
       let x : all xset r ≡ true = all-behind xset (bytes "/RPP/") r (left (all xset (rppLine r)) true (rw i at (h .fair .inside))) in
       let n : length (line (field t (r ∷ []))) ≤ length t + 1 + length (laid ls) =
       omega (arith, ap (λ (k : List (List ℕ)). length (laid k)) i, length-append t (9 ∷ (r ++ [])), length-append r [], length-append (rppLine r) (13 ∷ 10 ∷ [])) in
-      sheeted-as kind s t ls Note103 (r ∷ []) e (ap (map (drop 5)) i) (h .fair .some) (ap not z) (both (plain-said r x) refl) (both (set-text r x) refl) n (λ q. absurd (false≢true q))
+      sheeted-as form s t ls Note103 (r ∷ []) e (ap (map (drop 5)) i) (h .fair .some) (ap not z) (both (plain-said r x) refl) (both (set-text r x) refl) n (λ q. absurd (false≢true q))
 
   -- r is what follows /RPP/, or nothing
-  noted-by : shapeOf kind t ≡ Note202 → (r : List ℕ) (ks : List (List ℕ)) (w : Told (notePlace r) s ks) → Means s (whole w)
-      → noteParts s ls ≡ r ∷ toldParts s (markSize (notePlace r)) (nextSize (notePlace r)) ks → all xset r ≡ true → length r + length (laid ks) ≤ length (laid ls) → Sheeted kind s t ls
+  noted-by : shapeOf form t ≡ Note202 → (r : List ℕ) (ks : List (List ℕ)) (w : Told (notePlace r) s ks) → Means s (whole w)
+      → noteParts s ls ≡ r ∷ toldParts s (markSize (notePlace r)) (nextSize (notePlace r)) ks → all xset r ≡ true → length r + length (laid ks) ≤ length (laid ls) → Sheeted form s t ls
   unfolding contentParts sound crowded
   noted-by e r ks w y i x k =
       let g = gathered w y in
@@ -258,11 +259,11 @@ module _ (kind : ℕ) (s : Bool) (t : List ℕ) (ls : List (List ℕ)) (h : Held
         g .short,
         code-least s,
       ) in
-      sheeted-as kind s t ls Note202 (r ∷ w .vo ∷ y .desk ∷ []) e (i ∙ ap (λ (ps : List (List ℕ)). r ∷ ps) (g .parts)) (h .fair .some) (g .right-parts)
+      sheeted-as form s t ls Note202 (r ∷ w .vo ∷ y .desk ∷ []) e (i ∙ ap (λ (ps : List (List ℕ)). r ∷ ps) (g .parts)) (h .fair .some) (g .right-parts)
       (both (plain-said r x) (g .written)) (both (set-text r x) (g .plain)) n (λ q. absurd (true≢false (sym q ∙ free-fits w y (note-free r))))
 
-  sheeted-202 : shapeOf kind t ≡ Note202 → Note s ls → Sheeted kind s t ls
-  unfolding speeches speech.noted
+  sheeted-202 : shapeOf form t ≡ Note202 → Note s ls → Sheeted form s t ls
+  unfolding same speeches speech.noted
   sheeted-202 e (without w) =
       let u : s ≡ true → Heard (speech.details 16 2 0 ls) = λ q. subst Heard (ap (speech.noted true 0) (w .is) ∙ ap (speech.details 16 2 0) (sym (w .is))) (heard-as e q) in
       let i : noteParts s ls ≡ [] ∷ toldParts s 5 2 ls = ap (noteParts s) (w .is) ∙ ap (λ (k : List (List ℕ)). [] ∷ toldParts s 5 2 k) (sym (w .is)) in
@@ -275,16 +276,16 @@ module _ (kind : ℕ) (s : Bool) (t : List ℕ) (ls : List (List ℕ)) (h : Held
       by r z (ap (noteParts s) j) (all-behind xset (bytes "/RPP/") r (left (all xset (rppLine r)) _ f)) k w y
     where
       by : (r : List ℕ) {ks : List (List ℕ)} → empty r ≡ false → noteParts s ls ≡ r ∷ toldParts s 5 2 ks → all xset r ≡ true → length r + length (laid ks) ≤ length (laid ls)
-          → (w : Told BehindRpp s ks) → Means s (whole w) → Sheeted kind s t ls
+          → (w : Told BehindRpp s ks) → Means s (whole w) → Sheeted form s t ls
       by [] z i x k w y = absurd (true≢false z)
       by (c ∷ r) {ks} z i x k w y = noted-by e (c ∷ r) ks w y i x k
 
   -- by what the field holds
-  held-sheeted : (c : Content) → shapeOf kind t ≡ shapeFor c → Noted (shapeFor c) → Right c s ls → Sheeted kind s t ls
+  held-sheeted : (c : Content) → shapeOf form t ≡ shapeFor c → Noted (shapeFor c) → Right c s ls → Sheeted form s t ls
   held-sheeted holds.Details e n r = sheeted-70 e (told-lines In70 s ls r (h .fair .on))
   held-sheeted holds.Document e n r = let w = rpp-alone ls r in sheeted-103 e (w .0) (w .1) (w .2)
   held-sheeted holds.DocumentAndDetails e n r = sheeted-202 e (note-lines s ls r (h .fair .on))
 
-pub sheeted-noted : (kind : ℕ) (s : Bool) (t : List ℕ) (ls : List (List ℕ)) → Noted (shapeOf kind t) → Held kind s t ls → Sheeted kind s t ls
+pub sheeted-noted : (form : Form) (s : Bool) (t : List ℕ) (ls : List (List ℕ)) → Noted (shapeOf form t) → Held form s t ls → Sheeted form s t ls
 unfolding shapeOf
-sheeted-noted kind s t ls n h = held-sheeted kind s t ls h (heldBy kind t) refl n (field-says kind s (field t ls) .0 (h .right))
+sheeted-noted form s t ls n h = held-sheeted form s t ls h (heldBy form t) refl n (field-says form s (field t ls) .0 (h .right))

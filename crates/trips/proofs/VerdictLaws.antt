@@ -18,6 +18,7 @@ use Rattle.fields.specs.Frame.{limit, rule1}
 use Rattle.fields.specs.Places.{sizeOf, nextOf}
 use Rattle.fields.proofs.FieldLaws.{laid-size}
 use Rattle.fields.proofs.PlaceLaws.{size-append}
+use Rattle.types.specs.declared.Form.{Form}
 use Rattle.types.specs.Form.{Place, placesOf}
 use Rattle.types.specs.Sign.{signOf}
 use Rattle.types.specs.Walk.{skips, find, wrong, walk, walked}
@@ -31,7 +32,7 @@ use Rattle.judge.specs.Message.{NoneBroken, verdictOf}
 use Rattle.judge.proofs.RuleLaws.{accepted-rules, rules-accepted}
 use Rattle.judge.proofs.Theorems.{frame-clean}
 use Rattle.records.specs.Record.{records}
-use Rattle.records.specs.Rule19.{sheetType, sheetSign}
+use Rattle.records.specs.Rule19.{sheetForm, sheetSign}
 use Rattle.written.specs.Sentences.{Every}
 use Rattle.writer.specs.Spread.{contentLines, fieldFor, spread}
 use Rattle.writer.specs.Sheet.{fieldsOf, messageFor, sheetRules}
@@ -69,32 +70,32 @@ walk-tags ps next o p (g ∷ gs) (f ∷ fs) e h =
     go false h r = absurd (fine-broken (wrong ps next (find ps (tagOf f))) p (sym h))
 
 -- ---- the fields written again
-module _ (kind : ℕ) (s : Bool) where
-  tags-again : (fs : List Field) → map tagOf (map (fieldAgain kind s) fs) ≡ map tagOf fs
+module _ (form : Form) (s : Bool) where
+  tags-again : (fs : List Field) → map tagOf (map (fieldAgain form s) fs) ≡ map tagOf fs
   tags-again [] = refl
   tags-again (field t ls ∷ fs) = ap (λ (ts : List (List ℕ)). t ∷ ts) (tags-again fs)
 
-  spread-gather : (fs : List Field) → map (fieldFor kind s) (map (recordFor kind s) fs) ≡ map (fieldAgain kind s) fs
+  spread-gather : (fs : List Field) → map (fieldFor form s) (map (recordFor form s) fs) ≡ map (fieldAgain form s) fs
   spread-gather [] = refl
-  spread-gather (field t ls ∷ fs) = ap (λ (gs : List Field). fieldAgain kind s (field t ls) ∷ gs) (spread-gather fs)
+  spread-gather (field t ls ∷ fs) = ap (λ (gs : List Field). fieldAgain form s (field t ls) ∷ gs) (spread-gather fs)
 
-  pub all-ready : (fs : List Field) → AllPass kind s (map (recordFor kind s) fs) → Every (ReadyField kind s) fs
+  pub all-ready : (fs : List Field) → AllPass form s (map (recordFor form s) fs) → Every (ReadyField form s) fs
   all-ready [] w = tt
   all-ready (field t ls ∷ fs) w = (w .0 .1, all-ready fs (w .1))
 
-  all-right : (fs : List Field) → Every (HeldField kind s) fs → Every (ReadyField kind s) fs → all (rightField kind s) (map (fieldAgain kind s) fs) ≡ true
+  all-right : (fs : List Field) → Every (HeldField form s) fs → Every (ReadyField form s) fs → all (rightField form s) (map (fieldAgain form s) fs) ≡ true
   all-right [] h w = refl
-  all-right (field t ls ∷ fs) h w = both (right-again kind s t ls (h .0) (w .0)) (all-right fs (h .1) (w .1))
+  all-right (field t ls ∷ fs) h w = both (right-again form s t ls (h .0) (w .0)) (all-right fs (h .1) (w .1))
 
   -- 1: each field takes at most 300 bytes
-  all-short : (fs : List Field) → Every (HeldField kind s) fs → Every (ReadyField kind s) fs → sizeOf (linesOf (map (fieldAgain kind s) fs)) ≤ 300 * length fs
+  all-short : (fs : List Field) → Every (HeldField form s) fs → Every (ReadyField form s) fs → sizeOf (linesOf (map (fieldAgain form s) fs)) ≤ 300 * length fs
   all-short [] h w = omega arith
   all-short (field t ls ∷ fs) h w =
-      let g : Field = fieldAgain kind s (field t ls) in
-      let ks : List (List ℕ) = contentLines s (shapeOf kind t) (contentParts s (shapeOf kind t) ls) in
-      let a = right-short kind s t ks (h .0 .tagged) (right-again kind s t ls (h .0) (w .0)) in
+      let g : Field = fieldAgain form s (field t ls) in
+      let ks : List (List ℕ) = contentLines s (shapeOf form t) (contentParts s (shapeOf form t) ls) in
+      let a = right-short form s t ks (h .0 .tagged) (right-again form s t ls (h .0) (w .0)) in
       let b = laid-size (lined (field t ks)) in
-      let c = size-append (lined (field t ks)) (linesOf (map (fieldAgain kind s) fs)) in
+      let c = size-append (lined (field t ks)) (linesOf (map (fieldAgain form s) fs)) in
       let d = all-short fs (h .1) (w .1) in
       omega arith
 
@@ -104,29 +105,29 @@ unfolding message
 message-size fs = let a = length-append (laid (linesOf fs)) closing in let b = laid-size (linesOf fs) in omega arith
 
 -- ---- a sheet whose records are those of an accepted message, and which no rule before 17 refuses
-module _ (kind : ℕ) (m : List ℕ) (e : verdictOf kind m ≡ Fine) (s : List ℕ) (c : Clean (sheetRules s)) (k : sheetType s ≡ kind) (g : sheetSign s ≡ signOf (fields m)) (r : tail (records s) ≡ gather kind (signOf (fields m)) (fields m)) where
-  held : Every (HeldField kind (signOf (fields m))) (fields m)
-  held = all-held kind m e
+module _ (form : Form) (m : List ℕ) (e : verdictOf form m ≡ Fine) (s : List ℕ) (c : Clean (sheetRules s)) (k : sheetForm s ≡ form) (g : sheetSign s ≡ signOf (fields m)) (r : tail (records s) ≡ gather form (signOf (fields m)) (fields m)) where
+  held : Every (HeldField form (signOf (fields m))) (fields m)
+  held = all-held form m e
 
-  clean : NoneBroken kind m
-  clean = accepted-rules kind m e
+  clean : NoneBroken form m
+  clean = accepted-rules form m e
 
-  ready : Every (ReadyField kind (signOf (fields m))) (fields m)
+  ready : Every (ReadyField form (signOf (fields m))) (fields m)
   unfolding gather
   ready =
-      all-ready kind (signOf (fields m)) (fields m)
-      (subst (AllPass kind (signOf (fields m))) r (subst (λ (b : Bool). AllPass kind b (tail (records s))) g (subst (λ (n : ℕ). AllPass n (sheetSign s) (tail (records s))) k (records-pass s c))))
+      all-ready form (signOf (fields m)) (fields m)
+      (subst (AllPass form (signOf (fields m))) r (subst (λ (b : Bool). AllPass form b (tail (records s))) g (subst (λ (n : Form). AllPass n (sheetSign s) (tail (records s))) k (records-pass s c))))
 
-  fields-are : fields (messageFor s) ≡ map (fieldAgain kind (signOf (fields m))) (fields m)
+  fields-are : fields (messageFor s) ≡ map (fieldAgain form (signOf (fields m))) (fields m)
   unfolding fieldsOf spread gather
   fields-are =
-      built-fields s c ∙ ap₂ (λ (n : ℕ) (b : Bool). map (fieldFor n b) (tail (records s))) k g ∙ ap (map (fieldFor kind (signOf (fields m)))) r
-      ∙ spread-gather kind (signOf (fields m)) (fields m)
+      built-fields s c ∙ ap₂ (λ (n : Form) (b : Bool). map (fieldFor n b) (tail (records s))) k g ∙ ap (map (fieldFor form (signOf (fields m)))) r
+      ∙ spread-gather form (signOf (fields m)) (fields m)
 
   sign-is : signOf (fields (messageFor s)) ≡ signOf (fields m)
   sign-is = ap signOf (built-fields s c) ∙ built-sign s c ∙ g
 
-  size-is : length (messageFor s) ≡ 7 + sizeOf (linesOf (map (fieldAgain kind (signOf (fields m))) (fields m)))
+  size-is : length (messageFor s) ≡ 7 + sizeOf (linesOf (map (fieldAgain form (signOf (fields m))) (fields m)))
   unfolding messageFor
   size-is = message-size (fieldsOf s) ∙ ap (λ (fs : List Field). 7 + sizeOf (linesOf fs)) (sym (built-fields s c) ∙ fields-are)
 
@@ -134,39 +135,39 @@ module _ (kind : ℕ) (m : List ℕ) (e : verdictOf kind m ≡ Fine) (s : List �
   unfolding rule1
   rule1-again =
       let a = size-is in
-      let b = all-short kind (signOf (fields m)) (fields m) held ready in
-      let d = taken kind m (frame-clean kind m e) .few in
+      let b = all-short form (signOf (fields m)) (fields m) held ready in
+      let d = taken form m (frame-clean form m e) .few in
       not-long limit (messageFor s) (omega arith)
 
-  walked-again : walked kind (messageFor s) ≡ Fine
+  walked-again : walked form (messageFor s) ≡ Fine
   unfolding walked
   walked-again =
-      ap (walk (placesOf kind) 0 5) fields-are
-      ∙ walk-tags (placesOf kind) 0 5 5 (map (fieldAgain kind (signOf (fields m))) (fields m)) (fields m) (tags-again kind (signOf (fields m)) (fields m)) (clean .pass .walk)
+      ap (walk (placesOf form) 0 5) fields-are
+      ∙ walk-tags (placesOf form) 0 5 5 (map (fieldAgain form (signOf (fields m))) (fields m)) (fields m) (tags-again form (signOf (fields m)) (fields m)) (clean .pass .walk)
 
-  rule8-again : rule8 kind (messageFor s) ≡ Fine
+  rule8-again : rule8 form (messageFor s) ≡ Fine
   rule8-again =
-      rule8-fine kind (messageFor s) .1
-      (ap₂ (λ (b : Bool) (fs : List Field). all (rightField kind b) fs) sign-is fields-are ∙ all-right kind (signOf (fields m)) (fields m) held ready)
+      rule8-fine form (messageFor s) .1
+      (ap₂ (λ (b : Bool) (fs : List Field). all (rightField form b) fs) sign-is fields-are ∙ all-right form (signOf (fields m)) (fields m) held ready)
 
-  kinds-are : map kindOf (valuesIn 5 (fields (messageFor s))) ≡ map kindOf (valuesIn 5 (fields m))
-  kinds-are = ap (λ (fs : List Field). map kindOf (valuesIn 5 fs)) fields-are ∙ kinds-again kind (signOf (fields m)) 5 5 (fields m) held ready
+  kinds-are : map kindOf (valuesIn form 5 (fields (messageFor s))) ≡ map kindOf (valuesIn form 5 (fields m))
+  kinds-are = ap (λ (fs : List Field). map kindOf (valuesIn form 5 fs)) fields-are ∙ kinds-again form (signOf (fields m)) 5 5 (fields m) held ready
 
-  rule14-again : rule14 kind (fields (messageFor s)) ≡ Fine
-  rule14-again = ap₂ (λ (n : ℕ) (fs : List Field). rule14 n fs) (sym k) (built-fields s c) ∙ built-rule14 s c
+  rule14-again : rule14 form (fields (messageFor s)) ≡ Fine
+  rule14-again = ap₂ (λ (n : Form) (fs : List Field). rule14 n fs) (sym k) (built-fields s c) ∙ built-rule14 s c
 
-  pub verdict-again : verdictOf kind (messageFor s) ≡ Fine
+  pub verdict-again : verdictOf form (messageFor s) ≡ Fine
   verdict-again =
       let inner = clean .inside in
-      rules-accepted kind (messageFor s) (record {
+      rules-accepted form (messageFor s) (record {
         pass = record { type = clean .pass .type; size = rule1-again; frame = built-rule2 s c; bytes = built-rule3 s c; lines = built-rule4 s c; walk = walked-again };
         inside = record {
           contents = rule8-again;
-          days = rule9-again (fields (messageFor s)) (fields m) kinds-are (inner .days);
-          currency = rule10-again (fields (messageFor s)) (fields m) kinds-are (inner .currency);
-          banks = rule11-again (fields (messageFor s)) (fields m) kinds-are (inner .banks);
-          parties = rule12-again (fields (messageFor s)) (fields m) kinds-are (inner .parties);
-          taxes = rule13-again (fields (messageFor s)) (fields m) kinds-are (inner .taxes);
+          days = rule9-again form (fields (messageFor s)) (fields m) kinds-are (inner .days);
+          currency = rule10-again form (fields (messageFor s)) (fields m) kinds-are (inner .currency);
+          banks = rule11-again form (fields (messageFor s)) (fields m) kinds-are (inner .banks);
+          parties = rule12-again form (fields (messageFor s)) (fields m) kinds-are (inner .parties);
+          taxes = rule13-again form (fields (messageFor s)) (fields m) kinds-are (inner .taxes);
           texts = rule14-again;
         };
       })

@@ -3,6 +3,8 @@ use Prim.Native.Nat.{ℕ}
 use mathlib.Core.Path.{_≡_}
 use mathlib.Core.Bool.{Bool, true}
 use mathlib.Core.List.{List, _∷_, _++_}
+use Rattle.types.specs.declared.Form.{Form}
+use Rattle.types.specs.declared.Form.the-variants.{Mt103}
 use Rattle.base.specs.Quoted.{bytes}
 use Rattle.base.specs.Calls.{textOf}
 use Rattle.alphabets.specs.Bank.{reading}
@@ -24,12 +26,12 @@ lineAgain s (copy l) = l
 lineAgain s (name l) = again s l
 lineAgain s (taxName l) = again s l
 
-abbrev pub fieldAgain : ℕ → Bool → Field → Field
-fieldAgain kind s (field t ls) = field t (contentLines s (shapeOf kind t) (contentParts s (shapeOf kind t) ls))
+abbrev pub fieldAgain : Form → Bool → Field → Field
+fieldAgain form s (field t ls) = field t (contentLines s (shapeOf form t) (contentParts s (shapeOf form t) ls))
 
 -- K7: of a 103 with the sign, s, the details of field 70 as they read can't be divided in any way once they are written again
-pub record Crowded70 (kind : ℕ) (s : Bool) (fs : List Field) : Type 0 where
-  pub type : kind ≡ 103
+pub record Crowded70 (form : Form) (s : Bool) (fs : List Field) : Type 0 where
+  pub type : form ≡ Mt103
   pub sign : s ≡ true
   pub before : List Field
   pub lines : List (List ℕ)

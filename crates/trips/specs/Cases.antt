@@ -5,6 +5,7 @@ use Prim.Native.String.{String}
 use mathlib.Core.Path.{_≡_}
 use mathlib.Core.List.{List, [], _∷_}
 use lib.ListN.{replicate}
+use Rattle.types.specs.Form.{formOf}
 use Rattle.base.specs.Quoted.{bytes}
 use Rattle.base.specs.Rules.{first}
 use Rattle.base.specs.declared.Verdict.the-variants.{Fine, Broken}
@@ -26,9 +27,9 @@ pub data Case : Type 0 where
 
 abbrev pub Holds : Case → Type 0
 Holds (trip kind m s n) =
-    (first (readRules kind (bytes m) (desk s)) ≡ Fine) × (sheetOf kind (bytes m) ≡ desk s) × (first (writeRules (desk s) (bytes n)) ≡ Fine) × (messageFor (desk s) ≡ bytes n)
-Holds (narrow kind m k n) = first (readRules kind (bytes m) (replicate k 0)) ≡ Broken 17 n
-Holds (stopped kind m n p) = (verdictOf kind (bytes m) ≡ Fine) × (first (sheetRules (sheetOf kind (bytes m))) ≡ Broken n p)
+    (first (readRules (formOf kind) (bytes m) (desk s)) ≡ Fine) × (sheetOf (formOf kind) (bytes m) ≡ desk s) × (first (writeRules (desk s) (bytes n)) ≡ Fine) × (messageFor (desk s) ≡ bytes n)
+Holds (narrow kind m k n) = first (readRules (formOf kind) (bytes m) (replicate k 0)) ≡ Broken 17 n
+Holds (stopped kind m n p) = (verdictOf (formOf kind) (bytes m) ≡ Fine) × (first (sheetRules (sheetOf (formOf kind) (bytes m))) ≡ Broken n p)
 
 -- a 202 without the sign and without an RPP line; one with both and details over two lines
 abbrev pub plain202 : String

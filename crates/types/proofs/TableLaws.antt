@@ -15,45 +15,37 @@ use Rattle.base.specs.Bytes.{same, empty}
 use Rattle.base.specs.declared.Verdict.the-variants.{Fine, Broken}
 use Rattle.base.proofs.RuleLaws.{fine-broken}
 use Rattle.base.proofs.Table.{and-left, and-right, is-true}
-use Rattle.types.specs.Form.{Place, must, may, Form, form, form103, form202, forms, placesIn, placesOf}
+use Rattle.types.specs.declared.Form.{Form}
+use Rattle.types.specs.declared.Form.the-variants.{Other, Mt103, Mt202}
+use Rattle.types.specs.Form.{Place, must, may, formOf, typeOf, places103, places202, placesOf}
 use Rattle.types.specs.Walk.{among, isOf, find, skips, wrong, rule18}
 use Rattle.fields.specs.Shapes.{shaped, pack, unpack}
-use Rattle.types.specs.Tables.{most, tagsOf, tagTable, mustTable, TablesOf, told, toldFrom, findFrom, stepIn, missing}
+use Rattle.types.specs.Tables.{most, tagsOf, tagTable, mustTable, TablesOf, told, toldFrom, findFrom, stepIn, missing, StepFor}
 use Rattle.types.specs.declared.Step.{Step}
 use Rattle.base.proofs.ByteLaws.{same-is}
 use Rattle.fields.proofs.PackLaws.{unpack-pack}
 use Rattle.types.proofs.WalkLaws.{placeAt, Stands, find-stands, wrong-seated}
 use Rattle.types.proofs.StepLaws.{told-skips}
 
--- ---- what holds of no places and of each form's holds of any type's
-abbrev pub EachForm : (List Place → Type 0) → List Form → Type 0
-EachForm P [] = Unit {0}
-EachForm P (form n ps ∷ fs) = P ps × EachForm P fs
+-- ---- what holds of each form's places holds of any
+pub each-form : (P : List Place → Type 0) → P [] → P places103 → P places202 → (form : Form) → P (placesOf form)
+each-form P n a b Other = n
+each-form P n a b Mt103 = a
+each-form P n a b Mt202 = b
 
-each-in : (P : List Place → Type 0) → P [] → (fs : List Form) → EachForm P fs → (kind : ℕ) → P (placesIn fs kind)
-each-in P e [] h kind = e
-each-in P e (form n ps ∷ fs) h kind = go (eqb kind n) (each-in P e fs (h .1) kind)
-  where
-    go : (b : Bool) → P (placesIn fs kind) → P (pick b ps (placesIn fs kind))
-    go true r = h .0
-    go false r = r
-
-pub each-form : (P : List Place → Type 0) → P [] → EachForm P forms → (kind : ℕ) → P (placesOf kind)
-unfolding placesOf
-each-form P e h kind = each-in P e forms h kind
-
--- a type that is no form's has no places
-pub no-form : (kind : ℕ) → (kind ≡ 103 → ⊥) → (kind ≡ 202 → ⊥) → placesOf kind ≡ []
-unfolding placesOf forms form103 form202
-no-form kind a b = rw (ne-eqb kind 103 a, ne-eqb kind 202 b)
+-- the form of its own type, and of no other
+pub form-type : (form : Form) → formOf (typeOf form) ≡ form
+form-type Other = refl
+form-type Mt103 = refl
+form-type Mt202 = refl
 
 -- ---- the tables, computed for each form
 abbrev Told : List Place → Type 0
 Told ps = told (tagTable ps) (mustTable ps) (length ps) ≡ ps
 
-tables : (kind : ℕ) → told (tagTable (placesOf kind)) (mustTable (placesOf kind)) (length (placesOf kind)) ≡ placesOf kind
-unfolding forms form103 form202 tagTable mustTable toldFrom
-tables kind = each-form Told refl (refl, (refl, tt)) kind
+tables : (form : Form) → told (tagTable (placesOf form)) (mustTable (placesOf form)) (length (placesOf form)) ≡ placesOf form
+unfolding places103 places202 tagTable mustTable toldFrom
+tables form = each-form Told refl refl refl form
 
 -- ---- a tag stands at one place, computed for each form
 abbrev aloneFrom : List Place → ℕ → List Place → Bool
@@ -63,9 +55,9 @@ aloneFrom ps i (q ∷ qs) = all (λ t. eqb (find ps t) i) (tagsOf q) && aloneFro
 abbrev Alone : List Place → Type 0
 Alone ps = T (aloneFrom ps 0 ps)
 
-all-alone : (kind : ℕ) → Alone (placesOf kind)
-unfolding forms form103 form202 find same
-all-alone kind = each-form Alone tt (tt, (tt, tt)) kind
+all-alone : (form : Form) → Alone (placesOf form)
+unfolding places103 places202 find same
+all-alone form = each-form Alone tt tt tt form
 
 of-place : (t : List ℕ) (p : Place) → isOf t p ≡ among t (tagsOf p)
 of-place t (must ts) = refl
@@ -109,46 +101,45 @@ step-alone ps h next t = go (eqb (wrong ps next (findFrom ps next t)) 0) refl
     go false e = refl
 
 -- ---- what the calls answer where the type's own tables are lent
-pub few-places : (kind : ℕ) → length (placesOf kind) ≤ most
-unfolding forms form103 form202
-few-places kind = each-form (λ ps. length ps ≤ most) (omega arith) (omega arith, (omega arith, tt)) kind
+pub few-places : (form : Form) → length (placesOf form) ≤ most
+unfolding places103 places202
+few-places form = each-form (λ ps. length ps ≤ most) (omega arith) (omega arith) (omega arith) form
 
-module _ {kind : ℕ} {tags : List ℕ} {musts : List Bool} {count : ℕ} (l : TablesOf kind tags musts count) where
-  told-places : told tags musts count ≡ placesOf kind
-  told-places = rw (l .tags-are, l .musts-are, l .count-is) (tables kind)
+module _ {form : Form} {tags : List ℕ} {musts : List Bool} {count : ℕ} (l : TablesOf form tags musts count) where
+  told-places : told tags musts count ≡ placesOf form
+  told-places = rw (l .tags-are, l .musts-are, l .count-is) (tables form)
 
-  pub step-of-form : (next : ℕ) (t : List ℕ) (tag : ℕ) → shaped t ≡ true → pack t ≡ tag
-      → stepIn (told tags musts count) next (unpack tag) ≡ record { place = find (placesOf kind) t; wrong = wrong (placesOf kind) next (find (placesOf kind) t) }
-  step-of-form next t tag e p =
-      ap₂ (λ (ps : List Place) (u : List ℕ). stepIn ps next u) told-places (ap unpack (sym p) ∙ unpack-pack t e) ∙ step-alone (placesOf kind) (all-alone kind) next t
+  pub step-of-form : (next tag : ℕ) → StepFor form next tag (stepIn (told tags musts count) next (unpack tag))
+  step-of-form next tag t e p =
+      ap₂ (λ (ps : List Place) (u : List ℕ). stepIn ps next u) told-places (ap unpack (sym p) ∙ unpack-pack t e) ∙ step-alone (placesOf form) (all-alone form) next t
 
-  pub missing-of-form : (next : ℕ) → missing musts count next ≡ skips (placesOf kind) next (length (placesOf kind))
+  pub missing-of-form : (next : ℕ) → missing musts count next ≡ skips (placesOf form) next (length (placesOf form))
   unfolding missing
   missing-of-form next =
-      let m : min count most ≡ length (placesOf kind) = omega (arith, l .count-is, few-places kind) in
+      let m : min count most ≡ length (placesOf form) = omega (arith, l .count-is, few-places form) in
       sym (told-skips tags musts (min count most) next (min count most)) ∙ ap₂ (λ (ps : List Place) (n : ℕ). skips ps next n) told-places m
 
 -- ---- 18
-pub no-places : (kind : ℕ) → length (placesOf kind) ≡ 0 → rule18 kind ≡ Broken 18 0
+pub no-places : (form : Form) → length (placesOf form) ≡ 0 → rule18 form ≡ Broken 18 0
 unfolding rule18
-no-places kind e = go (placesOf kind) e
+no-places form e = go (placesOf form) e
   where
     go : (ps : List Place) → length ps ≡ 0 → pick (empty ps) (Broken 18 0) Fine ≡ Broken 18 0
     go [] h = refl
     go (p ∷ ps) h = absurd (omega arith)
 
-pub some-places : (kind : ℕ) → (length (placesOf kind) ≡ 0 → ⊥) → rule18 kind ≡ Fine
+pub some-places : (form : Form) → (length (placesOf form) ≡ 0 → ⊥) → rule18 form ≡ Fine
 unfolding rule18
-some-places kind e = go (placesOf kind) e
+some-places form e = go (placesOf form) e
   where
     go : (ps : List Place) → (length ps ≡ 0 → ⊥) → pick (empty ps) (Broken 18 0) Fine ≡ Fine
     go [] h = absurd (h refl)
     go (p ∷ ps) h = refl
 
 -- given exactly if the type is neither 103 nor 202
-pub rule18-iff : (kind : ℕ) → (rule18 kind ≡ Broken 18 0) ↔ ((kind ≡ 103 → ⊥) × (kind ≡ 202 → ⊥))
-unfolding rule18 placesOf forms form103 form202
+pub rule18-iff : (kind : ℕ) → (rule18 (formOf kind) ≡ Broken 18 0) ↔ ((kind ≡ 103 → ⊥) × (kind ≡ 202 → ⊥))
+unfolding rule18 places103 places202
 rule18-iff kind = (
-  λ e. (λ k. fine-broken 18 0 (ap rule18 (sym k) ∙ e), λ k. fine-broken 18 0 (ap rule18 (sym k) ∙ e)),
-  λ h. no-places kind (ap length (no-form kind (h .0) (h .1))),
+  λ e. (λ k. fine-broken 18 0 (ap (λ (n : ℕ). rule18 (formOf n)) (sym k) ∙ e), λ k. fine-broken 18 0 (ap (λ (n : ℕ). rule18 (formOf n)) (sym k) ∙ e)),
+  λ h. rw (ne-eqb kind 103 (h .0), ne-eqb kind 202 (h .1)),
 )

@@ -13,6 +13,7 @@ use Rattle.base.specs.declared.Verdict.the-variants.{Fine, Broken}
 use Rattle.base.proofs.RuleLaws.{fine-broken, same-broken}
 use Rattle.fields.specs.Field.{Field, fields, tagOf}
 use Rattle.fields.specs.Places.{nextOf}
+use Rattle.types.specs.declared.Form.{Form}
 use Rattle.types.specs.Form.{Place, may, placesOf}
 use Rattle.types.specs.Walk.{isOf, optional, find, skips, wrong, walk, walked}
 
@@ -339,10 +340,10 @@ pub refused-iff : (ps : List Place) (next o : ℕ) (fs : List Field) (n p : ℕ)
 refused-iff ps next o fs n p = (refused ps next o fs n p, at-fault ps next o fs n p)
 
 -- ---- a message
-pub walked-accepted : (kind : ℕ) (m : List ℕ) → (walked kind m ≡ Fine) ↔ Accepted (placesOf kind) 0 (fields m)
+pub walked-accepted : (form : Form) (m : List ℕ) → (walked form m ≡ Fine) ↔ Accepted (placesOf form) 0 (fields m)
 unfolding walked
-walked-accepted kind m = accepted-iff (placesOf kind) 0 5 (fields m)
+walked-accepted form m = accepted-iff (placesOf form) 0 5 (fields m)
 
-pub walked-refused : (kind : ℕ) (m : List ℕ) (n p : ℕ) → (walked kind m ≡ Broken n p) ↔ Refused (placesOf kind) 0 5 (fields m) n p
+pub walked-refused : (form : Form) (m : List ℕ) (n p : ℕ) → (walked form m ≡ Broken n p) ↔ Refused (placesOf form) 0 5 (fields m) n p
 unfolding walked
-walked-refused kind m n p = refused-iff (placesOf kind) 0 5 (fields m) n p
+walked-refused form m n p = refused-iff (placesOf form) 0 5 (fields m) n p

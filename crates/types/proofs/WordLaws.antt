@@ -16,6 +16,7 @@ use borrow.Author.Tests.{eq-eqb, eqb-true}
 use Rattle.base.specs.Choice.{pick}
 use Rattle.base.specs.declared.Verdict.the-variants.{Fine}
 use Rattle.fields.specs.Field.{Field, field, fields, tagOf}
+use Rattle.types.specs.declared.Form.{Form}
 use Rattle.types.specs.Form.{Place, may, placesOf}
 use Rattle.types.specs.Walk.{optional, find, walk, walked, word, present}
 use Rattle.base.specs.Bits.{bit}
@@ -229,6 +230,6 @@ sound ps o fs e =
       bits = bit-iff ps 0 fs r;
     }
 
-pub walked-sound : (kind : ℕ) (m : List ℕ) → walked kind m ≡ Fine → Sound (placesOf kind) (fields m)
+pub walked-sound : (form : Form) (m : List ℕ) → walked form m ≡ Fine → Sound (placesOf form) (fields m)
 unfolding walked
-walked-sound kind m e = sound (placesOf kind) 5 (fields m) e
+walked-sound form m e = sound (placesOf form) 5 (fields m) e

@@ -1,63 +1,43 @@
--- The message types as data: a type number and its places, each with its tags, mandatory or not (P1, P2). Assumes nothing.
-use Prim.Native.Nat.{ℕ, _+_, _/_, _%_}
+-- The forms of messages as data: a form's key, its type's number and its places, each with its tags, mandatory or not (P1, P2). Assumes nothing.
+use Prim.Native.Nat.{ℕ}
+use Prim.Native.String.{String}
 use mathlib.Core.List.{List, [], _∷_}
 use lib.Dec.{eqb}
 use Rattle.base.specs.Choice.{pick}
+use Rattle.base.specs.Quoted.{bytes}
+use Rattle.types.specs.declared.Form.{Form}
+use Rattle.types.specs.declared.Form.the-variants.{Other, Mt103, Mt202}
 
 pub data Place : Type 0 where
   must may : List (List ℕ) → Place
 
-pub data Form : Type 0 where
-  form : ℕ → List Place → Form
+-- ---- a form's key, from the number of a type; of any other type there is no form
+abbrev pub formOf : ℕ → Form
+formOf kind = pick (eqb kind 103) Mt103 (pick (eqb kind 202) Mt202 Other)
 
--- tags: two digits, and perhaps a capital
-abbrev pub digits : ℕ → List ℕ → List ℕ
-digits n l = (48 + n / 10) ∷ (48 + n % 10) ∷ l
+abbrev pub typeOf : Form → ℕ
+typeOf Mt103 = 103
+typeOf Mt202 = 202
+typeOf Other = 0
 
-abbrev pub plain : ℕ → List (List ℕ)
-plain n = digits n [] ∷ []
+-- ---- a form's places
+abbrev pub one : String → List (List ℕ)
+one t = bytes t ∷ []
 
-abbrev pub one : ℕ → ℕ → List (List ℕ)
-one n c = digits n (c ∷ []) ∷ []
+abbrev pub either : String → String → List (List ℕ)
+either t u = bytes t ∷ bytes u ∷ []
 
-abbrev pub aOrD : ℕ → List (List ℕ)
-aOrD n = digits n (65 ∷ []) ∷ digits n (68 ∷ []) ∷ []
+unfoldable pub places103 : List Place
+places103 =
+    must (one "20") ∷ must (one "23B") ∷ may (one "26T") ∷ must (one "32A") ∷ must (one "50K") ∷ may (one "52A") ∷ must (one "53B")
+    ∷ may (either "56A" "56D") ∷ may (either "57A" "57D") ∷ must (one "59") ∷ must (one "70") ∷ must (one "71A") ∷ may (one "72") ∷ may (one "77B") ∷ []
 
--- the capitals that tags end in
-abbrev pub A : ℕ
-A = 65
+unfoldable pub places202 : List Place
+places202 =
+    must (one "20") ∷ must (one "21") ∷ must (one "32A") ∷ may (one "52A") ∷ must (one "53B")
+    ∷ may (either "56A" "56D") ∷ may (either "57A" "57D") ∷ must (either "58A" "58D") ∷ must (one "72") ∷ []
 
-abbrev pub B : ℕ
-B = 66
-
-abbrev pub K : ℕ
-K = 75
-
-abbrev pub T : ℕ
-T = 84
-
-unfoldable pub form103 : Form
-form103 =
-    form 103
-    (must (plain 20) ∷ must (one 23 B) ∷ may (one 26 T) ∷ must (one 32 A) ∷ must (one 50 K) ∷ may (one 52 A) ∷ must (one 53 B)
-    ∷ may (aOrD 56) ∷ may (aOrD 57) ∷ must (plain 59) ∷ must (plain 70) ∷ must (one 71 A) ∷ may (plain 72) ∷ may (one 77 B) ∷ [])
-
-unfoldable pub form202 : Form
-form202 =
-    form 202
-    (must (plain 20) ∷ must (plain 21) ∷ must (one 32 A) ∷ may (one 52 A) ∷ must (one 53 B)
-    ∷ may (aOrD 56) ∷ may (aOrD 57) ∷ must (aOrD 58) ∷ must (plain 72) ∷ [])
-
-unfoldable pub forms : List Form
-forms = form103 ∷ form202 ∷ []
-
--- the places of a type, none where it is no form's type
-abbrev pub typed : ℕ → Form → List Place → List Place
-typed kind (form n ps) else′ = pick (eqb kind n) ps else′
-
-abbrev pub placesIn : List Form → ℕ → List Place
-placesIn [] kind = []
-placesIn (f ∷ fs) kind = typed kind f (placesIn fs kind)
-
-unfoldable pub placesOf : ℕ → List Place
-placesOf kind = placesIn forms kind
+abbrev pub placesOf : Form → List Place
+placesOf Mt103 = places103
+placesOf Mt202 = places202
+placesOf Other = []

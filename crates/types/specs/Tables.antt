@@ -6,9 +6,10 @@ use mathlib.Core.List.{List, [], _∷_, _++_, map}
 use lib.Dec.{eqb}
 use lib.ListN.{length, drop, getD, replicate}
 use Rattle.base.specs.Choice.{pick}
+use Rattle.types.specs.declared.Form.{Form}
 use Rattle.types.specs.Form.{Place, must, may, placesOf}
 use Rattle.types.specs.Walk.{optional, find, skips, wrong}
-use Rattle.fields.specs.Shapes.{pack, unpack}
+use Rattle.fields.specs.Shapes.{shaped, pack, unpack}
 use Rattle.types.specs.declared.Step.{Step}
 
 -- as many places as the longest type has
@@ -41,10 +42,10 @@ unfoldable pub mustTable : List Place → List Bool
 mustTable ps = padded most false (map (λ p. not (optional p)) ps)
 
 -- the tables that are lent are this type's
-pub record TablesOf (kind : ℕ) (tags : List ℕ) (musts : List Bool) (count : ℕ) : Type 0 where
-  pub tags-are : tags ≡ tagTable (placesOf kind)
-  pub musts-are : musts ≡ mustTable (placesOf kind)
-  pub count-is : count ≡ length (placesOf kind)
+pub record TablesOf (form : Form) (tags : List ℕ) (musts : List Bool) (count : ℕ) : Type 0 where
+  pub tags-are : tags ≡ tagTable (placesOf form)
+  pub musts-are : musts ≡ mustTable (placesOf form)
+  pub count-is : count ≡ length (placesOf form)
 
 -- ---- from tables to the places that they stand for
 abbrev pub toldAs : Bool → List (List ℕ) → Place
@@ -85,3 +86,7 @@ stepIn ps next t =
 -- a mandatory place stands from next on; the tags do not matter
 unfoldable pub missing : List Bool → ℕ → ℕ → Bool
 missing musts count next = skips (told [] musts count) next (min count most)
+
+-- the place of a field with that tag's number in its form, and what is wrong with it there
+abbrev pub StepFor : Form → ℕ → ℕ → Step → Type 0
+StepFor form next tag r = (t : List ℕ) → shaped t ≡ true → pack t ≡ tag → r ≡ record { place = find (placesOf form) t; wrong = wrong (placesOf form) next (find (placesOf form) t) }

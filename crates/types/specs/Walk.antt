@@ -10,6 +10,7 @@ use Rattle.base.specs.declared.Verdict.{Verdict}
 use Rattle.base.specs.declared.Verdict.the-variants.{Fine, Broken}
 use Rattle.fields.specs.Field.{Field, tagOf, fields}
 use Rattle.fields.specs.Places.{nextOf}
+use Rattle.types.specs.declared.Form.{Form}
 use Rattle.types.specs.Form.{Place, must, may, placesOf}
 
 abbrev pub among : List ℕ → List (List ℕ) → Bool
@@ -44,11 +45,11 @@ walk ps next o (f ∷ fs) =
     let q : ℕ = find ps (tagOf f) in
     pick (eqb (wrong ps next q) 0) (walk ps (suc q) (nextOf o f) fs) (Broken (wrong ps next q) o)
 
-unfoldable pub rule18 : ℕ → Verdict
-rule18 kind = pick (empty (placesOf kind)) (Broken 18 0) Fine
+unfoldable pub rule18 : Form → Verdict
+rule18 form = pick (empty (placesOf form)) (Broken 18 0) Fine
 
-unfoldable pub walked : ℕ → List ℕ → Verdict
-walked kind m = walk (placesOf kind) 0 5 (fields m)
+unfoldable pub walked : Form → List ℕ → Verdict
+walked form m = walk (placesOf form) 0 5 (fields m)
 
 -- one bit for each place present
 unfoldable pub word : List Place → List Field → ℕ

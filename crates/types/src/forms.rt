@@ -1,8 +1,9 @@
-// The types as tables of one size: two tags a place, the same twice where it has one, and which places are mandatory. Zeros stand behind.
+// The forms as tables of one size: two tags a place, the same twice where it has one, and which places are mandatory. Zeros stand behind.
 ghost use mathlib.Core.Path.{_≡_};
 ghost use lib.ListN.{length};
-ghost use Rattle.types.specs.Form.{placesOf};
+ghost use Rattle.types.specs.Form.{formOf, placesOf};
 ghost use Rattle.types.specs.Tables.{tagTable, mustTable};
+use super::Form;
 use super::PLACES;
 use super::TAGS;
 use super::tags::TAG_20;
@@ -87,6 +88,10 @@ const TAGS_202: [u32; TAGS] = [
     0,
 ];
 
+const COUNT_103: usize = 14;
+
+const COUNT_202: usize = 9;
+
 const MUSTS_103: [bool; PLACES] = [
     true,
     true,
@@ -121,38 +126,45 @@ const MUSTS_202: [bool; PLACES] = [
     false,
 ];
 
-pub fn tags_of(kind: u32) -> [u32; TAGS]
-    ensures { λ r. ⌜ r ≡ tagTable (placesOf kind) ⌝ }
+// The form of a type.
+pub fn form_of(kind: u32) -> Form
+    ensures { λ r. ⌜ r ≡ formOf kind ⌝ }
 {
     if kind == 103 {
-        return TAGS_103;
+        return Form::Mt103;
     }
     if kind == 202 {
-        return TAGS_202;
+        return Form::Mt202;
     }
-    [0; TAGS]
+    Form::Other
 }
 
-pub fn musts_of(kind: u32) -> [bool; PLACES]
-    ensures { λ r. ⌜ r ≡ mustTable (placesOf kind) ⌝ }
+pub fn tags_of(form: Form) -> [u32; TAGS]
+    ensures { λ r. ⌜ r ≡ tagTable (placesOf form) ⌝ }
 {
-    if kind == 103 {
-        return MUSTS_103;
+    match form {
+        Form::Other => [0; TAGS],
+        Form::Mt103 => TAGS_103,
+        Form::Mt202 => TAGS_202,
     }
-    if kind == 202 {
-        return MUSTS_202;
-    }
-    [false; PLACES]
 }
 
-pub fn count_of(kind: u32) -> usize
-    ensures { λ r. ⌜ r ≡ length (placesOf kind) ⌝ }
+pub fn musts_of(form: Form) -> [bool; PLACES]
+    ensures { λ r. ⌜ r ≡ mustTable (placesOf form) ⌝ }
 {
-    if kind == 103 {
-        return 14;
+    match form {
+        Form::Other => [false; PLACES],
+        Form::Mt103 => MUSTS_103,
+        Form::Mt202 => MUSTS_202,
     }
-    if kind == 202 {
-        return 9;
+}
+
+pub fn count_of(form: Form) -> usize
+    ensures { λ r. ⌜ r ≡ length (placesOf form) ⌝ }
+{
+    match form {
+        Form::Other => 0,
+        Form::Mt103 => COUNT_103,
+        Form::Mt202 => COUNT_202,
     }
-    0
 }

@@ -1,4 +1,4 @@
-// The message types as tables, and the steps of the walk over a message's fields.
+// The forms of messages as tables, and the steps of the walk over a message's fields.
 pub mod forms;
 pub mod steps;
 pub mod tags;
@@ -7,6 +7,13 @@ pub mod tags;
 pub const PLACES: usize = 14;
 
 pub const TAGS: usize = 28;
+
+// A form's key, found once from the type that a caller gave: of any other type there is no form.
+pub enum Form {
+    Other,
+    Mt103,
+    Mt202,
+}
 
 // A field's place, and what is wrong with it there: 5, 6, 7, or 0 for nothing.
 pub struct Step {

@@ -1,8 +1,8 @@
--- A day is one of the calendar, and a date's six bytes one by one. Assumes nothing.
+-- A day is one of the calendar, and a date's six digits two by two. Assumes nothing.
 use Prim.Native.Nat.{ℕ, _+_, _*_, _%_, _≤_, _<_}
-use mathlib.Core.Path.{_≡_, refl, sym, ap, _∙_}
+use mathlib.Core.Path.{_≡_, refl, ap, _∙_}
 use mathlib.Core.Bool.{Bool, true, false, not, _&&_, _||_, false≢true}
-use mathlib.Core.List.{List, [], _∷_}
+use mathlib.Core.List.{[], _∷_, _++_}
 use mathlib.Core.Logic.{_↔_}
 use native.Mathlib.Omega.{arith}
 use lib.Dec.{eqb, leb}
@@ -11,12 +11,12 @@ use borrow.Author.Tests.{eq-eqb, ne-eqb, eqb-true, eqb-false, le-leb, lt-leb, le
 use Rattle.base.specs.Choice.{pick}
 use Rattle.base.specs.Bytes.{byte, isIn, between}
 use Rattle.base.proofs.Bools.{left, right, both}
+use Rattle.contents.specs.Words.{Text}
+use Rattle.contents.specs.Answers.{cut}
+use Rattle.contents.proofs.Laws.{cut-one, cut-on}
 use Rattle.values.specs.Number.{worth, onward, number}
-use Rattle.values.specs.Day.{leap, daysIn, isDay, yearOf, year, month, day, realDay, dated}
-use Rattle.values.specs.Values.{part}
-use Rattle.values.specs.Answers.{dayAt, dateOf}
+use Rattle.values.specs.Day.{leap, daysIn, isDay, yearOf}
 use Rattle.values.specs.Sentences.{LeapYear, fourth, fourHundredth, OfCalendar}
-use Rattle.values.proofs.TextLaws.{part-six}
 
 -- ---- the calendar
 pub leap-iff : (y : ℕ) → (leap y ≡ true) ↔ LeapYear y
@@ -75,62 +75,11 @@ pub year-high : (yy : ℕ) → 99 < yy → yearOf yy ≡ 2000 + yy
 unfolding yearOf
 year-high yy h = let a : 80 ≤ yy = omega arith in rw (le-leb 80 yy a, lt-leb yy 99 h)
 
--- ---- the six bytes from i on
-abbrev pub two : List ℕ → ℕ → ℕ
-two c i = worth (byte c i) * 10 + worth (byte c (i + 1))
-
+-- ---- the two digits from i on
 number-two : (a b : ℕ) → number (a ∷ b ∷ []) ≡ worth a * 10 + worth b
 unfolding onward
 number-two a b = omega arith
 
-module _ (c : List ℕ) (i : ℕ) (h : i + 6 ≤ length c) where
-  year-at : year (part i 6 c) ≡ yearOf (two c i)
-  year-at = ap year (part-six c i h) ∙ ap yearOf (number-two (byte c i) (byte c (i + 1)))
-
-  month-at : month (part i 6 c) ≡ two c (i + 2)
-  month-at = ap month (part-six c i h) ∙ number-two (byte c (i + 2)) (byte c (i + 2 + 1))
-
-  date-at : day (part i 6 c) ≡ two c (i + 4)
-  date-at = ap day (part-six c i h) ∙ number-two (byte c (i + 4)) (byte c (i + 4 + 1))
-
-  pub real-at : realDay (part i 6 c) ≡ isDay (yearOf (two c i)) (two c (i + 2)) (two c (i + 4))
-  unfolding realDay
-  real-at = rw (year-at, month-at, date-at)
-
-  pub dated-at : dated (part i 6 c) ≡ yearOf (two c i) * 10000 + two c (i + 2) * 100 + two c (i + 4)
-  unfolding dated
-  dated-at = rw (year-at, month-at, date-at)
-
-  pub day-within : dayAt c i ≡ realDay (part i 6 c)
-  unfolding dayAt
-  day-within = rw (le-leb (i + 6) (length c) h)
-
-pub day-past : (c : List ℕ) (i : ℕ) → length c < i + 6 → dayAt c i ≡ false
-unfolding dayAt
-day-past c i h = rw (lt-leb (i + 6) (length c) h)
-
-pub date-short : (c : List ℕ) → length c < 6 → dateOf c ≡ 0
-unfolding dateOf
-date-short c h = rw (lt-leb 6 (length c) h)
-
-pub date-long : (c : List ℕ) → 6 ≤ length c → dateOf c ≡ dated (part 0 6 c)
-unfolding dateOf
-date-long c h = rw (le-leb 6 (length c) h)
-
--- ---- from a year, a month and a day that were read from i on
-pub record ReadAt (c : List ℕ) (i t y m d : ℕ) : Type 0 where
-  pub within : i + 6 ≤ length c
-  pub yy : t ≡ two c i
-  pub year-is : y ≡ yearOf t
-  pub month-is : m ≡ two c (i + 2)
-  pub day-is : d ≡ two c (i + 4)
-
-pub day-by : {c : List ℕ} {i t y m d : ℕ} → ReadAt c i t y m d → isDay y m d ≡ dayAt c i
-day-by {c} {i} {t} {y} w =
-    let e : y ≡ yearOf (two c i) = w .year-is ∙ ap yearOf (w .yy) in
-    rw (e, w .month-is, w .day-is) (sym (real-at c i (w .within)) ∙ sym (day-within c i (w .within)))
-
-pub date-by : {c : List ℕ} {t y m d : ℕ} → ReadAt c 0 t y m d → y * 10000 + m * 100 + d ≡ dateOf c
-date-by {c} {t} {y} w =
-    let e : y ≡ yearOf (two c 0) = w .year-is ∙ ap yearOf (w .yy) in
-    rw (e, w .month-is, w .day-is) (sym (dated-at c 0 (w .within)) ∙ sym (date-long c (w .within)))
+pub two-digits : (i : ℕ) (s : Text) → i + 2 ≤ length s → number (cut i 2 s) ≡ worth (byte s i) * 10 + worth (byte s (i + 1))
+two-digits i s h =
+    ap number (cut-on i 1 s (omega arith) ∙ ap (λ (t : Text). t ++ byte s (i + 1) ∷ []) (cut-one i s (omega arith))) ∙ number-two (byte s i) (byte s (i + 1))

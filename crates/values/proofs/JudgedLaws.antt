@@ -1,7 +1,7 @@
 -- The first value that fails stands at the least place where one does, since values come in the order of their places. Assumes nothing.
 use Prim.Native.Nat.{ℕ, _≤_}
 use mathlib.Core.Path.{_≡_, refl, sym, ap, _∙_}
-use mathlib.Core.Bool.{Bool, true, false, _||_, true≢false, false≢true}
+use mathlib.Core.Bool.{Bool, true, false, _||_, true≢false}
 use mathlib.Core.List.{List, [], _∷_, _++_, List·Memᴰ, List·Memᴰ·head, List·Memᴰ·tail, List·Memᴰ·not-nil, List·Memᴰ·cases-cons}
 use mathlib.Core.Logic.{_↔_, _⊎_, inl, inr}
 use native.Mathlib.Omega.{arith}
@@ -141,28 +141,3 @@ has-append t (v ∷ vs) ws = go (t (kindOf v)) (has-append t vs ws)
     go : (b : Bool) → has t (vs ++ ws) ≡ (has t vs || has t ws) → (b || has t (vs ++ ws)) ≡ ((b || has t vs) || has t ws)
     go true h = refl
     go false h = h
-
-pub record Found (t : Kind → Bool) (vs : List Value) : Type 0 where
-  pub value : Value
-  pub among : List·Memᴰ value vs
-  pub passes : t (kindOf value) ≡ true
-
-has-found : (t : Kind → Bool) (vs : List Value) → has t vs ≡ true → Found t vs
-has-found t [] e = absurd (false≢true e)
-has-found t (v ∷ vs) e = go (t (kindOf v)) refl e (has-found t vs)
-  where
-    go : (b : Bool) → t (kindOf v) ≡ b → (b || has t vs) ≡ true → (has t vs ≡ true → Found t vs) → Found t (v ∷ vs)
-    go true q e r = record { value = v; among = List·Memᴰ·head refl; passes = q }
-    go false q e r = let f = r e in record { value = f .value; among = List·Memᴰ·tail (f .among); passes = f .passes }
-
-found-has : (t : Kind → Bool) (vs : List Value) → Found t vs → has t vs ≡ true
-found-has t [] f = absurd (List·Memᴰ·not-nil (f .among))
-found-has t (v ∷ vs) f = go (t (kindOf v)) refl (List·Memᴰ·cases-cons (f .among)) (found-has t vs)
-  where
-    go : (b : Bool) → t (kindOf v) ≡ b → (f .value ≡ v) ⊎ List·Memᴰ (f .value) vs → (Found t vs → has t vs ≡ true) → (b || has t vs) ≡ true
-    go true q m r = refl
-    go false q (inl e) r = absurd (true≢false (sym (f .passes) ∙ ap (λ (x : Value). t (kindOf x)) e ∙ q))
-    go false q (inr m) r = r (record { value = f .value; among = m; passes = f .passes })
-
-pub has-iff : (t : Kind → Bool) (vs : List Value) → (has t vs ≡ true) ↔ Found t vs
-has-iff t vs = (has-found t vs, found-has t vs)

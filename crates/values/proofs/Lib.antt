@@ -2,11 +2,9 @@ pub mod JudgedLaws
 pub mod ValueLaws
 pub mod RuleLaws
 pub mod StepLaws
-pub mod LineLaws
-pub mod TextLaws
 pub mod DayLaws
-pub mod MoneyLaws
-pub mod PartLaws
-pub mod FaultLaws
 pub mod GrammarLaws
+pub mod MoneyLaws
+pub mod FrontLaws
+pub mod FoundLaws
 pub mod Examples

@@ -3,22 +3,56 @@ use Prim.Native.Nat.{ℕ, suc, _+_}
 use mathlib.Core.Path.{_≡_, refl, sym, ap, ap₂, _∙_}
 use mathlib.Core.Bool.{Bool, true, false, not, _&&_, _||_, true≢false, and-false, and-true, or-false}
 use mathlib.Core.List.{List, [], _∷_, _++_, map}
-use lib.Dec.{eqb, leb}
-use lib.ListN.{length, drop}
+use lib.Dec.{eqb}
 use Rattle.base.specs.Choice.{pick}
-use Rattle.base.specs.Bytes.{byte, same}
-use Rattle.base.specs.Quoted.{bytes}
+use Rattle.base.specs.Bytes.{same}
 use Rattle.base.specs.Rules.{then}
 use Rattle.base.specs.declared.Verdict.{Verdict}
 use Rattle.base.specs.declared.Verdict.the-variants.{Fine, Broken}
-use Rattle.fields.specs.Field.{Field, tagOf}
+use Rattle.fields.specs.Field.{Field, field}
 use Rattle.fields.specs.Places.{startOf, nextOf}
+use Rattle.fields.specs.Shapes.{unpack}
+use Rattle.fields.proofs.PackLaws.{same-unpack}
+use Rattle.types.specs.declared.Form.{Form}
 use Rattle.types.specs.Walk.{among}
-use Rattle.values.specs.Values.{Kind, tag, date, money, party, tax, Value, at, placeOf, kindOf, moved, part, lineAt, payment, pointIn, dateAt, datesBehind, isRpp, rpp, bothParts, parties, taxPlace, isTax, withKpp, taxes, valuesOf, contentOf, valuesIn}
-use Rattle.values.specs.Judged.{firstBad, has, tagged, kppIn, is56, is57, is26T, is77B, taxWhole, rule11, rule13}
-use Rattle.values.specs.Answers.{kppOf, faultOf, answered}
+use Rattle.contents.specs.declared.Content.{Content}
+use Rattle.contents.specs.Words.{Text, Line}
+use Rattle.contents.specs.Tags.{heldBy}
+use Rattle.values.specs.Values.{Kind, tag, Value, at, placeOf, kindOf, moved, valuesOf, valuesIn}
+use Rattle.values.specs.Judged.{firstBad, has, tagged, hasKpp, kppIn, is56, is57, is26T, is77B, taxWhole, rule11, rule13}
+use Rattle.values.specs.Answers.{faultOf, answered}
 use Rattle.values.proofs.JudgedLaws.{first-append, has-append}
-use Rattle.values.proofs.ValueLaws.{picked, by-tag}
+use Rattle.values.proofs.ValueLaws.{Every, every-value}
+
+-- ---- two tags as numbers
+pub among-two : (n a b : ℕ) {r : Bool} → r ≡ (eqb n a || eqb n b) → r ≡ among (unpack n) (unpack a ∷ unpack b ∷ [])
+among-two n a b e = e ∙ sym (ap₂ _||_ (same-unpack n a) (or-false (same (unpack n) (unpack b)) ∙ same-unpack n b))
+
+-- ---- a test that is another's, or never passes, on every value
+and-or : (b x y : Bool) → ((b && x) || (b && y)) ≡ (b && (x || y))
+and-or true x y = refl
+and-or false x y = refl
+
+has-every : (u w : Kind → Bool) (b : Bool) (vs : List Value) → Every (λ k. u k ≡ (b && w k)) vs → has u vs ≡ (b && has w vs)
+has-every u w b [] e = sym (and-false b)
+has-every u w b (v ∷ vs) e = ap₂ _||_ (e .0) (has-every u w b vs (e .1)) ∙ and-or b (w (kindOf v)) (has w vs)
+
+pub has-none : (u : Kind → Bool) (vs : List Value) → Every (λ k. u k ≡ false) vs → has u vs ≡ false
+has-none u vs e = has-every u u false vs e
+
+pub fault-none : (bad : Kind → Bool) (vs : List Value) → Every (λ k. bad k ≡ false) vs → faultOf bad vs ≡ 0
+unfolding faultOf
+fault-none bad [] e = refl
+fault-none bad (v ∷ vs) e = ap (λ (b : Bool). pick b (suc (placeOf v)) (faultOf bad vs)) (e .0) ∙ fault-none bad vs (e .1)
+
+-- ---- no content has a tag, and its tax lines are in its own field
+no-tag : (ts : List Text) (t : Text) (content : Content) (ls : List Line) → Every (λ k. tagged ts k ≡ false) (valuesOf t content ls)
+no-tag ts t content ls = every-value (λ k. tagged ts k ≡ false) t (λ s. refl) (λ s. refl) (λ b a. refl) (λ i k. refl) content ls
+
+pub kpp-in : (u t : Text) (content : Content) (ls : List Line) → has (kppIn u) (valuesOf t content ls) ≡ (same t u && has hasKpp (valuesOf t content ls))
+kpp-in u t content ls =
+    let z = sym (and-false (same t u)) in
+    has-every (kppIn u) hasKpp (same t u) (valuesOf t content ls) (every-value (λ k. kppIn u k ≡ (same t u && hasKpp k)) t (λ s. z) (λ s. z) (λ b a. z) (λ i k. refl) content ls)
 
 -- ---- a content's answer, as the rule's
 module _ (number : ℕ) (bad : Kind → Bool) where
@@ -32,115 +66,49 @@ module _ (number : ℕ) (bad : Kind → Bool) where
       go true h = refl
       go false h = h
 
-  -- a field, and those behind it
-  pub first-field : ((t : List ℕ) → bad (tag t) ≡ false) → (o : ℕ) (f : Field) (fs : List Field)
-      → firstBad number bad (valuesIn o (f ∷ fs)) ≡ then (answered number (startOf o f) (faultOf bad (valuesOf (tagOf f) (contentOf f)))) (firstBad number bad (valuesIn (nextOf o f) fs))
-  unfolding firstBad
-  first-field h o f fs =
-      ap (λ (b : Bool). pick b (Broken number o) (firstBad number bad (map (moved (startOf o f)) (valuesOf (tagOf f) (contentOf f)) ++ valuesIn (nextOf o f) fs))) (h (tagOf f))
-      ∙ first-append number bad (map (moved (startOf o f)) (valuesOf (tagOf f) (contentOf f))) (valuesIn (nextOf o f) fs)
-      ∙ ap (λ (v : Verdict). then v (firstBad number bad (valuesIn (nextOf o f) fs))) (first-moved (startOf o f) (valuesOf (tagOf f) (contentOf f)))
-
 has-moved : (t : Kind → Bool) (n : ℕ) (vs : List Value) → has t (map (moved n) vs) ≡ has t vs
 has-moved t n [] = refl
 has-moved t n (at p k ∷ vs) = ap (λ (b : Bool). t k || b) (has-moved t n vs)
 
-pub none-has : (t : Kind → Bool) (vs : List Value) → has t vs ≡ false → faultOf t vs ≡ 0
-unfolding faultOf
-none-has t [] e = refl
-none-has t (v ∷ vs) e = go (t (kindOf v)) e (none-has t vs)
-  where
-    go : (b : Bool) → (b || has t vs) ≡ false → (has t vs ≡ false → faultOf t vs ≡ 0) → pick b (suc (placeOf v)) (faultOf t vs) ≡ 0
-    go true e r = absurd (true≢false e)
-    go false e r = r e
+-- ---- a field, and those behind it
+module _ (form : Form) (o : ℕ) (t : Text) (ls : List Line) (fs : List Field) where
+  abbrev here : List Value
+  here = valuesOf t (heldBy form t) ls
 
--- ---- what a test is false of is not found
-module _ (u : Kind → Bool) where
-  one-or-none : (b : Bool) (p : ℕ) (k : Kind) → u k ≡ false → has u (pick b (at p k ∷ []) []) ≡ false
-  one-or-none true p k e = ap (λ (b : Bool). b || false) e
-  one-or-none false p k e = refl
+  abbrev rest : List Value
+  rest = valuesIn form (nextOf o (field t ls)) fs
 
-  pub no-payment : (c : List ℕ) → ((s : List ℕ) → u (date s) ≡ false) → ((s a : List ℕ) → u (money s a) ≡ false) → has u (payment c) ≡ false
-  unfolding payment
-  no-payment c h k =
-      picked (λ vs. has u vs ≡ false) (leb 9 (length c)) (λ _. ap₂ (λ (a b : Bool). a || (b || false)) (h (part 0 6 c)) (k (part 6 3 c) (drop 9 c))) (λ _. refl)
+  abbrev all : List Value
+  all = valuesIn form o (field t ls ∷ fs)
 
-  no-dates : (a b : Bool) (i j : ℕ) (c : List ℕ) → ((s : List ℕ) → u (date s) ≡ false) → has u (dateAt a i c ++ dateAt b j c) ≡ false
-  no-dates a b i j c h =
-      has-append u (dateAt a i c) (dateAt b j c) ∙ ap₂ _||_ (one-or-none a i (date (part i 6 c)) (h (part i 6 c))) (one-or-none b j (date (part j 6 c)) (h (part j 6 c)))
+  -- the content's values and the rest
+  behind-tag : (number : ℕ) (bad : Kind → Bool)
+      → firstBad number bad (map (moved (startOf o (field t ls))) here ++ rest) ≡ then (answered number (startOf o (field t ls)) (faultOf bad here)) (firstBad number bad rest)
+  behind-tag number bad =
+      first-append number bad (map (moved (startOf o (field t ls))) here) rest
+      ∙ ap (λ (v : Verdict). then v (firstBad number bad rest)) (first-moved number bad (startOf o (field t ls)) here)
 
-  pub no-rpp : (c : List ℕ) → ((s : List ℕ) → u (date s) ≡ false) → has u (rpp c) ≡ false
-  unfolding rpp datesBehind
-  no-rpp c h =
-      let p : ℕ = pointIn c in
-      picked (λ vs. has u vs ≡ false) (isRpp c) (λ _. no-dates (leb (p + 7) (length c)) (leb (p + 21) (length c) && eqb (byte c (p + 14)) 46) (p + 1) (p + 15) c h) (λ _. refl)
+  has-behind : (u : Kind → Bool) → has u (map (moved (startOf o (field t ls))) here ++ rest) ≡ (has u here || has u rest)
+  has-behind u = has-append u (map (moved (startOf o (field t ls))) here) rest ∙ ap (λ (b : Bool). b || has u rest) (has-moved u (startOf o (field t ls)) here)
 
-  pub no-parties : (c : List ℕ) → ((b a : List ℕ) → u (party b a) ≡ false) → has u (parties c) ≡ false
-  unfolding parties
-  no-parties c h = one-or-none (bothParts c) 0 (party (part 10 3 c) (part 31 3 c)) (h (part 10 3 c) (part 31 3 c))
+  pub first-field : (number : ℕ) (bad : Kind → Bool) → ((u : Text) → bad (tag u) ≡ false)
+      → firstBad number bad all ≡ then (answered number (startOf o (field t ls)) (faultOf bad here)) (firstBad number bad rest)
+  unfolding firstBad
+  first-field number bad h = ap (λ (b : Bool). pick b (Broken number o) (firstBad number bad (map (moved (startOf o (field t ls))) here ++ rest))) (h t) ∙ behind-tag number bad
 
-  pub no-taxes : (t c : List ℕ) → ((s l : List ℕ) → u (tax s l) ≡ false) → has u (taxes t c) ≡ false
-  unfolding taxes
-  no-taxes t c h = let n : ℕ = taxPlace (same t (bytes "50K")) c in one-or-none (isTax (lineAt n c)) n (tax t (lineAt n c)) (h t (lineAt n c))
+  -- the first field with one of these tags
+  pub first-tag : (number : ℕ) (ts : List Text) → firstBad number (tagged ts) all ≡ pick (among t ts) (Broken number o) (firstBad number (tagged ts) rest)
+  unfolding firstBad
+  first-tag number ts =
+      ap (pick (among t ts) (Broken number o))
+      (behind-tag number (tagged ts) ∙ ap (λ (k : ℕ). then (answered number (startOf o (field t ls)) k) (firstBad number (tagged ts) rest)) (fault-none (tagged ts) here (no-tag ts t (heldBy form t) ls)))
 
--- ---- tags: no content holds one
-no-tag : (ts : List (List ℕ)) (t c : List ℕ) → has (tagged ts) (valuesOf t c) ≡ false
-no-tag ts t c =
-    let u = tagged ts in
-    by-tag (λ vs. has u vs ≡ false) t c (λ _. no-payment u c (λ s. refl) (λ s a. refl)) (λ _. no-rpp u c (λ s. refl)) (λ _. no-parties u c (λ b a. refl))
-    (no-taxes u t c (λ s l. refl)) refl
+  pub has-tag : (ts : List Text) → has (tagged ts) all ≡ (among t ts || has (tagged ts) rest)
+  has-tag ts = ap (λ (b : Bool). among t ts || b) (has-behind (tagged ts) ∙ ap (λ (b : Bool). b || has (tagged ts) rest) (has-none (tagged ts) here (no-tag ts t (heldBy form t) ls)))
 
--- the first field with one of these tags
-pub first-tag : (number : ℕ) (ts : List (List ℕ)) (o : ℕ) (f : Field) (fs : List Field)
-    → firstBad number (tagged ts) (valuesIn o (f ∷ fs)) ≡ pick (among (tagOf f) ts) (Broken number o) (firstBad number (tagged ts) (valuesIn (nextOf o f) fs))
-unfolding firstBad
-first-tag number ts o f fs =
-    let vs = valuesOf (tagOf f) (contentOf f) in
-    ap (pick (among (tagOf f) ts) (Broken number o))
-    (first-append number (tagged ts) (map (moved (startOf o f)) vs) (valuesIn (nextOf o f) fs)
-    ∙ ap (λ (v : Verdict). then v (firstBad number (tagged ts) (valuesIn (nextOf o f) fs)))
-    (first-moved number (tagged ts) (startOf o f) vs ∙ ap (answered number (startOf o f)) (none-has (tagged ts) vs (no-tag ts (tagOf f) (contentOf f)))))
-
-pub has-tag : (ts : List (List ℕ)) (o : ℕ) (f : Field) (fs : List Field) → has (tagged ts) (valuesIn o (f ∷ fs)) ≡ (among (tagOf f) ts || has (tagged ts) (valuesIn (nextOf o f) fs))
-has-tag ts o f fs =
-    let vs = valuesOf (tagOf f) (contentOf f) in
-    ap (λ (b : Bool). among (tagOf f) ts || b)
-    (has-append (tagged ts) (map (moved (startOf o f)) vs) (valuesIn (nextOf o f) fs)
-    ∙ ap (λ (b : Bool). b || has (tagged ts) (valuesIn (nextOf o f) fs)) (has-moved (tagged ts) (startOf o f) vs ∙ no-tag ts (tagOf f) (contentOf f)))
-
--- ---- a KPP in a field
-pub has-kpp : (u : List ℕ) (o : ℕ) (f : Field) (fs : List Field)
-    → has (kppIn u) (valuesIn o (f ∷ fs)) ≡ (has (kppIn u) (valuesOf (tagOf f) (contentOf f)) || has (kppIn u) (valuesIn (nextOf o f) fs))
-has-kpp u o f fs =
-    let vs = valuesOf (tagOf f) (contentOf f) in
-    has-append (kppIn u) (map (moved (startOf o f)) vs) (valuesIn (nextOf o f) fs)
-    ∙ ap (λ (b : Bool). b || has (kppIn u) (valuesIn (nextOf o f) fs)) (has-moved (kppIn u) (startOf o f) vs)
-
-tax-kpp : (u t c : List ℕ) → has (kppIn u) (taxes t c) ≡ (same t u && kppOf (same t (bytes "50K")) c)
-unfolding taxes kppOf
-tax-kpp u t c = go (isTax l)
-  where
-    l : List ℕ
-    l = lineAt (taxPlace (same t (bytes "50K")) c) c
-
-    go : (a : Bool) → has (kppIn u) (pick a (at (taxPlace (same t (bytes "50K")) c) (tax t l) ∷ []) []) ≡ (same t u && (a && withKpp l))
-    go true = or-false (same t u && withKpp l)
-    go false = sym (and-false (same t u))
-
--- the payer's and the payee's, and no other field's
-pub kpp-payer : (c : List ℕ) → has (kppIn (bytes "50K")) (valuesOf (bytes "50K") c) ≡ kppOf true c
-unfolding valuesOf same
-kpp-payer c = tax-kpp (bytes "50K") (bytes "50K") c
-
-pub kpp-payee : (c : List ℕ) → has (kppIn (bytes "59")) (valuesOf (bytes "59") c) ≡ kppOf false c
-unfolding valuesOf same
-kpp-payee c = tax-kpp (bytes "59") (bytes "59") c
-
-pub kpp-other : (u t c : List ℕ) → same t u ≡ false → has (kppIn u) (valuesOf t c) ≡ false
-kpp-other u t c e =
-    let k = kppIn u in
-    by-tag (λ vs. has k vs ≡ false) t c (λ _. no-payment k c (λ s. refl) (λ s a. refl)) (λ _. no-rpp k c (λ s. refl)) (λ _. no-parties k c (λ b a. refl))
-    (tax-kpp u t c ∙ ap (λ (b : Bool). b && kppOf (same t (bytes "50K")) c) e) refl
+  -- a KPP in the field with this tag
+  pub has-kpp : (u : Text) → has (kppIn u) all ≡ ((same t u && has hasKpp here) || has (kppIn u) rest)
+  has-kpp u = has-behind (kppIn u) ∙ ap (λ (b : Bool). b || has (kppIn u) rest) (kpp-in u t (heldBy form t) ls)
 
 -- ---- 11 and 13 by what stands in the message
 module _ (number : ℕ) where
@@ -164,20 +132,20 @@ module _ (number : ℕ) where
       go true e r = absurd (true≢false e)
       go false e r = ap (pick (u (kindOf v)) (Broken number (placeOf v))) (r e)
 
-pub rule11-by : (fs : List Field) → rule11 fs ≡ pick (has is57 (valuesIn 5 fs)) Fine (firstBad 11 is56 (valuesIn 5 fs))
+pub rule11-by : (form : Form) (fs : List Field) → rule11 form fs ≡ pick (has is57 (valuesIn form 5 fs)) Fine (firstBad 11 is56 (valuesIn form 5 fs))
 unfolding rule11
-rule11-by fs = go (has is57 (valuesIn 5 fs))
+rule11-by form fs = go (has is57 (valuesIn form 5 fs))
   where
-    go : (b : Bool) → firstBad 11 (λ v. is56 v && not b) (valuesIn 5 fs) ≡ pick b Fine (firstBad 11 is56 (valuesIn 5 fs))
-    go true = first-never 11 (λ v. is56 v && false) (λ v. and-false (is56 v)) (valuesIn 5 fs)
-    go false = first-same 11 (λ v. is56 v && true) is56 (λ v. and-true (is56 v)) (valuesIn 5 fs)
+    go : (b : Bool) → firstBad 11 (λ v. is56 v && not b) (valuesIn form 5 fs) ≡ pick b Fine (firstBad 11 is56 (valuesIn form 5 fs))
+    go true = first-never 11 (λ v. is56 v && false) (λ v. and-false (is56 v)) (valuesIn form 5 fs)
+    go false = first-same 11 (λ v. is56 v && true) is56 (λ v. and-true (is56 v)) (valuesIn form 5 fs)
 
-pub rule13-by : (fs : List Field) → rule13 fs ≡ pick (has is26T (valuesIn 5 fs)) (pick (taxWhole (valuesIn 5 fs)) Fine (firstBad 13 is26T (valuesIn 5 fs))) (firstBad 13 is77B (valuesIn 5 fs))
+pub rule13-by : (form : Form) (fs : List Field) → rule13 form fs ≡ pick (has is26T (valuesIn form 5 fs)) (pick (taxWhole (valuesIn form 5 fs)) Fine (firstBad 13 is26T (valuesIn form 5 fs))) (firstBad 13 is77B (valuesIn form 5 fs))
 unfolding rule13
-rule13-by fs = go (has is26T vs) (taxWhole vs) refl
+rule13-by form fs = go (has is26T vs) (taxWhole vs) refl
   where
     vs : List Value
-    vs = valuesIn 5 fs
+    vs = valuesIn form 5 fs
 
     none : (v : Kind) → ((is26T v && false) || (is77B v && false)) ≡ false
     none v = ap₂ _||_ (and-false (is26T v)) (and-false (is77B v))

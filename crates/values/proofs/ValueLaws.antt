@@ -1,147 +1,213 @@
--- The values of a content, by its field's tag; and the values of a message come in the order of their places. Assumes nothing.
-use Prim.Native.Nat.{ℕ, _+_, _≤_, _<_}
-use mathlib.Core.Path.{_≡_, refl, sym, ap, _∙_, subst}
-use mathlib.Core.Bool.{Bool, true, false, _&&_, false≢true}
-use mathlib.Core.List.{List, [], _∷_, _++_, map}
+-- The values of a message come in the order of their places; and what kinds a content has. Assumes nothing.
+use Prim.Native.Nat.{ℕ, _+_, _-_, _≤_}
+use mathlib.Core.Path.{_≡_, refl, sym, ap, subst}
+use mathlib.Core.Bool.{Bool, true, false}
+use mathlib.Core.List.{List, [], _∷_, map}
 use native.Mathlib.Omega.{arith}
 use native.Mathlib.Nat.{le-refl}
-use native.Mathlib.Decide.{decLt}
-use lib.Dec.{eqb, leb}
-use lib.ListN.{length, drop, drop-of-length-le, length-append}
-use lib.Seq.{drop-nil}
-use borrow.Author.Tests.{leb-true}
+use lib.ListN.{length, drop, length-append, length-drop, length-take}
 use Rattle.base.specs.Choice.{pick}
-use Rattle.base.specs.Bytes.{byte, same}
-use Rattle.base.specs.Quoted.{bytes}
-use Rattle.base.proofs.Bools.{left}
-use Rattle.fields.specs.Field.{Field, field, tagOf, upto}
+use Rattle.base.specs.Bytes.{begins}
+use Rattle.fields.specs.Field.{Field, field}
 use Rattle.fields.specs.Places.{sizeOf, startOf, nextOf}
 use Rattle.fields.specs.ByLines.{joined}
 use Rattle.fields.proofs.FieldLaws.{laid-size}
-use Rattle.fields.proofs.PlaceLaws.{laid-joined}
-use Rattle.types.specs.Walk.{among}
+use Rattle.fields.proofs.PlaceLaws.{joined-length}
+use Rattle.types.specs.declared.Form.{Form}
 use Rattle.types.proofs.WalkLaws.{after}
-use Rattle.values.specs.Values.{tag, date, money, party, tax, Value, at, placeOf, moved, part, lineAt, payment, pointIn, datesBehind, isRpp, rpp, bothParts, parties, taxPlace, isTax, taxes, partyTags, taxTags, valuesOf, contentOf, valuesIn}
+use Rattle.contents.specs.declared.Content.{Content}
+use Rattle.contents.specs.declared.Content.the-variants as holds
+use Rattle.contents.specs.Words.{Text, Line, join}
+use Rattle.contents.specs.Tests.{sized, digits, piece, rppParts, isPartyByBik, looksTax}
+use Rattle.contents.specs.Tags.{heldBy}
+use Rattle.contents.specs.Parts.{paidDate, paidCurrency, currencyAt, partyBik, partyAccount, taxInn, taxKpp, opensRpp, rppDate, rppDateAt, rppValue, rppValueAt}
+use Rattle.contents.proofs.CutLaws.{cut-whole}
+use Rattle.values.specs.Values.{Kind, tag, date, currency, party, tax, Value, at, placeOf, kindOf, moved, payment, dateIfAny, rppDates, bothParts, parties, ofFirst, taxes, customerTaxes, payerTaxes, noteDates, valuesOf, valuesIn}
 use Rattle.values.proofs.JudgedLaws.{Ordered, none, next, ordered-low, ordered-high, ordered-append}
 
--- ---- what holds either way, and what holds of each content's values
-pub picked : {A : Type 0} (P : A → Type 0) (b : Bool) {x y : A} → (b ≡ true → P x) → (b ≡ false → P y) → P (pick b x y)
-picked P true h k = h refl
-picked P false h k = k refl
+-- ---- what holds either way
+picked : {A : Type 0} (P : A → Type 0) (b : Bool) {x y : A} → P x → P y → P (pick b x y)
+picked P true p q = p
+picked P false p q = q
 
-pub by-tag : (P : List Value → Type 0) (t c : List ℕ) → (same t (bytes "32A") ≡ true → P (payment c)) → (same t (bytes "72") ≡ true → P (rpp c)) → (among t partyTags ≡ true → P (parties c))
-    → P (taxes t c) → P [] → P (valuesOf t c)
+-- ---- what holds of the values of each content
+by-content : (P : List Value → Type 0) (t : Text) (content : Content) (ls : List Line)
+    → P [] → P (ofFirst payment ls) → P (payerTaxes t ls) → P (ofFirst parties ls) → P (customerTaxes t ls) → P (ofFirst rppDates ls) → P (ofFirst noteDates ls) → P (valuesOf t content ls)
 unfolding valuesOf
-by-tag P t c a b d e f = go (same t (bytes "32A")) (same t (bytes "72")) (among t partyTags) (among t taxTags) refl refl refl
-  where
-    go : (x y z w : Bool) → same t (bytes "32A") ≡ x → same t (bytes "72") ≡ y → among t partyTags ≡ z → P (pick x (payment c) (pick y (rpp c) (pick z (parties c) (pick w (taxes t c) []))))
-    go true y z w i j k = a i
-    go false true z w i j k = b j
-    go false false true w i j k = d k
-    go false false false true i j k = e
-    go false false false false i j k = f
+by-content P t holds.Unknown ls n a b c d e f = n
+by-content P t holds.Reference ls n a b c d e f = n
+by-content P t holds.Related ls n a b c d e f = n
+by-content P t holds.Operation ls n a b c d e f = n
+by-content P t holds.Purpose ls n a b c d e f = n
+by-content P t holds.Payment ls n a b c d e f = a
+by-content P t holds.Payer ls n a b c d e f = b
+by-content P t holds.BankByBic ls n a b c d e f = c
+by-content P t holds.BankByName ls n a b c d e f = c
+by-content P t holds.OwnAccount ls n a b c d e f = n
+by-content P t holds.AccountAndBic ls n a b c d e f = n
+by-content P t holds.BeneficiaryBank ls n a b c d e f = d
+by-content P t holds.Beneficiary ls n a b c d e f = d
+by-content P t holds.Details ls n a b c d e f = n
+by-content P t holds.Charges ls n a b c d e f = n
+by-content P t holds.Document ls n a b c d e f = e
+by-content P t holds.DocumentAndDetails ls n a b c d e f = f
+by-content P t holds.Regulatory ls n a b c d e f = n
 
 -- ---- in the order of their places
 ordered-moved : (n : ℕ) {o e : ℕ} {vs : List Value} → Ordered o vs e → Ordered (n + o) (map (moved n) vs) (n + e)
 ordered-moved n {o} {e} (none h) = let g : n + o ≤ n + e = omega arith in none g
 ordered-moved n {o} (next {v = at p k} h r) = let g : n + o ≤ n + p = omega arith in next g (ordered-moved n r)
 
+nothing : (e : ℕ) → Ordered 0 [] e
+nothing e = let g : 0 ≤ e = omega arith in none g
+
 -- one value, within the content
 alone : (v : Value) (e : ℕ) → placeOf v ≤ e → Ordered 0 (v ∷ []) e
 alone v e h = let g : 0 ≤ placeOf v = omega arith in next g (none h)
 
-nothing : (e : ℕ) → Ordered 0 [] e
-nothing e = let g : 0 ≤ e = omega arith in none g
-
-payment-order : (c : List ℕ) → Ordered 0 (payment c) (length c)
+payment-order : (l : Line) → Ordered 0 (payment l) (length l)
 unfolding payment
-payment-order c = picked (λ vs. Ordered 0 vs (length c)) (leb 9 (length c)) both (λ e. nothing (length c))
+payment-order l =
+    let z : 0 ≤ 0 = omega arith in
+    let h : 0 ≤ currencyAt l = omega arith in
+    let k : currencyAt l ≤ length l = omega (arith, length-take 6 l) in
+    next z (next h (none k))
+
+-- the last part, without its mark, begins behind the first parts
+last-place : (ts : List Text) (l : Line) → join (piece 0 ts ∷ piece 1 ts ∷ piece 2 ts ∷ piece 3 ts ∷ piece 4 ts ∷ piece 5 ts ∷ piece 6 ts ∷ piece 7 ts ∷ piece 8 ts ∷ []) ≡ l
+    → length (join (piece 0 ts ∷ piece 1 ts ∷ piece 2 ts ∷ [])) ≤ length l - length (drop 1 (piece 8 ts))
+last-place ts l q =
+    let z = simp length-append at (ap length q) in
+    let y = length-drop 1 (piece 8 ts) in
+    simp length-append (omega arith)
+
+rpp-order : (l : Line) → Ordered 0 (rppDates l) (length l)
+unfolding rppDates
+rpp-order l =
+    let z : 0 ≤ rppDateAt l = omega arith in
+    next z (perhaps (rppValue l) (last-place (rppParts l) l (cut-whole (sized 5 ∷ digits ∷ sized 1 ∷ sized 6 ∷ sized 1 ∷ sized 1 ∷ sized 1 ∷ sized 4 ∷ []) l)))
   where
-    both : leb 9 (length c) ≡ true → Ordered 0 (at 0 (date (part 0 6 c)) ∷ at 6 (money (part 6 3 c) (drop 9 c)) ∷ []) (length c)
-    both e =
-        let h = leb-true 9 (length c) e in
-        let x : _≤_ 0 0 = omega arith in
-        let y : _≤_ 0 6 = omega arith in
-        let z : 6 ≤ length c = omega arith in
-        next x (next y (none z))
+    perhaps : (s : Text) → rppDateAt l ≤ length l - length s → Ordered (rppDateAt l) (dateIfAny (length l - length s) s) (length l)
+    perhaps [] h = let k : rppDateAt l ≤ length l = omega arith in none k
+    perhaps (x ∷ s) h = let k : length l - length (x ∷ s) ≤ length l = omega arith in next h (none k)
 
-dates-order : (p : ℕ) (c : List ℕ) → Ordered 0 (datesBehind p c) (length c)
-unfolding datesBehind
-dates-order p c =
-    let h : ℕ = length c in
-    let q : Bool = leb (p + 21) h && eqb (byte c (p + 14)) 46 in
-    picked (λ vs. Ordered 0 (vs ++ pick q (later ∷ []) []) h) (leb (p + 7) h)
-    (λ e. picked (λ vs. Ordered 0 (sooner ∷ vs) h) q (λ f. two f) (λ f. alone sooner h (omega (arith, leb-true (p + 7) h e))))
-    (λ e. picked (λ vs. Ordered 0 vs h) q (λ f. alone later h (omega (arith, far f))) (λ f. nothing h))
-  where
-    sooner : Value
-    sooner = at (p + 1) (date (part (p + 1) 6 c))
-
-    later : Value
-    later = at (p + 15) (date (part (p + 15) 6 c))
-
-    far : (leb (p + 21) (length c) && eqb (byte c (p + 14)) 46) ≡ true → p + 21 ≤ length c
-    far f = leb-true (p + 21) (length c) (left (leb (p + 21) (length c)) (eqb (byte c (p + 14)) 46) f)
-
-    two : (leb (p + 21) (length c) && eqb (byte c (p + 14)) 46) ≡ true → Ordered 0 (sooner ∷ later ∷ []) (length c)
-    two f =
-        let k = far f in
-        let x : 0 ≤ p + 1 = omega arith in
-        let y : p + 1 ≤ p + 15 = omega arith in
-        let z : p + 15 ≤ length c = omega arith in
-        next x (next y (none z))
-
-rpp-order : (c : List ℕ) → Ordered 0 (rpp c) (length c)
-unfolding rpp
-rpp-order c = picked (λ vs. Ordered 0 vs (length c)) (isRpp c) (λ e. dates-order (pointIn c) c) (λ e. nothing (length c))
-
-parties-order : (c : List ℕ) → Ordered 0 (parties c) (length c)
+parties-order : (l : Line) → Ordered 0 (parties l) (length l)
 unfolding parties
-parties-order c = picked (λ vs. Ordered 0 vs (length c)) (bothParts c) (λ e. alone (at 0 (party (part 10 3 c) (part 31 3 c))) (length c) (omega arith)) (λ e. nothing (length c))
-
--- a tax line stands in the content
-tax-within : (n : ℕ) (c : List ℕ) → isTax (lineAt n c) ≡ true → n < length c
-unfolding isTax upto
-tax-within n c e = go (decLt n (length c))
+parties-order l = picked (λ vs. Ordered 0 vs (length l)) (isPartyByBik l) (go (partyAccount l)) (nothing (length l))
   where
-    go : Dec (n < length c) → n < length c
-    go (yes h) = h
-    go (no h) =
-        let k : length c ≤ n = omega arith in
-        absurd (false≢true (ap (λ (s : List ℕ). isTax (upto 13 s)) (sym (drop-of-length-le c k)) ∙ e))
+    go : (a : Text) → Ordered 0 (bothParts (partyBik l) a) (length l)
+    go [] = nothing (length l)
+    go (x ∷ a) = alone (at 0 (party (partyBik l) (x ∷ a))) (length l) (omega arith)
 
-taxes-order : (t c : List ℕ) → Ordered 0 (taxes t c) (length c)
+note-order : (l : Line) → Ordered 0 (noteDates l) (length l)
+note-order l = picked (λ vs. Ordered 0 vs (length l)) (opensRpp l) (rpp-order l) (nothing (length l))
+
+-- lines joined: the first is within them, and so is where the second begins
+first-within : (l : Line) (ls : List Line) → length l ≤ length (joined (l ∷ ls))
+first-within l [] = le-refl (length l)
+first-within l (k ∷ ls) = omega (arith, length-append l (13 ∷ 10 ∷ joined (k ∷ ls)))
+
+first-order : (f : Line → List Value) → ((l : Line) → Ordered 0 (f l) (length l)) → (ls : List Line) → Ordered 0 (ofFirst f ls) (length (joined ls))
+first-order f h [] = nothing 0
+first-order f h (l ∷ ls) = ordered-high (first-within l ls) (h l)
+
+taxes-order : (t : Text) (n e : ℕ) (ls : List Line) → n ≤ e → Ordered 0 (taxes t n ls) e
 unfolding taxes
-taxes-order t c =
-    let n : ℕ = taxPlace (same t (bytes "50K")) c in
-    picked (λ vs. Ordered 0 vs (length c)) (isTax (lineAt n c)) (λ e. alone (at n (tax t (lineAt n c))) (length c) (omega (arith, tax-within n c e))) (λ e. nothing (length c))
+taxes-order t n e [] h = nothing e
+taxes-order t n e (l ∷ ls) h = picked (λ vs. Ordered 0 vs e) (looksTax l) (alone (at n (tax t (taxInn l) (taxKpp l))) e h) (nothing e)
 
-pub values-order : (t c : List ℕ) → Ordered 0 (valuesOf t c) (length c)
-values-order t c = by-tag (λ vs. Ordered 0 vs (length c)) t c (λ _. payment-order c) (λ _. rpp-order c) (λ _. parties-order c) (taxes-order t c) (nothing (length c))
+customer-order : (t : Text) (ls : List Line) → Ordered 0 (customerTaxes t ls) (length (joined ls))
+unfolding customerTaxes taxes
+customer-order t [] = nothing 0
+customer-order t (l ∷ []) = nothing (length l)
+customer-order t (l ∷ k ∷ ls) = taxes-order t (sizeOf (l ∷ [])) (length (joined (l ∷ k ∷ ls))) (k ∷ ls) (omega (arith, length-append l (13 ∷ 10 ∷ joined (k ∷ ls))))
 
--- a content without bytes holds nothing
-no-values : (t : List ℕ) → valuesOf t [] ≡ []
-unfolding payment rpp parties bothParts taxes isTax upto
-no-values t =
-    let n : ℕ = taxPlace (same t (bytes "50K")) [] in
-    by-tag (λ vs. vs ≡ []) t [] (λ _. refl) (λ _. refl) (λ _. refl) (ap (λ (s : List ℕ). pick (isTax (upto 13 s)) (at n (tax t (upto 13 s)) ∷ []) []) (drop-nil n)) refl
+payer-order : (t : Text) (ls : List Line) → Ordered 0 (payerTaxes t ls) (length (joined ls))
+unfolding payerTaxes
+payer-order t [] = nothing 0
+payer-order t (l ∷ ls) =
+    let e : ℕ = length (joined (l ∷ ls)) in
+    picked (λ vs. Ordered 0 vs e) (begins 47 l) (customer-order t (l ∷ ls)) (taxes-order t 0 e (l ∷ ls) (omega arith))
 
-pub joined-length : (l : List ℕ) (ls : List (List ℕ)) → length (joined (l ∷ ls)) + 2 ≡ sizeOf (l ∷ ls)
-joined-length l ls = let a = length-append (joined (l ∷ ls)) (13 ∷ 10 ∷ []) in let b = ap length (laid-joined l ls) in omega (arith, laid-size (l ∷ ls))
+pub values-order : (t : Text) (content : Content) (ls : List Line) → Ordered 0 (valuesOf t content ls) (length (joined ls))
+values-order t content ls =
+    by-content (λ vs. Ordered 0 vs (length (joined ls))) t content ls (nothing (length (joined ls))) (first-order payment payment-order ls) (payer-order t ls)
+    (first-order parties parties-order ls) (customer-order t ls) (first-order rppDates rpp-order ls) (first-order noteDates note-order ls)
 
-field-order : (o : ℕ) (f : Field) → Ordered o (at o (tag (tagOf f)) ∷ map (moved (startOf o f)) (valuesOf (tagOf f) (contentOf f))) (nextOf o f)
-field-order o (field t []) =
-    let g : o ≤ nextOf o (field t []) = omega arith in
-    next (le-refl o) (subst (λ (vs : List Value). Ordered o (map (moved (o + 2 + length t)) vs) (nextOf o (field t []))) (sym (no-values t)) (none g))
-field-order o (field t (l ∷ ls)) =
-    let s : ℕ = o + 2 + length t in
-    let c = joined (l ∷ ls) in
-    let h = length-append t (58 ∷ l) in
-    let g : o ≤ s + 0 = omega arith in
-    let k : s + length c ≤ nextOf o (field t (l ∷ ls)) = omega (arith, joined-length l ls) in
-    next (le-refl o) (ordered-low g (ordered-high k (ordered-moved s (values-order t c))))
+-- a content without lines has none
+no-values : (t : Text) (content : Content) → valuesOf t content [] ≡ []
+unfolding payerTaxes customerTaxes
+no-values t content = by-content (λ vs. vs ≡ []) t content [] refl refl refl refl refl refl refl
 
--- the values of a message come in the order of their places
-pub in-order : (o : ℕ) (fs : List Field) → Ordered o (valuesIn o fs) (after o fs)
-in-order o [] = none (le-refl o)
-in-order o (f ∷ fs) = ordered-append (field-order o f) (in-order (nextOf o f) fs)
+module _ (form : Form) where
+  field-order : (o : ℕ) (t : Text) (ls : List Line) → Ordered o (at o (tag t) ∷ map (moved (startOf o (field t ls))) (valuesOf t (heldBy form t) ls)) (nextOf o (field t ls))
+  field-order o t [] =
+      let g : o ≤ nextOf o (field t []) = omega arith in
+      next (le-refl o) (subst (λ (vs : List Value). Ordered o (map (moved (o + 2 + length t)) vs) (nextOf o (field t []))) (sym (no-values t (heldBy form t))) (none g))
+  field-order o t (l ∷ ls) =
+      let s : ℕ = o + 2 + length t in
+      let c = joined (l ∷ ls) in
+      let h = length-append t (58 ∷ l) in
+      let g : o ≤ s + 0 = omega arith in
+      let k : s + length c ≤ nextOf o (field t (l ∷ ls)) = omega (arith, joined-length l ls) in
+      next (le-refl o) (ordered-low g (ordered-high k (ordered-moved s (values-order t (heldBy form t) (l ∷ ls)))))
+
+  -- the values of a message come in the order of their places
+  pub in-order : (o : ℕ) (fs : List Field) → Ordered o (valuesIn form o fs) (after o fs)
+  in-order o [] = none (le-refl o)
+  in-order o (field t ls ∷ fs) = ordered-append (field-order o t ls) (in-order (nextOf o (field t ls)) fs)
+
+-- ---- every value is of a form of which something holds
+abbrev pub Every : (Kind → Type 0) → List Value → Type 0
+Every P [] = Unit {0}
+Every P (v ∷ vs) = P (kindOf v) × Every P vs
+
+module _ (P : Kind → Type 0) where
+  pub every-first : (f : Line → List Value) → ((l : Line) → Every P (f l)) → (ls : List Line) → Every P (ofFirst f ls)
+  every-first f h [] = tt
+  every-first f h (l ∷ ls) = h l
+
+  every-paid : ((s : Text) → P (date s)) → ((s : Text) → P (currency s)) → (l : Line) → Every P (payment l)
+  unfolding payment
+  every-paid d c l = (d (paidDate l), (c (paidCurrency l), tt))
+
+  pub every-rpp : ((s : Text) → P (date s)) → (l : Line) → Every P (rppDates l)
+  unfolding rppDates
+  every-rpp d l = (d (rppDate l), go (rppValue l))
+    where
+      go : (s : Text) → Every P (dateIfAny (rppValueAt l) s)
+      go [] = tt
+      go (x ∷ s) = (d (x ∷ s), tt)
+
+  every-note : ((s : Text) → P (date s)) → (l : Line) → Every P (noteDates l)
+  every-note d l = picked (Every P) (opensRpp l) (every-rpp d l) tt
+
+  pub every-party : ((b a : Text) → P (party b a)) → (l : Line) → Every P (parties l)
+  unfolding parties
+  every-party p l = picked (Every P) (isPartyByBik l) (go (partyAccount l)) tt
+    where
+      go : (a : Text) → Every P (bothParts (partyBik l) a)
+      go [] = tt
+      go (x ∷ a) = (p (partyBik l) (x ∷ a), tt)
+
+  every-tax : (t : Text) → ((i k : Text) → P (tax t i k)) → (n : ℕ) (ls : List Line) → Every P (taxes t n ls)
+  unfolding taxes
+  every-tax t x n [] = tt
+  every-tax t x n (l ∷ ls) = picked (Every P) (looksTax l) (x (taxInn l) (taxKpp l), tt) tt
+
+  every-customer : (t : Text) → ((i k : Text) → P (tax t i k)) → (ls : List Line) → Every P (customerTaxes t ls)
+  unfolding customerTaxes
+  every-customer t x [] = tt
+  every-customer t x (l ∷ ls) = every-tax t x (sizeOf (l ∷ [])) ls
+
+  every-payer : (t : Text) → ((i k : Text) → P (tax t i k)) → (ls : List Line) → Every P (payerTaxes t ls)
+  unfolding payerTaxes
+  every-payer t x [] = tt
+  every-payer t x (l ∷ ls) = picked (Every P) (begins 47 l) (every-customer t x (l ∷ ls)) (every-tax t x 0 (l ∷ ls))
+
+  -- no content has a tag; a tax line is with its field's
+  pub every-value : (t : Text) → ((s : Text) → P (date s)) → ((s : Text) → P (currency s)) → ((b a : Text) → P (party b a)) → ((i k : Text) → P (tax t i k))
+      → (content : Content) (ls : List Line) → Every P (valuesOf t content ls)
+  every-value t d c p x content ls =
+      by-content (Every P) t content ls tt (every-first payment (every-paid d c) ls) (every-payer t x ls) (every-first parties (every-party p) ls) (every-customer t x ls)
+      (every-first rppDates (every-rpp d) ls) (every-first noteDates (every-note d) ls)

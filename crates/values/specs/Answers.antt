@@ -1,32 +1,35 @@
 -- What the functions answer that look at the content of one field (K3). Assumes nothing.
 use Prim.Native.Nat.{ℕ, zero, suc, _+_}
-use mathlib.Core.Bool.{Bool, _&&_}
+use mathlib.Core.Path.{_≡_}
+use mathlib.Core.Bool.{Bool}
 use mathlib.Core.List.{List, [], _∷_}
-use lib.Dec.{leb}
-use lib.ListN.{length, drop}
 use Rattle.base.specs.Choice.{pick}
+use Rattle.base.specs.Says.{Not}
 use Rattle.base.specs.declared.Verdict.{Verdict}
 use Rattle.base.specs.declared.Verdict.the-variants.{Fine, Broken}
-use Rattle.values.specs.Day.{realDay, dated}
+use Rattle.contents.specs.declared.Content.{Content}
+use Rattle.contents.specs.Words.{Text, Line}
+use Rattle.contents.specs.Fields.{Right}
+use Rattle.contents.specs.Tests.{isPayment}
+use Rattle.contents.specs.Parts.{paidDate, paidWhole, paidDecimals}
+use Rattle.values.specs.Day.{dated}
 use Rattle.values.specs.Money.{kopecks}
-use Rattle.values.specs.Values.{Kind, Value, placeOf, kindOf, part, lineAt, taxPlace, isTax, withKpp}
+use Rattle.values.specs.Values.{Kind, Value, placeOf, kindOf, valuesOf}
+use Rattle.values.specs.Judged.{noDay, foreign, apart, hasKpp, has}
+use Rattle.values.specs.declared.Finds.{Finds}
+use Rattle.values.specs.declared.Found.{Found}
+use Rattle.values.specs.declared.Found.the-variants.{Wrong, Has}
 
--- six bytes from i on are a day
-unfoldable pub dayAt : List ℕ → ℕ → Bool
-dayAt c i = leb (i + 6) (length c) && realDay (part i 6 c)
+-- ---- of a content of 32A; 0 for any other
+-- its date as one number
+unfoldable pub dateOf : Line → ℕ
+dateOf l = pick (isPayment l) (dated (paidDate l)) 0
 
--- the date of 32A as one number; 0 where there is none
-unfoldable pub dateOf : List ℕ → ℕ
-dateOf c = pick (leb 6 (length c)) (dated (part 0 6 c)) 0
+-- its amount in kopecks
+unfoldable pub kopecksOf : Line → ℕ
+kopecksOf l = pick (isPayment l) (kopecks (paidWhole l) (paidDecimals l)) 0
 
--- the kopecks of 32A, whose amount has at most 15 bytes; 0 where it has more
-unfoldable pub kopecksOf : List ℕ → ℕ
-kopecksOf c = pick (leb (length c) 24) (kopecks (drop 9 c)) 0
-
--- a tax line with a KPP stands in the tax place
-unfoldable pub kppOf : Bool → List ℕ → Bool
-kppOf payer c = isTax (lineAt (taxPlace payer c) c) && withKpp (lineAt (taxPlace payer c) c)
-
+-- ---- of any content
 -- one more than the place of the first value that fails, 0 where none does
 unfoldable pub faultOf : (Kind → Bool) → List Value → ℕ
 faultOf bad [] = 0
@@ -36,3 +39,14 @@ faultOf bad (v ∷ vs) = pick (bad (kindOf v)) (suc (placeOf v)) (faultOf bad vs
 abbrev pub answered : ℕ → ℕ → ℕ → Verdict
 answered number s zero = Fine
 answered number s (suc k) = Broken number (s + k)
+
+-- what 9, 10, 12 and 13 ask of a right content, whatever its tag
+pub record Finding (content : Content) (ls : List Line) (f : Finds) : Type 0 where
+  pub day-is : (t : Text) → f .day ≡ faultOf noDay (valuesOf t content ls)
+  pub currency-is : (t : Text) → f .currency ≡ faultOf foreign (valuesOf t content ls)
+  pub party-is : (t : Text) → f .party ≡ faultOf apart (valuesOf t content ls)
+  pub kpp-is : (t : Text) → f .kpp ≡ has hasKpp (valuesOf t content ls)
+
+abbrev pub FoundIn : Content → Bool → List Line → Found → Type 0
+FoundIn content sign ls Wrong = Not (Right content sign ls)
+FoundIn content sign ls (Has f) = Right content sign ls × Finding content ls f

@@ -5,6 +5,7 @@ use Prim.Native.String.{String}
 use mathlib.Core.Path.{_≡_}
 use mathlib.Core.Bool.{true, false}
 use mathlib.Core.List.{List, [], _∷_, _++_}
+use Rattle.types.specs.Form.{formOf}
 use Rattle.base.specs.Quoted.{bytes}
 use Rattle.base.specs.Rules.{first}
 use Rattle.base.specs.declared.Verdict.{Verdict}
@@ -12,7 +13,7 @@ use Rattle.base.specs.declared.Verdict.the-variants.{Fine, Broken}
 use Rattle.fields.specs.Field.{Field}
 use Rattle.fields.specs.Cases.{of}
 use Rattle.values.specs.Day.{daysIn, realDay, dated}
-use Rattle.values.specs.Money.{kopecks}
+use Rattle.values.specs.Answers.{kopecksOf}
 use Rattle.values.specs.Judged.{rule9, rule10, rule11, rule12, rule13}
 
 pub data Case : Type 0 where
@@ -21,22 +22,22 @@ pub data Case : Type 0 where
   isNone : String → Case
   -- a month of a year has so many days
   hasDays : ℕ → ℕ → ℕ → Case
-  -- an amount is so many kopecks
+  -- an amount, in a line of 32A, is so many kopecks
   comesTo : String → ℕ → Case
-  -- 9 to 13 let these fields pass, or the first that does not is this number at this place
-  passes : List Field → Case
-  refused : List Field → ℕ → ℕ → Case
+  -- 9 to 13 let these fields of a message of this type pass, or the first that does not is this number at this place
+  passes : ℕ → List Field → Case
+  refused : ℕ → List Field → ℕ → ℕ → Case
 
-abbrev pub judged : List Field → Verdict
-judged fs = first (rule9 fs ∷ rule10 fs ∷ rule11 fs ∷ rule12 fs ∷ rule13 fs ∷ [])
+abbrev pub judged : ℕ → List Field → Verdict
+judged kind fs = first (rule9 (formOf kind) fs ∷ rule10 (formOf kind) fs ∷ rule11 (formOf kind) fs ∷ rule12 (formOf kind) fs ∷ rule13 (formOf kind) fs ∷ [])
 
 abbrev pub Holds : Case → Type 0
 Holds (isDated s n) = (realDay (bytes s) ≡ true) × (dated (bytes s) ≡ n)
 Holds (isNone s) = realDay (bytes s) ≡ false
 Holds (hasDays y m n) = daysIn y m ≡ n
-Holds (comesTo s n) = kopecks (bytes s) ≡ n
-Holds (passes fs) = judged fs ≡ Fine
-Holds (refused fs n p) = judged fs ≡ Broken n p
+Holds (comesTo s n) = kopecksOf (bytes "240229RUB" ++ bytes s) ≡ n
+Holds (passes kind fs) = judged kind fs ≡ Fine
+Holds (refused kind fs n p) = judged kind fs ≡ Broken n p
 
 -- ---- messages
 -- a field of one line
@@ -91,39 +92,41 @@ cases =
     ∷ comesTo "007,89" 789
     ∷ comesTo "999999999999,99" 99999999999999
     -- all that 26T asks for, in 50K without an account too
-    ∷ passes budget
-    ∷ passes (one "26T" "S01" ++ of "50K" (kpp ∷ "NORD" ∷ []) ∷ payee kpp ++ one "77B" "/X")
+    ∷ passes 103 budget
+    ∷ passes 103 (one "26T" "S01" ++ of "50K" (kpp ∷ "NORD" ∷ []) ∷ payee kpp ++ one "77B" "/X")
     -- 9: in 32A, at the content's start
-    ∷ refused (one "20" "A17" ++ one "32A" "230229RUB1500,5") 9 19
+    ∷ refused 103 (one "20" "A17" ++ one "32A" "230229RUB1500,5") 9 19
     -- in an RPP line, the first date and the second
-    ∷ passes (one "72" "/RPP/7.240229.5.ELEK")
-    ∷ passes (one "72" "/RPP/123.240229.5.ELEK.240301")
-    ∷ refused (one "72" "/RPP/7.240230.5.ELEK") 9 16
-    ∷ refused (one "72" "/RPP/123.240229.5.ELEK.240431") 9 32
-    ∷ refused (one "72" "/RPP/123.240001.5.ELEK.240431") 9 18
+    ∷ passes 103 (one "72" "/RPP/7.240229.5.ELEK")
+    ∷ passes 103 (one "72" "/RPP/123.240229.5.ELEK.240301")
+    ∷ refused 103 (one "72" "/RPP/7.240230.5.ELEK") 9 16
+    ∷ refused 103 (one "72" "/RPP/123.240229.5.ELEK.240431") 9 32
+    ∷ refused 103 (one "72" "/RPP/123.240001.5.ELEK.240431") 9 18
     -- and so in 202, where details follow
-    ∷ passes (of "72" ("/RPP/7.240229.5.ELEK" ∷ "/NZP/(VO10100)OPLATA" ∷ "//DOGOVOR" ∷ []) ∷ [])
-    ∷ passes (of "72" ("/NZP/(VO10100).240230" ∷ []) ∷ [])
-    ∷ refused (of "72" ("/RPP/7.240230.5.ELEK" ∷ "/NZP/(VO10100)OPLATA" ∷ []) ∷ []) 9 16
-    ∷ refused (of "72" ("/RPP/7.240229.5.ELEK.240431" ∷ "/NZP/(VO10100)OPLATA" ∷ []) ∷ []) 9 30
+    ∷ passes 202 (of "72" ("/RPP/7.240229.5.ELEK" ∷ "/NZP/(VO10100)OPLATA" ∷ "//DOGOVOR" ∷ []) ∷ [])
+    ∷ passes 202 (of "72" ("/NZP/(VO10100).240230" ∷ []) ∷ [])
+    ∷ refused 202 (of "72" ("/RPP/7.240230.5.ELEK" ∷ "/NZP/(VO10100)OPLATA" ∷ []) ∷ []) 9 16
+    ∷ refused 202 (of "72" ("/RPP/7.240229.5.ELEK.240431" ∷ "/NZP/(VO10100)OPLATA" ∷ []) ∷ []) 9 30
     -- 10: behind the date, and after 9
-    ∷ refused (one "20" "A17" ++ one "32A" "240229USD1500,5") 10 25
-    ∷ refused (one "32A" "240229USD1," ++ one "72" "/RPP/7.240230.5.ELEK") 9 34
+    ∷ refused 103 (one "20" "A17" ++ one "32A" "240229USD1500,5") 10 25
+    ∷ refused 103 (one "32A" "240229USD1," ++ one "72" "/RPP/7.240230.5.ELEK") 9 34
     -- 11: at the 56
-    ∷ refused (paid ++ bank "56A" "/30101810400000000225") 11 27
-    ∷ refused (paid ++ bank "56D" "/30101810400000000225") 11 27
-    ∷ passes (paid ++ bank "56D" "/30101810400000000225" ++ bank "57A" "//RU044525225")
+    ∷ refused 103 (paid ++ bank "56A" "/30101810400000000225") 11 27
+    ∷ refused 103 (paid ++ bank "56D" "/30101810400000000225") 11 27
+    ∷ passes 103 (paid ++ bank "56D" "/30101810400000000225" ++ bank "57A" "//RU044525225")
     -- 12: each of the last three digits, in each field that has a party line
-    ∷ refused (paid ++ bank "52A" "//RU044525225.30101810400000000226") 12 32
-    ∷ refused (paid ++ bank "57D" "//RU044525225.30101810400000000235") 12 32
-    ∷ refused (paid ++ bank "56A" "//RU044525225.30101810400000000125" ++ bank "57A" "SABRRUMM") 12 32
-    ∷ passes (paid ++ bank "57A" "//RU044525225.30101810400000001225")
+    ∷ refused 103 (paid ++ bank "52A" "//RU044525225.30101810400000000226") 12 32
+    ∷ refused 103 (paid ++ bank "57D" "//RU044525225.30101810400000000235") 12 32
+    ∷ refused 103 (paid ++ bank "56A" "//RU044525225.30101810400000000125" ++ bank "57A" "SABRRUMM") 12 32
+    ∷ passes 103 (paid ++ bank "57A" "//RU044525225.30101810400000001225")
     -- 13: at 26T where there is one, else at 77B
-    ∷ refused (one "26T" "S01" ++ payer kpp ++ payee kpp) 13 5
-    ∷ refused (paid ++ one "26T" "S01" ++ payer "INN7707083893" ++ payee kpp ++ one "77B" "/X") 13 27
-    ∷ refused (paid ++ one "26T" "S01" ++ payer kpp ++ payee "INN7707083893" ++ one "77B" "/X") 13 27
-    ∷ refused (one "26T" "S01" ++ payer kpp ++ payee "KPP770701001" ++ one "77B" "/X") 13 5
-    ∷ refused (paid ++ payer kpp ++ payee kpp ++ one "77B" "/X") 13 139
+    ∷ refused 103 (one "26T" "S01" ++ payer kpp ++ payee kpp) 13 5
+    ∷ refused 103 (paid ++ one "26T" "S01" ++ payer "INN7707083893" ++ payee kpp ++ one "77B" "/X") 13 27
+    ∷ refused 103 (paid ++ one "26T" "S01" ++ payer kpp ++ payee "INN7707083893" ++ one "77B" "/X") 13 27
+    ∷ refused 103 (one "26T" "S01" ++ payer kpp ++ payee "KPP770701001" ++ one "77B" "/X") 13 5
+    ∷ refused 103 (paid ++ payer kpp ++ payee kpp ++ one "77B" "/X") 13 139
     -- a tax line in another place is a name
-    ∷ refused (one "26T" "S01" ++ of "50K" ("/40702" ∷ "NORD" ∷ kpp ∷ []) ∷ payee kpp ++ one "77B" "/X") 13 5
+    ∷ refused 103 (one "26T" "S01" ++ of "50K" ("/40702" ∷ "NORD" ∷ kpp ∷ []) ∷ payee kpp ++ one "77B" "/X") 13 5
+    -- a tag that the type has not holds nothing
+    ∷ refused 202 (one "26T" "S01" ++ payer kpp ++ payee kpp ++ one "77B" "/X") 13 5
     ∷ []

@@ -1,16 +1,19 @@
 -- The rules 9 to 13: each is a test of a message's values, and is broken at the first value that fails it (N9-N13). Assumes nothing.
-use Prim.Native.Nat.{ℕ}
+use Prim.Native.Nat.{ℕ, _-_}
 use mathlib.Core.Bool.{Bool, false, not, _&&_, _||_}
 use mathlib.Core.List.{List, [], _∷_}
+use lib.ListN.{length, drop}
 use Rattle.base.specs.Choice.{pick}
-use Rattle.base.specs.Bytes.{same}
+use Rattle.base.specs.Bytes.{same, empty}
 use Rattle.base.specs.Quoted.{bytes}
 use Rattle.base.specs.declared.Verdict.{Verdict}
 use Rattle.base.specs.declared.Verdict.the-variants.{Fine, Broken}
 use Rattle.fields.specs.Field.{Field}
+use Rattle.types.specs.declared.Form.{Form}
 use Rattle.types.specs.Walk.{among}
+use Rattle.contents.specs.Words.{Text}
 use Rattle.values.specs.Day.{realDay}
-use Rattle.values.specs.Values.{Kind, tag, date, money, party, tax, Value, placeOf, kindOf, withKpp, valuesIn}
+use Rattle.values.specs.Values.{Kind, tag, date, currency, party, tax, Value, placeOf, kindOf, valuesIn}
 
 -- the first value that fails
 unfoldable pub firstBad : ℕ → (Kind → Bool) → List Value → Verdict
@@ -27,41 +30,52 @@ has t (v ∷ vs) = t (kindOf v) || has t vs
 abbrev pub noDay : Kind → Bool
 noDay (date s) = not (realDay s)
 noDay (tag t) = false
-noDay (money c a) = false
-noDay (party b a) = false
-noDay (tax t l) = false
+noDay (currency c) = false
+noDay (party bik account) = false
+noDay (tax t inn kpp) = false
 
 -- 10: a currency that is not the rouble
 abbrev pub foreign : Kind → Bool
-foreign (money c a) = not (same c (bytes "RUB"))
+foreign (currency c) = not (same c (bytes "RUB"))
 foreign (tag t) = false
 foreign (date s) = false
-foreign (party b a) = false
-foreign (tax t l) = false
+foreign (party bik account) = false
+foreign (tax t inn kpp) = false
 
 -- 12: a BIK and an account whose last three digits differ
+abbrev pub lastThree : Text → Text
+lastThree s = drop (length s - 3) s
+
 abbrev pub apart : Kind → Bool
-apart (party b a) = not (same b a)
+apart (party bik account) = not (same (lastThree bik) (lastThree account))
 apart (tag t) = false
 apart (date s) = false
-apart (money c a) = false
-apart (tax t l) = false
+apart (currency c) = false
+apart (tax t inn kpp) = false
 
 -- a field with one of these tags
 abbrev pub tagged : List (List ℕ) → Kind → Bool
 tagged ts (tag t) = among t ts
 tagged ts (date s) = false
-tagged ts (money c a) = false
-tagged ts (party b a) = false
-tagged ts (tax t l) = false
+tagged ts (currency c) = false
+tagged ts (party bik account) = false
+tagged ts (tax t inn kpp) = false
 
--- a tax line with a KPP, in a field with this tag
+-- a tax line with a KPP
+abbrev pub hasKpp : Kind → Bool
+hasKpp (tax t inn kpp) = not (empty kpp)
+hasKpp (tag t) = false
+hasKpp (date s) = false
+hasKpp (currency c) = false
+hasKpp (party bik account) = false
+
+-- the same, in a field with this tag
 abbrev pub kppIn : List ℕ → Kind → Bool
-kppIn u (tax t l) = same t u && withKpp l
+kppIn u (tax t inn kpp) = same t u && not (empty kpp)
 kppIn u (tag t) = false
 kppIn u (date s) = false
-kppIn u (money c a) = false
-kppIn u (party b a) = false
+kppIn u (currency c) = false
+kppIn u (party bik account) = false
 
 -- ---- tests of a value among the others
 abbrev pub tags56 : List (List ℕ)
@@ -94,17 +108,17 @@ abbrev pub taxBroken : List Value → Kind → Bool
 taxBroken vs k = (is26T k && not (taxWhole vs)) || (is77B k && not (has is26T vs))
 
 -- ---- the rules, over the fields of a message
-unfoldable pub rule9 : List Field → Verdict
-rule9 fs = firstBad 9 noDay (valuesIn 5 fs)
+unfoldable pub rule9 : Form → List Field → Verdict
+rule9 form fs = firstBad 9 noDay (valuesIn form 5 fs)
 
-unfoldable pub rule10 : List Field → Verdict
-rule10 fs = firstBad 10 foreign (valuesIn 5 fs)
+unfoldable pub rule10 : Form → List Field → Verdict
+rule10 form fs = firstBad 10 foreign (valuesIn form 5 fs)
 
-unfoldable pub rule11 : List Field → Verdict
-rule11 fs = firstBad 11 (without57 (valuesIn 5 fs)) (valuesIn 5 fs)
+unfoldable pub rule11 : Form → List Field → Verdict
+rule11 form fs = firstBad 11 (without57 (valuesIn form 5 fs)) (valuesIn form 5 fs)
 
-unfoldable pub rule12 : List Field → Verdict
-rule12 fs = firstBad 12 apart (valuesIn 5 fs)
+unfoldable pub rule12 : Form → List Field → Verdict
+rule12 form fs = firstBad 12 apart (valuesIn form 5 fs)
 
-unfoldable pub rule13 : List Field → Verdict
-rule13 fs = firstBad 13 (taxBroken (valuesIn 5 fs)) (valuesIn 5 fs)
+unfoldable pub rule13 : Form → List Field → Verdict
+rule13 form fs = firstBad 13 (taxBroken (valuesIn form 5 fs)) (valuesIn form 5 fs)

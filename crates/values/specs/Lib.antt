@@ -5,5 +5,5 @@ pub mod Values
 pub mod Judged
 pub mod Sentences
 pub mod Answers
-pub mod Parts
+pub mod Steps
 pub mod Cases

@@ -1,15 +1,15 @@
 -- An amount in kopecks (Camount). Assumes nothing.
 use Prim.Native.Nat.{ℕ, _+_, _*_}
-use mathlib.Core.List.{List, [], _∷_}
-use Rattle.fields.specs.Field.{upto, past}
+use mathlib.Core.List.{[], _∷_}
+use Rattle.contents.specs.Words.{Text}
 use Rattle.values.specs.Number.{worth, number}
 
--- behind the comma: the first digit is tens of kopecks, the second kopecks
-abbrev pub decimals : List ℕ → ℕ
-decimals [] = 0
-decimals (x ∷ []) = worth x * 10
-decimals (x ∷ y ∷ r) = worth x * 10 + worth y
+-- the first of the decimals is tens of kopecks, the second kopecks
+abbrev pub fraction : Text → ℕ
+fraction [] = 0
+fraction (x ∷ []) = worth x * 10
+fraction (x ∷ y ∷ r) = worth x * 10 + worth y
 
 -- the digits before the comma are roubles
-unfoldable pub kopecks : List ℕ → ℕ
-kopecks a = number (upto 44 a) * 100 + decimals (past 44 a)
+unfoldable pub kopecks : Text → Text → ℕ
+kopecks whole decimals = number whole * 100 + fraction decimals

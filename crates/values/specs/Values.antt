@@ -1,29 +1,31 @@
--- The values in a message's fields, each with its place: dates, amounts, party lines, tax lines, and the fields themselves (C32A, Cparty, Ctax,
--- Crpp). The contents are right by 8 when these are asked for; for any others the definitions say something too. Assumes nothing.
-use Prim.Native.Nat.{ℕ, suc, _+_}
-use mathlib.Core.Bool.{Bool, true, not, _&&_}
+-- The values in a message's fields, each with its place: dates, currencies, party lines, tax lines, and the fields themselves, from what a field
+-- holds and from the parts of its lines (C32A, Cparty, Ctax, Crpp). The contents are right by 8 when these are asked for; for any others the
+-- definitions say something too. Assumes nothing.
+use Prim.Native.Nat.{ℕ, _+_}
 use mathlib.Core.List.{List, [], _∷_, _++_, map}
-use lib.Dec.{eqb, leb}
-use lib.ListN.{length, take, drop}
+use Rattle.types.specs.declared.Form.{Form}
 use Rattle.base.specs.Choice.{pick}
-use Rattle.base.specs.Bytes.{byte, begins, digit, same}
-use Rattle.base.specs.Quoted.{bytes}
-use Rattle.fields.specs.Field.{Field, field, tagOf, upto}
-use Rattle.fields.specs.Places.{startOf, nextOf}
-use Rattle.fields.specs.ByLines.{joined}
-use Rattle.types.specs.Walk.{among}
+use Rattle.base.specs.Bytes.{begins}
+use Rattle.fields.specs.Field.{Field, field}
+use Rattle.fields.specs.Places.{sizeOf, startOf, nextOf}
+use Rattle.contents.specs.declared.Content.{Content}
+use Rattle.contents.specs.declared.Content.the-variants as holds
+use Rattle.contents.specs.Words.{Text, Line}
+use Rattle.contents.specs.Tests.{isPartyByBik, looksTax}
+use Rattle.contents.specs.Parts.{paidDate, paidCurrency, currencyAt, partyBik, partyAccount, taxInn, taxKpp, opensRpp, rppDate, rppDateAt, rppValue, rppValueAt}
+use Rattle.contents.specs.Tags.{heldBy}
 
 pub data Kind : Type 0 where
   -- a field, by its tag: it stands at its colon
-  tag : List ℕ → Kind
+  tag : Text → Kind
   -- a date of six digits
-  date : List ℕ → Kind
-  -- a currency, where the value stands, and an amount
-  money : List ℕ → List ℕ → Kind
-  -- a party line with both parts, at the content's start: the last three digits of the BIK, and of the account
-  party : List ℕ → List ℕ → Kind
-  -- a tax line, with the tag of its field
-  tax : List ℕ → List ℕ → Kind
+  date : Text → Kind
+  -- a currency
+  currency : Text → Kind
+  -- a party line with a BIK and an account
+  party : Text → Text → Kind
+  -- a tax line, with the tag of its field: its INN, its KPP
+  tax : Text → Text → Text → Kind
 
 -- a value stands at the place of its first byte
 pub data Value : Type 0 where
@@ -39,98 +41,75 @@ kindOf (at p k) = k
 abbrev pub moved : ℕ → Value → Value
 moved n (at p k) = at (n + p) k
 
--- ---- texts
--- the word stands in the text from i on
-abbrev pub stands : List ℕ → ℕ → List ℕ → Bool
-stands [] i s = true
-stands (x ∷ w) i s = eqb (byte s i) x && stands w (suc i) s
+-- ---- what a line has, by places counted from its start
+-- 32A: a date, a currency
+unfoldable pub payment : Line → List Value
+payment l = at 0 (date (paidDate l)) ∷ at (currencyAt l) (currency (paidCurrency l)) ∷ []
 
-abbrev pub starts : List ℕ → List ℕ → Bool
-starts w s = stands w 0 s
+-- a date, where there is one
+abbrev pub dateIfAny : ℕ → Text → List Value
+dateIfAny p [] = []
+dateIfAny p (x ∷ s) = at p (date (x ∷ s)) ∷ []
 
--- three letters and a digit stand at the front
-abbrev pub numbered : List ℕ → List ℕ → Bool
-numbered w s = starts w s && digit (byte s 3)
+-- an RPP line: its date, and perhaps a value date
+unfoldable pub rppDates : Line → List Value
+rppDates l = at (rppDateAt l) (date (rppDate l)) ∷ dateIfAny (rppValueAt l) (rppValue l)
 
--- n bytes of the text from i on
-abbrev pub part : ℕ → ℕ → List ℕ → List ℕ
-part i n s = take n (drop i s)
+-- a party line by BIK, where it has an account too
+abbrev pub bothParts : Text → Text → List Value
+bothParts bik [] = []
+bothParts bik (x ∷ s) = at 0 (party bik (x ∷ s)) ∷ []
 
--- the line that begins at i
-abbrev pub lineAt : ℕ → List ℕ → List ℕ
-lineAt i s = upto 13 (drop i s)
+unfoldable pub parties : Line → List Value
+parties l = pick (isPartyByBik l) (bothParts (partyBik l) (partyAccount l)) []
 
-unfoldable pub behindDigits : List ℕ → List ℕ
-behindDigits [] = []
-behindDigits (x ∷ xs) = pick (digit x) (behindDigits xs) (x ∷ xs)
+-- ---- what the lines of a field have, by places counted from the content's start
+abbrev pub ofFirst : (Line → List Value) → List Line → List Value
+ofFirst f [] = []
+ofFirst f (l ∷ ls) = f l
 
--- ---- what a content holds, by places counted from its start
--- 32A: the date, three capitals, the amount
-unfoldable pub payment : List ℕ → List Value
-payment c = pick (leb 9 (length c)) (at 0 (date (part 0 6 c)) ∷ at 6 (money (part 6 3 c) (drop 9 c)) ∷ []) []
+-- the first of these lines, which stand from n on, is the tax place of a field with this tag: it is a tax line if it begins INN and a digit
+unfoldable pub taxes : Text → ℕ → List Line → List Value
+taxes t n [] = []
+taxes t n (l ∷ ls) = pick (looksTax l) (at n (tax t (taxInn l) (taxKpp l)) ∷ []) []
 
--- in an RPP line, the point behind the number
-unfoldable pub pointIn : List ℕ → ℕ
-pointIn c = 5 + length (upto 46 (drop 5 c))
+-- beside an account, which is the first line
+unfoldable pub customerTaxes : Text → List Line → List Value
+customerTaxes t [] = []
+customerTaxes t (l ∷ ls) = taxes t (sizeOf (l ∷ [])) ls
 
--- a date at i, where the test holds
-abbrev pub dateAt : Bool → ℕ → List ℕ → List Value
-dateAt b i c = pick b (at i (date (part i 6 c)) ∷ []) []
+-- 50K: there is an account exactly if the first line begins with /
+unfoldable pub payerTaxes : Text → List Line → List Value
+payerTaxes t [] = []
+payerTaxes t (l ∷ ls) = pick (begins 47 l) (customerTaxes t (l ∷ ls)) (taxes t 0 (l ∷ ls))
 
--- behind that point, at p, a date; and perhaps another behind the third point from there
-unfoldable pub datesBehind : ℕ → List ℕ → List Value
-datesBehind p c = dateAt (leb (p + 7) (length c)) (p + 1) c ++ dateAt (leb (p + 21) (length c) && eqb (byte c (p + 14)) 46) (p + 15) c
+-- 72 in 202: where there is an RPP line, it comes first
+abbrev pub noteDates : Line → List Value
+noteDates l = pick (opensRpp l) (rppDates l) []
 
--- an RPP line, or a content that begins with one
-abbrev pub isRpp : List ℕ → Bool
-isRpp l = starts (bytes "/RPP/") l
-
--- 72: where there is an RPP line, it comes first
-unfoldable pub rpp : List ℕ → List Value
-rpp c = pick (isRpp c) (datesBehind (pointIn c) c) []
-
--- a party line with both parts: //RU, nine digits, a point and 20 digits
-unfoldable pub bothParts : List ℕ → Bool
-bothParts c = leb 34 (length c) && (starts (bytes "//RU") c && eqb (byte c 13) 46)
-
-unfoldable pub parties : List ℕ → List Value
-parties c = pick (bothParts c) (at 0 (party (part 10 3 c) (part 31 3 c)) ∷ []) []
-
--- the tax place is the second line; in 50K it is the first where that does not begin with /
-unfoldable pub taxPlace : Bool → List ℕ → ℕ
-taxPlace payer c = pick (payer && not (begins 47 c)) 0 (length (upto 13 c) + 2)
-
--- the line there is a tax line if it begins INN and a digit
-unfoldable pub isTax : List ℕ → Bool
-isTax l = numbered (bytes "INN") l
-
--- it has a KPP if .KPP stands behind its digits
-unfoldable pub withKpp : List ℕ → Bool
-withKpp l = starts (bytes ".KPP") (behindDigits (drop 3 l))
-
-unfoldable pub taxes : List ℕ → List ℕ → List Value
-taxes t c =
-    let n : ℕ = taxPlace (same t (bytes "50K")) c in
-    pick (isTax (lineAt n c)) (at n (tax t (lineAt n c)) ∷ []) []
-
-abbrev pub partyTags : List (List ℕ)
-partyTags = bytes "52A" ∷ bytes "56A" ∷ bytes "56D" ∷ bytes "57A" ∷ bytes "57D" ∷ []
-
-abbrev pub taxTags : List (List ℕ)
-taxTags = bytes "50K" ∷ bytes "59" ∷ bytes "58D" ∷ []
-
--- by the field's tag
-unfoldable pub valuesOf : List ℕ → List ℕ → List Value
-valuesOf t c =
-    pick (same t (bytes "32A")) (payment c)
-    (pick (same t (bytes "72")) (rpp c)
-    (pick (among t partyTags) (parties c)
-    (pick (among t taxTags) (taxes t c) [])))
+-- by the field's tag and what it holds
+unfoldable pub valuesOf : Text → Content → List Line → List Value
+valuesOf t holds.Unknown ls = []
+valuesOf t holds.Reference ls = []
+valuesOf t holds.Related ls = []
+valuesOf t holds.Operation ls = []
+valuesOf t holds.Purpose ls = []
+valuesOf t holds.Payment ls = ofFirst payment ls
+valuesOf t holds.Payer ls = payerTaxes t ls
+valuesOf t holds.BankByBic ls = ofFirst parties ls
+valuesOf t holds.BankByName ls = ofFirst parties ls
+valuesOf t holds.OwnAccount ls = []
+valuesOf t holds.AccountAndBic ls = []
+valuesOf t holds.BeneficiaryBank ls = customerTaxes t ls
+valuesOf t holds.Beneficiary ls = customerTaxes t ls
+valuesOf t holds.Details ls = []
+valuesOf t holds.Charges ls = []
+valuesOf t holds.Document ls = ofFirst rppDates ls
+valuesOf t holds.DocumentAndDetails ls = ofFirst noteDates ls
+valuesOf t holds.Regulatory ls = []
 
 -- ---- fields one behind another, the first colon at o
-abbrev pub contentOf : Field → List ℕ
-contentOf (field t ls) = joined ls
-
-abbrev pub valuesIn : ℕ → List Field → List Value
-valuesIn o [] = []
-valuesIn o (f ∷ fs) = at o (tag (tagOf f)) ∷ (map (moved (startOf o f)) (valuesOf (tagOf f) (contentOf f)) ++ valuesIn (nextOf o f) fs)
+abbrev pub valuesIn : Form → ℕ → List Field → List Value
+valuesIn form o [] = []
+valuesIn form o (field t ls ∷ fs) =
+    at o (tag t) ∷ (map (moved (startOf o (field t ls))) (valuesOf t (heldBy form t) ls) ++ valuesIn form (nextOf o (field t ls)) fs)

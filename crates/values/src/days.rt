@@ -4,18 +4,34 @@ ghost use Prim.Native.Nat.{_+_, _*_, _≤_, _<_};
 ghost use lib.ListN.{length};
 ghost use Rattle.base.specs.Bytes.{byte};
 ghost use Rattle.values.specs.Number.{worth};
-ghost use Rattle.values.specs.Day.{leap, daysIn, isDay, yearOf};
-ghost use Rattle.values.specs.Answers.{dayAt, dateOf};
+ghost use Rattle.values.specs.Day.{leap, daysIn, isDay, yearOf, realDay, dated};
+ghost use Rattle.values.specs.Steps.{DayRead};
+use base::bytes::ZERO;
 use base::bytes::wide;
 
+// Where the month and the day stand in a date of six digits.
+const MONTH_AT: usize = 2;
+
+const DAY_AT: usize = 4;
+
+const FEBRUARY: u32 = 2;
+
+const DECEMBER: u32 = 12;
+
+struct Day {
+    year: u32,
+    month: u32,
+    day: u32,
+}
+
 // What a digit is worth; 0 for a byte below the digits.
-pub fn worth_of(x: u8) -> u32
+pub(crate) fn worth_of(x: u8) -> u32
     ensures { λ r. ⌜ (r ≡ worth x) × (r < 208) ⌝ }
 {
-    if x < 48 {
+    if x < b'0' {
         return 0;
     }
-    wide(x) - 48
+    wide(x) - ZERO
 }
 
 fn two_at(s: &[u8], i: usize) -> u32
@@ -53,7 +69,7 @@ fn is_leap(year: u32) -> bool
 fn days_in(year: u32, month: u32) -> u32
     ensures { λ r. ⌜ r ≡ daysIn year month ⌝ }
 {
-    if month == 2 {
+    if month == FEBRUARY {
         if is_leap(year) {
             return 29;
         }
@@ -74,13 +90,13 @@ fn days_in(year: u32, month: u32) -> u32
     31
 }
 
-pub fn is_date(year: u32, month: u32, day: u32) -> bool
+fn is_date(year: u32, month: u32, day: u32) -> bool
     ensures { λ r. ⌜ r ≡ isDay year month day ⌝ }
 {
     if month < 1 {
         return false;
     }
-    if 12 < month {
+    if DECEMBER < month {
         return false;
     }
     if day < 1 {
@@ -89,31 +105,32 @@ pub fn is_date(year: u32, month: u32, day: u32) -> bool
     day <= days_in(year, month)
 }
 
-// Whether the six bytes at that place are a day.
-pub fn is_day(content: &[u8], at: usize) -> bool
-    ensures { λ r. ⌜ r ≡ dayAt (now (content .entry)) at ⌝ }
+// The year, the month and the day of six digits.
+fn day_of(s: &[u8]) -> Day
+    requires { ⌜ length (now s) ≡ 6 ⌝ }
+    ensures { λ r. ⌜ DayRead (now (s .entry)) r ⌝ }
 {
-    if content.len() < 6 {
-        return false;
+    Day {
+        year: year_of(two_at(s, 0)),
+        month: two_at(s, MONTH_AT),
+        day: two_at(s, DAY_AT),
     }
-    if content.len() - 6 < at {
-        return false;
-    }
-    let year = year_of(two_at(content, at));
-    let month = two_at(content, at + 2);
-    let day = two_at(content, at + 4);
-    is_date(year, month, day)
 }
 
-// The date of 32A, YYYYMMDD.
-pub fn date_of(content: &[u8]) -> u32
-    ensures { λ r. ⌜ r ≡ dateOf (now (content .entry)) ⌝ }
+// Whether six digits are a day.
+pub(crate) fn is_day(s: &[u8]) -> bool
+    requires { ⌜ length (now s) ≡ 6 ⌝ }
+    ensures { λ r. ⌜ r ≡ realDay (now (s .entry)) ⌝ }
 {
-    if content.len() < 6 {
-        return 0;
-    }
-    let year = year_of(two_at(content, 0));
-    let month = two_at(content, 2);
-    let day = two_at(content, 4);
-    year * 10000 + month * 100 + day
+    let d = day_of(s);
+    is_date(d.year, d.month, d.day)
+}
+
+// Six digits as one number, YYYYMMDD.
+pub(crate) fn date_number(s: &[u8]) -> u32
+    requires { ⌜ length (now s) ≡ 6 ⌝ }
+    ensures { λ r. ⌜ r ≡ dated (now (s .entry)) ⌝ }
+{
+    let d = day_of(s);
+    d.year * 10000 + d.month * 100 + d.day
 }

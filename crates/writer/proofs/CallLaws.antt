@@ -20,6 +20,8 @@ use Rattle.base.proofs.Room.{over-sets, puts-put}
 use Rattle.base.proofs.CallLaws.{is-long, not-long, gives-refused, gives-on}
 use Rattle.fields.specs.Field.{field, opening, message}
 use Rattle.fields.specs.Frame.{limit, rule1}
+use Rattle.types.specs.declared.Form.{Form}
+use Rattle.types.specs.declared.Form.the-variants.{Other, Mt103, Mt202}
 use Rattle.types.specs.Walk.{rule18}
 use Rattle.contents.specs.Tags.{tags103, tags202, heldIn, heldBy}
 use Rattle.roles.specs.Role.{Part, cast, shapeFor, shapeOf, lineOf}
@@ -28,7 +30,7 @@ use Rattle.roles.specs.declared.Shape.the-variants.{Plain}
 use Rattle.records.specs.Record.{Record, line, recordOf, records}
 use Rattle.records.specs.Places.{nextOf}
 use Rattle.records.specs.Found.{piecesAt, badLine}
-use Rattle.records.specs.Rule19.{typed, typeOf, sheetSign, sheetType, sheetVerdict, rule19, judged}
+use Rattle.records.specs.Rule19.{typed, namedForm, sheetSign, sheetForm, sheetVerdict, rule19, judged}
 use Rattle.records.specs.Sentences.{Sound}
 use Rattle.records.specs.declared.Judged.{Judged}
 use Rattle.records.proofs.SheetLaws.{line-record}
@@ -50,21 +52,21 @@ use Rattle.base.specs.declared.Outcome.the-variants.{Refused}
 use Rattle.judge.specs.Message.{verdictOf}
 
 -- ---- 17, and the message's own refusal
-pub long-verdict : (kind : ℕ) (t : List ℕ) → rule18 kind ≡ Fine → limit < length t → verdictOf kind t ≡ Broken 1 limit
+pub long-verdict : (form : Form) (t : List ℕ) → rule18 form ≡ Fine → limit < length t → verdictOf form t ≡ Broken 1 limit
 unfolding verdictOf rule1
-long-verdict kind t e h = rw (e, is-long limit t h)
+long-verdict form t e h = rw (e, is-long limit t h)
 
 pub refused-first : (s out : List ℕ) {n p : ℕ} → first (sheetRules s) ≡ Broken n p → MessageTo s out (Refused n p) out
 unfolding MessageTo
 refused-first s out {n} {p} q =
-    let rest = handRules (sheetType s) (messageFor s) out in
+    let rest = handRules (sheetForm s) (messageFor s) out in
     gives-refused (writeRules s out) (messageFor s) out n p (first-append (sheetRules s) rest ∙ ap (λ (v : Verdict). then v (first rest)) q)
 
 -- ---- the message whole
-pub message-put : (kind : ℕ) (g : Bool) (rs : List Record) {v : Verdict} {b : Bool} {out mid after : List ℕ} {r : Step} → mid ≡ placed out 0 opening → Adds v b (bodyOf kind g rs) mid 5 r after
-    → Adds v b (message (spread kind g rs)) out 0 r after
+pub message-put : (form : Form) (g : Bool) (rs : List Record) {v : Verdict} {b : Bool} {out mid after : List ℕ} {r : Step} → mid ≡ placed out 0 opening → Adds v b (bodyOf form g rs) mid 5 r after
+    → Adds v b (message (spread form g rs)) out 0 r after
 unfolding message
-message-put kind g rs e a = adds-front opening (bodyOf kind g rs) (puts-put {u = opening} refl e) a
+message-put form g rs e a = adds-front opening (bodyOf form g rs) (puts-put {u = opening} refl e) a
 
 -- ---- 15 gives its own number alone
 then-number : (n : ℕ) (v w : Verdict) → ((j p : ℕ) → v ≡ Broken j p → j ≡ n) → ((j p : ℕ) → w ≡ Broken j p → j ≡ n) → (j p : ℕ) → then v w ≡ Broken j p → j ≡ n
@@ -81,28 +83,25 @@ unsaid-number s o [] j p e = absurd (fine-broken j p e)
 unsaid-number s o (c ∷ cs) j p e =
     then-number 15 (stoppedAt o (saidPart s c)) (unsaid s (o + length (lineOf c) + 1) cs) (stopped-number o (saidPart s c)) (unsaid-number s (o + length (lineOf c) + 1) cs) j p e
 
-rule15-number : (kind : ℕ) (s : Bool) (o : ℕ) (rs : List Record) (j p : ℕ) → rule15 kind s o rs ≡ Broken j p → j ≡ 15
+rule15-number : (form : Form) (s : Bool) (o : ℕ) (rs : List Record) (j p : ℕ) → rule15 form s o rs ≡ Broken j p → j ≡ 15
 unfolding rule15
-rule15-number kind s o [] j p e = absurd (fine-broken j p e)
-rule15-number kind s o (field t ps ∷ rs) j p e =
-    then-number 15 (unsaid s (o + length t + 1) (castParts (shapeOf kind t) ps)) (rule15 kind s (nextOf o (field t ps)) rs) (unsaid-number s (o + length t + 1) (castParts (shapeOf kind t) ps)) (rule15-number kind s (nextOf o (field t ps)) rs) j p e
+rule15-number form s o [] j p e = absurd (fine-broken j p e)
+rule15-number form s o (field t ps ∷ rs) j p e =
+    then-number 15 (unsaid s (o + length t + 1) (castParts (shapeOf form t) ps)) (rule15 form s (nextOf o (field t ps)) rs) (unsaid-number s (o + length t + 1) (castParts (shapeOf form t) ps)) (rule15-number form s (nextOf o (field t ps)) rs) j p e
 
 -- ---- the first record can be written
-plain-mt : (kind : ℕ) → shapeOf kind (bytes "MT") ≡ Plain
+plain-mt : (form : Form) → shapeOf form (bytes "MT") ≡ Plain
 unfolding shapeOf heldBy tags103 tags202 same
-plain-mt kind = go (eqb kind 103) (eqb kind 202)
-  where
-    go : (a b : Bool) → shapeFor (heldIn (pick a tags103 (pick b tags202 [])) (bytes "MT")) ≡ Plain
-    go true b = refl
-    go false true = refl
-    go false false = refl
+plain-mt Mt103 = refl
+plain-mt Mt202 = refl
+plain-mt Other = refl
 
-first-fine : (kind : ℕ) (s : Bool) (r : Record) → typed r ≡ true → recordStops kind s r ≡ Fine
+first-fine : (form : Form) (s : Bool) (r : Record) → typed r ≡ true → recordStops form s r ≡ Fine
 unfolding unsaid cast
-first-fine kind s r e =
+first-fine form s r e =
     let n = named r e in
-    ap (recordStops kind s) (n .is)
-    ∙ ap (λ (sh : Shape). unsaid s 3 (castParts sh (n .type ∷ []))) (plain-mt kind)
+    ap (recordStops form s) (n .is)
+    ∙ ap (λ (sh : Shape). unsaid s 3 (castParts sh (n .type ∷ []))) (plain-mt form)
     ∙ ap (λ (a : Answer). then (stoppedAt 3 a) Fine) (said-digits 3 (n .type) (n .three))
 
 -- ---- a sheet that 19 and 18 let pass
@@ -110,7 +109,7 @@ module _ (s : List ℕ) (v : sheetVerdict s ≡ Fine) where
   h : Sound s
   h = fine-sheet s v .0
 
-  pub type-fine : rule18 (sheetType s) ≡ Fine
+  pub type-fine : rule18 (sheetForm s) ≡ Fine
   type-fine = fine-sheet s v .1
 
   abbrev ours : List Record
@@ -119,16 +118,16 @@ module _ (s : List ℕ) (v : sheetVerdict s ≡ Fine) where
   tail-is : tail (records s) ≡ ours
   tail-is = ap tail (h .list) ∙ sound-behind s h
 
-  rule15-is : rule15 (sheetType s) (sheetSign s) 0 (records s) ≡ rule15 (sheetType s) (sheetSign s) 7 ours
+  rule15-is : rule15 (sheetForm s) (sheetSign s) 0 (records s) ≡ rule15 (sheetForm s) (sheetSign s) 7 ours
   rule15-is =
       let z : nextOf 0 (h .head) ≡ 7 = omega (arith, named-size (h .head) (h .names)) in
-      ap (rule15 (sheetType s) (sheetSign s) 0) (h .list ∙ ap (λ (rs : List Record). h .head ∷ rs) (sound-behind s h))
-      ∙ sym (rule15-cons (sheetType s) (sheetSign s) 0 (h .head) ours)
-      ∙ ap₂ (λ (u : Verdict) (k : ℕ). then (movedBy 0 u) (rule15 (sheetType s) (sheetSign s) k ours)) (first-fine (sheetType s) (sheetSign s) (h .head) (h .names)) z
+      ap (rule15 (sheetForm s) (sheetSign s) 0) (h .list ∙ ap (λ (rs : List Record). h .head ∷ rs) (sound-behind s h))
+      ∙ sym (rule15-cons (sheetForm s) (sheetSign s) 0 (h .head) ours)
+      ∙ ap₂ (λ (u : Verdict) (k : ℕ). then (movedBy 0 u) (rule15 (sheetForm s) (sheetSign s) k ours)) (first-fine (sheetForm s) (sheetSign s) (h .head) (h .names)) z
 
-  message-is : message (spread (sheetType s) (sheetSign s) ours) ≡ messageFor s
+  message-is : message (spread (sheetForm s) (sheetSign s) ours) ≡ messageFor s
   unfolding messageFor fieldsOf
-  message-is = ap (λ (rs : List Record). message (spread (sheetType s) (sheetSign s) rs)) (sym tail-is)
+  message-is = ap (λ (rs : List Record). message (spread (sheetForm s) (sheetSign s) rs)) (sym tail-is)
 
   -- where its first line ends
   abbrev end : ℕ
@@ -150,83 +149,83 @@ module _ (s : List ℕ) (v : sheetVerdict s ≡ Fine) where
   pub seven-within : 7 ≤ length s
   seven-within = let k = goes-on in let w = first-within s end refl {g = sheetSign s} refl in let z = end-six in omega (arith, k)
 
-  pub lines-good : badLine (sheetType s) (sheetSign s) 7 (piecesAt 10 s 7) ≡ Fine
-  unfolding judged sheetType
+  pub lines-good : badLine (sheetForm s) (sheetSign s) 7 (piecesAt 10 s 7) ≡ Fine
+  unfolding judged sheetForm
   lines-good =
-      let j = judge-typed s end refl {g = sheetSign s} refl goes-on {kind = sheetType s} (ap typed head-is ∙ h .names) (ap typeOf (head-record s end refl {g = sheetSign s} refl goes-on)) refl in
-      let b : badLine (sheetType s) (sheetSign s) (end + 1) (piecesAt 10 s (end + 1)) ≡ Fine
-      = then-clean (badLine (sheetType s) (sheetSign s) (end + 1) (piecesAt 10 s (end + 1))) (rule18 (sheetType s)) (ap (λ (x : Judged). x .verdict) j ∙ v) .0 in
-      subst (λ (k : ℕ). badLine (sheetType s) (sheetSign s) (k + 1) (piecesAt 10 s (k + 1)) ≡ Fine) end-six b
+      let j = judge-typed s end refl {g = sheetSign s} refl goes-on {form = sheetForm s} (ap typed head-is ∙ h .names) (ap namedForm (head-record s end refl {g = sheetSign s} refl goes-on)) refl in
+      let b : badLine (sheetForm s) (sheetSign s) (end + 1) (piecesAt 10 s (end + 1)) ≡ Fine
+      = then-clean (badLine (sheetForm s) (sheetSign s) (end + 1) (piecesAt 10 s (end + 1))) (rule18 (sheetForm s)) (ap (λ (x : Judged). x .verdict) j ∙ v) .0 in
+      subst (λ (k : ℕ). badLine (sheetForm s) (sheetSign s) (k + 1) (piecesAt 10 s (k + 1)) ≡ Fine) end-six b
 
   -- the type and the sign as they were told
-  module _ {kind : ℕ} {g : Bool} (k : kind ≡ sheetType s) (i : g ≡ sheetSign s) where
-    pub told-good : badLine kind g 7 (piecesAt 10 s 7) ≡ Fine
-    told-good = ap₂ (λ (n : ℕ) (b : Bool). badLine n b 7 (piecesAt 10 s 7)) k i ∙ lines-good
+  module _ {form : Form} {g : Bool} (k : form ≡ sheetForm s) (i : g ≡ sheetSign s) where
+    pub told-good : badLine form g 7 (piecesAt 10 s 7) ≡ Fine
+    told-good = ap₂ (λ (n : Form) (b : Bool). badLine n b 7 (piecesAt 10 s 7)) k i ∙ lines-good
 
-    pub told-built : {m mid : List ℕ} {r : Step} → Adds (rule15 kind g 7 ours) (someCrowded kind g ours) (message (spread kind g ours)) m 0 r mid
-        → Adds (rule15 (sheetType s) (sheetSign s) 7 ours) (someCrowded (sheetType s) (sheetSign s) ours) (message (spread (sheetType s) (sheetSign s) ours)) m 0 r mid
+    pub told-built : {m mid : List ℕ} {r : Step} → Adds (rule15 form g 7 ours) (someCrowded form g ours) (message (spread form g ours)) m 0 r mid
+        → Adds (rule15 (sheetForm s) (sheetSign s) 7 ours) (someCrowded (sheetForm s) (sheetSign s) ours) (message (spread (sheetForm s) (sheetSign s) ours)) m 0 r mid
     told-built {m} {mid} {r} a =
-        subst (λ (n : ℕ). Adds (rule15 n (sheetSign s) 7 ours) (someCrowded n (sheetSign s) ours) (message (spread n (sheetSign s) ours)) m 0 r mid) k
-        (subst (λ (b : Bool). Adds (rule15 kind b 7 ours) (someCrowded kind b ours) (message (spread kind b ours)) m 0 r mid) i a)
+        subst (λ (n : Form). Adds (rule15 n (sheetSign s) 7 ours) (someCrowded n (sheetSign s) ours) (message (spread n (sheetSign s) ours)) m 0 r mid) k
+        (subst (λ (b : Bool). Adds (rule15 form b 7 ours) (someCrowded form b ours) (message (spread form b ours)) m 0 r mid) i a)
 
   module _ (w : length s ≤ limit) where
     abbrev Left : Verdict
-    Left = then (rule15 (sheetType s) (sheetSign s) 0 (records s)) (then (rule16 (sheetType s) (sheetSign s) (tail (records s))) Fine)
+    Left = then (rule15 (sheetForm s) (sheetSign s) 0 (records s)) (then (rule16 (sheetForm s) (sheetSign s) (tail (records s))) Fine)
 
     past : first (sheetRules s) ≡ Left
     past = rw (not-long limit s w, sound-fine s h, type-fine)
 
     abbrev Built : List ℕ → Step → List ℕ → Type 0
-    Built m r after = Adds (rule15 (sheetType s) (sheetSign s) 7 ours) (someCrowded (sheetType s) (sheetSign s) ours) (message (spread (sheetType s) (sheetSign s) ours)) m 0 r after
+    Built m r after = Adds (rule15 (sheetForm s) (sheetSign s) 7 ours) (someCrowded (sheetForm s) (sheetSign s) ours) (message (spread (sheetForm s) (sheetSign s) ours)) m 0 r after
 
     abbrev size : ℕ
-    size = 0 + length (message (spread (sheetType s) (sheetSign s) ours))
+    size = 0 + length (message (spread (sheetForm s) (sheetSign s) ours))
 
     pub sound-stuck : (out : List ℕ) {m mid : List ℕ} {r : Step} {k : ℕ} → r ≡ Stuck k → Built m r mid → MessageTo s out (Refused 15 k) out
     sound-stuck out {k = k} e a =
-        let z = came-stuck (rule15 (sheetType s) (sheetSign s) 7 ours) (someCrowded (sheetType s) (sheetSign s) ours) size k (sym e ∙ a .answers) in
-        let n : z .0 ≡ 15 = rule15-number (sheetType s) (sheetSign s) 7 ours (z .0) k (z .1) in
-        refused-first s out (past ∙ ap (λ (u : Verdict). then u (then (rule16 (sheetType s) (sheetSign s) (tail (records s))) Fine)) (rule15-is ∙ z .1 ∙ ap (λ (j : ℕ). Broken j k) n))
+        let z = came-stuck (rule15 (sheetForm s) (sheetSign s) 7 ours) (someCrowded (sheetForm s) (sheetSign s) ours) size k (sym e ∙ a .answers) in
+        let n : z .0 ≡ 15 = rule15-number (sheetForm s) (sheetSign s) 7 ours (z .0) k (z .1) in
+        refused-first s out (past ∙ ap (λ (u : Verdict). then u (then (rule16 (sheetForm s) (sheetSign s) (tail (records s))) Fine)) (rule15-is ∙ z .1 ∙ ap (λ (j : ℕ). Broken j k) n))
 
-    left-is : {v : Verdict} {b : Bool} → rule15 (sheetType s) (sheetSign s) 7 ours ≡ v → someCrowded (sheetType s) (sheetSign s) ours ≡ b → Left ≡ then v (then (pick b (Broken 16 0) Fine) Fine)
+    left-is : {v : Verdict} {b : Bool} → rule15 (sheetForm s) (sheetSign s) 7 ours ≡ v → someCrowded (sheetForm s) (sheetSign s) ours ≡ b → Left ≡ then v (then (pick b (Broken 16 0) Fine) Fine)
     unfolding rule16
-    left-is p q = ap₂ (λ (u v : Verdict). then u (then v Fine)) (rule15-is ∙ p) (ap (λ (rs : List Record). rule16 (sheetType s) (sheetSign s) rs) tail-is ∙ ap (λ (b : Bool). pick b (Broken 16 0) Fine) q)
+    left-is p q = ap₂ (λ (u v : Verdict). then u (then v Fine)) (rule15-is ∙ p) (ap (λ (rs : List Record). rule16 (sheetForm s) (sheetSign s) rs) tail-is ∙ ap (λ (b : Bool). pick b (Broken 16 0) Fine) q)
 
     pub sound-unfit : (out : List ℕ) {m mid : List ℕ} {r : Step} → r ≡ Unfit → Built m r mid → MessageTo s out (Refused 16 0) out
     sound-unfit out e a =
-        let z = came-unfit (rule15 (sheetType s) (sheetSign s) 7 ours) (someCrowded (sheetType s) (sheetSign s) ours) size (sym e ∙ a .answers) in
+        let z = came-unfit (rule15 (sheetForm s) (sheetSign s) 7 ours) (someCrowded (sheetForm s) (sheetSign s) ours) size (sym e ∙ a .answers) in
         refused-first s out (past ∙ left-is (z .0) (z .1))
 
     module _ {m mid : List ℕ} {r : Step} {n : ℕ} (e : r ≡ Put n) (a : Built m r mid) where
-      known : (rule15 (sheetType s) (sheetSign s) 7 ours ≡ Fine) × (someCrowded (sheetType s) (sheetSign s) ours ≡ false) × (n ≡ size)
-      known = came-put (rule15 (sheetType s) (sheetSign s) 7 ours) (someCrowded (sheetType s) (sheetSign s) ours) size n (sym e ∙ a .answers)
+      known : (rule15 (sheetForm s) (sheetSign s) 7 ours ≡ Fine) × (someCrowded (sheetForm s) (sheetSign s) ours ≡ false) × (n ≡ size)
+      known = came-put (rule15 (sheetForm s) (sheetSign s) 7 ours) (someCrowded (sheetForm s) (sheetSign s) ours) size n (sym e ∙ a .answers)
 
       abbrev text : List ℕ
-      text = message (spread (sheetType s) (sheetSign s) ours)
+      text = message (spread (sheetForm s) (sheetSign s) ours)
 
       sized : n ≡ length text
       sized = known .2 ∙ zero-add (length text)
 
-      left : {out after : List ℕ} {q : Outcome} → Gives (handRules (sheetType s) (messageFor s) out) (messageFor s) out q after → MessageTo s out q after
+      left : {out after : List ℕ} {q : Outcome} → Gives (handRules (sheetForm s) (messageFor s) out) (messageFor s) out q after → MessageTo s out q after
       unfolding MessageTo
-      left {out} g = gives-on (sheetRules s) (handRules (sheetType s) (messageFor s) out) (past ∙ left-is (known .0) (known .1)) g
+      left {out} g = gives-on (sheetRules s) (handRules (sheetForm s) (messageFor s) out) (past ∙ left-is (known .0) (known .1)) g
 
-      pub sound-put : {kind : ℕ} {out after : List ℕ} {q : Outcome} → kind ≡ sheetType s → length m ≡ limit → n ≤ limit → Hands kind (take n mid) out q after → MessageTo s out q after
-      sound-put {kind} {out} {after} {q} k l o g =
+      pub sound-put : {form : Form} {out after : List ℕ} {q : Outcome} → form ≡ sheetForm s → length m ≡ limit → n ≤ limit → Hands form (take n mid) out q after → MessageTo s out q after
+      sound-put {form} {out} {after} {q} k l o g =
           let p : mid ≡ over text m = a .fills (known .0) (known .1) (omega (arith, sized)) ∙ sym (over-sets text m (omega (arith, sized))) in
           let t : take n mid ≡ messageFor s = ap₂ (λ (i : ℕ) (x : List ℕ). take i x) sized p ∙ take-append-seam text (drop (length text) m) ∙ message-is in
-          left (subst (λ (j : ℕ). Hands j (messageFor s) out q after) k (subst (λ (x : List ℕ). Hands kind x out q after) t g))
+          left (subst (λ (j : Form). Hands j (messageFor s) out q after) k (subst (λ (x : List ℕ). Hands form x out q after) t g))
 
       whole : n ≡ length (messageFor s)
       whole = sized ∙ ap length message-is
 
       pub sound-short : (out : List ℕ) → length out < n → MessageTo s out (Refused 17 n) out
       sound-short out h =
-          subst (λ (k : ℕ). MessageTo s out (Refused 17 k) out) (sym whole) (left (hand-short (sheetType s) (messageFor s) out (omega (arith, whole))))
+          subst (λ (k : ℕ). MessageTo s out (Refused 17 k) out) (sym whole) (left (hand-short (sheetForm s) (messageFor s) out (omega (arith, whole))))
 
       pub sound-over : (out : List ℕ) → n ≤ length out → limit < n → MessageTo s out (Refused 1 0) out
       sound-over out h o =
-          left (hand-refused (sheetType s) (messageFor s) out (omega (arith, whole)) (long-verdict (sheetType s) (messageFor s) type-fine (omega (arith, whole))))
+          left (hand-refused (sheetForm s) (messageFor s) out (omega (arith, whole)) (long-verdict (sheetForm s) (messageFor s) type-fine (omega (arith, whole))))
 
 -- ---- a sheet that is refused
 pub too-long-sheet : (s out : List ℕ) → limit < length s → MessageTo s out (Refused 1 limit) out
@@ -234,9 +233,9 @@ too-long-sheet s out h = refused-first s out (rw (is-long limit s h))
 
 pub bad-sheet : (s out : List ℕ) {n p : ℕ} → length s ≤ limit → sheetVerdict s ≡ Broken n p → MessageTo s out (Refused n p) out
 unfolding sheetVerdict
-bad-sheet s out {n} {p} l e = refused-first s out (go (rule19 s) (rule18 (sheetType s)) refl refl e)
+bad-sheet s out {n} {p} l e = refused-first s out (go (rule19 s) (rule18 (sheetForm s)) refl refl e)
   where
-    go : (v w : Verdict) → rule19 s ≡ v → rule18 (sheetType s) ≡ w → then v (then w Fine) ≡ Broken n p → first (sheetRules s) ≡ Broken n p
+    go : (v w : Verdict) → rule19 s ≡ v → rule18 (sheetForm s) ≡ w → then v (then w Fine) ≡ Broken n p → first (sheetRules s) ≡ Broken n p
     go (Broken m q) w a b e = rw (not-long limit s l, a) e
     go Fine (Broken m q) a b e = rw (not-long limit s l, a, b) e
     go Fine Fine a b e = absurd (fine-broken n p e)
@@ -247,9 +246,9 @@ module _ (s : List ℕ) {j : Judged} (e : j ≡ judged s) where
   unfolding judged
   verdict-is q = sym (ap (λ (x : Judged). x .verdict) e) ∙ q
 
-  pub kind-is : j .kind ≡ sheetType s
+  pub form-is : j .form ≡ sheetForm s
   unfolding judged
-  kind-is = ap (λ (x : Judged). x .kind) e
+  form-is = ap (λ (x : Judged). x .form) e
 
   pub sign-is : j .sign ≡ sheetSign s
   unfolding judged

@@ -16,7 +16,7 @@ use Rattle.alphabets.specs.Bank.{plainly}
 use Rattle.alphabets.specs.Best.{writing}
 use Rattle.alphabets.proofs.Theorems.{plain-only}
 use Rattle.fields.specs.Field.{laid}
-use Rattle.values.specs.Values.{isTax}
+use Rattle.contents.specs.Tests.{looksTax}
 use Rattle.roles.specs.Role.{Part, copy, name, taxName, lineOf}
 use Rattle.roles.specs.Parts.{castBy, named, nextRole}
 use Rattle.roles.specs.declared.Role.{Role}
@@ -42,7 +42,7 @@ spoken false p = refl
 
 first-said : (s : Bool) (role : Role) (p : List ℕ) → writing (s && named role p) p ≡ saidPart s (firstPart role p)
 first-said s Copies p = copied s p
-first-said s OfPayer p = go (begins 47 p) (isTax p)
+first-said s OfPayer p = go (begins 47 p) (looksTax p)
   where
     go : (a b : Bool) → writing (s && (not a && not b)) p ≡ saidPart s (pick a (copy p) (pick b (copy p) (taxName p)))
     go true b = copied s p
@@ -54,7 +54,7 @@ first-said s OfPayee p = go (begins 47 p)
     go true = copied s p
     go false = spoken s p
 first-said s OfAgent p = copied s p
-first-said s Taxed p = go (isTax p)
+first-said s Taxed p = go (looksTax p)
   where
     go : (a : Bool) → writing (s && not a) p ≡ saidPart s (pick a (copy p) (taxName p))
     go true = copied s p

@@ -7,6 +7,7 @@ use native.Mathlib.Omega.{arith}
 use native.Mathlib.Decide.{decLt}
 use types.Run.{OneOf}
 use denote.Enum.Declared.{tagOf}
+use Rattle.types.specs.declared.Form.{Form}
 use Rattle.roles.proofs.Shape.{the-type}
 use Rattle.roles.proofs.PartLaws.{each-lined}
 use lib.ListN.{length, take, drop, length-append}
@@ -23,7 +24,7 @@ use Rattle.fields.specs.Field.{field, laid, lined, linesOf, closing}
 use Rattle.fields.specs.Shapes.{shaped, pack, unpack}
 use Rattle.fields.proofs.PackLaws.{unpack-pack}
 use Rattle.fields.proofs.PlaceLaws.{laid-append}
-use Rattle.values.specs.Values.{isTax}
+use Rattle.contents.specs.Tests.{looksTax}
 use Rattle.roles.specs.Role.{Part, copy, name, taxName, taxed, cast, shapeOf, lineOf}
 use Rattle.roles.specs.Speech.{codeSize}
 use Rattle.roles.specs.declared.Shape.{Shape}
@@ -133,7 +134,7 @@ content-some s _ _ (payer p ps e g f) c = go (begins 47 p)
   where
     go : (b : Bool) → Some (map (lineFor s) (pick b (copy p ∷ taxed ps) (taxed (p ∷ ps))))
     go true = record { one = p; more = map (lineFor s) (taxed ps); is = refl }
-    go false = record { one = lineFor s (pick (isTax p) (copy p) (taxName p)); more = map (lineFor s) (map name ps); is = refl }
+    go false = record { one = lineFor s (pick (looksTax p) (copy p) (taxName p)); more = map (lineFor s) (map name ps); is = refl }
 content-some s _ _ (payee p ps e g f) c = record { one = lineFor s (pick (begins 47 p) (copy p) (name p)); more = map (lineFor s) (taxed ps); is = refl }
 content-some s _ _ (details vo text e g) c = some-told In70 (codeSize s) (told s (vo ∷ text ∷ [])) c
 content-some s _ _ (note103 rpp e) c = record { one = rppLine rpp; more = []; is = refl }
@@ -152,37 +153,37 @@ pub tag-behind : (t : List ℕ) {out after : List ℕ} {at r : ℕ} → Puts (58
 tag-behind t p = omega (arith, p .answers, length-append t (58 ∷ []))
 
 -- ---- a record by the end of its tag
-module _ (kind : ℕ) (s : Bool) (l : List ℕ) (t : ℕ) (q : t ≡ 0 + upTo 9 (drop 0 l)) (g : good kind s (recordOf l) ≡ true) where
+module _ (form : Form) (s : Bool) (l : List ℕ) (t : ℕ) (q : t ≡ 0 + upTo 9 (drop 0 l)) (g : good form s (recordOf l) ≡ true) where
   abbrev ps : List (List ℕ)
   ps = piecesAt 9 l (t + 1)
 
   abbrev tag : List ℕ
   tag = take t l
 
-  good-at : (shaped tag && sound s (shapeOf kind tag) ps) ≡ true
-  good-at = sym (ap (good kind s) (record-at l t q)) ∙ g
+  good-at : (shaped tag && sound s (shapeOf form tag) ps) ≡ true
+  good-at = sym (ap (good form s) (record-at l t q)) ∙ g
 
-  pub shape-is : {sh : Shape} {n : ℕ} → n ≡ tagNumber tag → sh ≡ shapeOf kind (unpack n) → sh ≡ shapeOf kind tag
+  pub shape-is : {sh : Shape} {n : ℕ} → n ≡ tagNumber tag → sh ≡ shapeOf form (unpack n) → sh ≡ shapeOf form tag
   unfolding tagNumber
   shape-is {sh} {n} k e =
       let h : shaped tag ≡ true = left (shaped tag) _ good-at in
       let z : n ≡ pack tag = k ∙ ap (λ (b : Bool). pick b (pack tag) 0) h in
-      e ∙ ap (shapeOf kind) (ap unpack z ∙ unpack-pack tag h)
+      e ∙ ap (shapeOf form) (ap unpack z ∙ unpack-pack tag h)
 
-  pub shape-sound : {sh : Shape} → sh ≡ shapeOf kind tag → sound s sh ps ≡ true
+  pub shape-sound : {sh : Shape} → sh ≡ shapeOf form tag → sound s sh ps ≡ true
   shape-sound e = ap (λ (x : Shape). sound s x ps) e ∙ right (shaped tag) _ good-at
 
-  pub record-put : {sh : Shape} {out mid after : List ℕ} {at n : ℕ} {r : Step} → sh ≡ shapeOf kind tag → Puts (58 ∷ tag ++ 58 ∷ []) out at n mid
+  pub record-put : {sh : Shape} {out mid after : List ℕ} {at n : ℕ} {r : Step} → sh ≡ shapeOf form tag → Puts (58 ∷ tag ++ 58 ∷ []) out at n mid
       → Adds (unsaid s (t + 1) (castParts sh ps)) (crowded s sh ps) (laid (contentLines s sh ps)) mid n r after
-      → Adds (recordStops kind s (recordOf l)) (recordCrowded kind s (recordOf l)) (laid (lined (fieldFor kind s (recordOf l)))) out at r after
+      → Adds (recordStops form s (recordOf l)) (recordCrowded form s (recordOf l)) (laid (lined (fieldFor form s (recordOf l)))) out at r after
   record-put {sh} {out} {mid} {after} {at} {n} {r} e f a =
       let a1 = subst (λ (x : Shape). Adds (unsaid s (t + 1) (castParts x ps)) (crowded s x ps) (laid (contentLines s x ps)) mid n r after) e a in
       let z : t + 1 ≡ length tag + 1 = ap (λ (j : ℕ). j + 1) (tag-size l t q) in
-      let w : Right s (shapeOf kind tag) ps = sound-right s (shapeOf kind tag) ps (right (shaped tag) _ good-at) in
-      subst (λ (x : Record). Adds (recordStops kind s x) (recordCrowded kind s x) (laid (lined (fieldFor kind s x))) out at r after) (sym (record-at l t q))
-      (adds-by (ap (λ (j : ℕ). unsaid s j (castParts (shapeOf kind tag) ps)) z) refl
-      (adds-alike (unsaid s (t + 1) (castParts (shapeOf kind tag) ps)) (crowded s (shapeOf kind tag) ps) {t = (58 ∷ tag ++ 58 ∷ []) ++ laid (contentLines s (shapeOf kind tag) ps)} (λ _ c. lined-some tag (contentLines s (shapeOf kind tag) ps) (content-some s (shapeOf kind tag) ps w c))
-      (adds-front (58 ∷ tag ++ 58 ∷ []) (laid (contentLines s (shapeOf kind tag) ps)) f a1)))
+      let w : Right s (shapeOf form tag) ps = sound-right s (shapeOf form tag) ps (right (shaped tag) _ good-at) in
+      subst (λ (x : Record). Adds (recordStops form s x) (recordCrowded form s x) (laid (lined (fieldFor form s x))) out at r after) (sym (record-at l t q))
+      (adds-by (ap (λ (j : ℕ). unsaid s j (castParts (shapeOf form tag) ps)) z) refl
+      (adds-alike (unsaid s (t + 1) (castParts (shapeOf form tag) ps)) (crowded s (shapeOf form tag) ps) {t = (58 ∷ tag ++ 58 ∷ []) ++ laid (contentLines s (shapeOf form tag) ps)} (λ _ c. lined-some tag (contentLines s (shapeOf form tag) ps) (content-some s (shapeOf form tag) ps w c))
+      (adds-front (58 ∷ tag ++ 58 ∷ []) (laid (contentLines s (shapeOf form tag) ps)) f a1)))
 
 -- ---- records one behind another
 moved-then : (o : ℕ) (v w : Verdict) → movedBy o (then v w) ≡ then (movedBy o v) (movedBy o w)
@@ -204,25 +205,25 @@ moved-unsaid s o k (c ∷ cs) =
     moved-then o (stoppedAt k (saidPart s c)) (unsaid s (k + length (lineOf c) + 1) cs)
     ∙ ap₂ then (moved-stopped o k c s) (moved-unsaid s o (k + length (lineOf c) + 1) cs ∙ ap (λ (j : ℕ). unsaid s j cs) z)
 
-pub rule15-cons : (kind : ℕ) (s : Bool) (o : ℕ) (r : Record) (rs : List Record) → then (movedBy o (recordStops kind s r)) (rule15 kind s (nextOf o r) rs) ≡ rule15 kind s o (r ∷ rs)
+pub rule15-cons : (form : Form) (s : Bool) (o : ℕ) (r : Record) (rs : List Record) → then (movedBy o (recordStops form s r)) (rule15 form s (nextOf o r) rs) ≡ rule15 form s o (r ∷ rs)
 unfolding rule15
-rule15-cons kind s o (field t ps) rs =
+rule15-cons form s o (field t ps) rs =
     let z : o + (length t + 1) ≡ o + length t + 1 = omega arith in
-    ap (λ (v : Verdict). then v (rule15 kind s (nextOf o (field t ps)) rs)) (moved-unsaid s o (length t + 1) (castParts (shapeOf kind t) ps) ∙ ap (λ (j : ℕ). unsaid s j (castParts (shapeOf kind t) ps)) z)
+    ap (λ (v : Verdict). then v (rule15 form s (nextOf o (field t ps)) rs)) (moved-unsaid s o (length t + 1) (castParts (shapeOf form t) ps) ∙ ap (λ (j : ℕ). unsaid s j (castParts (shapeOf form t) ps)) z)
 
-crowded-cons : (kind : ℕ) (s : Bool) (r : Record) (rs : List Record) → (recordCrowded kind s r || someCrowded kind s rs) ≡ someCrowded kind s (r ∷ rs)
-crowded-cons kind s (field t ps) rs = refl
+crowded-cons : (form : Form) (s : Bool) (r : Record) (rs : List Record) → (recordCrowded form s r || someCrowded form s rs) ≡ someCrowded form s (r ∷ rs)
+crowded-cons form s (field t ps) rs = refl
 
-abbrev pub bodyOf : ℕ → Bool → List Record → List ℕ
-bodyOf kind s rs = laid (linesOf (spread kind s rs)) ++ closing
+abbrev pub bodyOf : Form → Bool → List Record → List ℕ
+bodyOf form s rs = laid (linesOf (spread form s rs)) ++ closing
 
-body-cons : (kind : ℕ) (s : Bool) (r : Record) (rs : List Record) → laid (lined (fieldFor kind s r)) ++ bodyOf kind s rs ≡ bodyOf kind s (r ∷ rs)
+body-cons : (form : Form) (s : Bool) (r : Record) (rs : List Record) → laid (lined (fieldFor form s r)) ++ bodyOf form s rs ≡ bodyOf form s (r ∷ rs)
 unfolding spread
-body-cons kind s r rs =
-    sym (append-assoc (laid (lined (fieldFor kind s r))) (laid (linesOf (spread kind s rs))) closing)
-    ∙ ap (λ (x : List ℕ). x ++ closing) (sym (laid-append (lined (fieldFor kind s r)) (linesOf (spread kind s rs))))
+body-cons form s r rs =
+    sym (append-assoc (laid (lined (fieldFor form s r))) (laid (linesOf (spread form s rs))) closing)
+    ∙ ap (λ (x : List ℕ). x ++ closing) (sym (laid-append (lined (fieldFor form s r)) (linesOf (spread form s rs))))
 
-module _ (kind : ℕ) (g : Bool) (s : List ℕ) (i e : ℕ) (h : i ≤ length s) (q : e ≡ i + upTo 10 (drop i s)) (l : i < length s) (b : badLine kind g i (piecesAt 10 s i) ≡ Fine) where
+module _ (form : Form) (g : Bool) (s : List ℕ) (i e : ℕ) (h : i ≤ length s) (q : e ≡ i + upTo 10 (drop i s)) (l : i < length s) (b : badLine form g i (piecesAt 10 s i) ≡ Fine) where
   abbrev this : List ℕ
   this = take (e - i) (drop i s)
 
@@ -234,20 +235,20 @@ module _ (kind : ℕ) (g : Bool) (s : List ℕ) (i e : ℕ) (h : i ≤ length s)
     where
       go : Dec (e < length s) → e < length s
       go (yes k) = k
-      go (no k) = absurd (fine-broken 19 i (sym b ∙ sym (bad-last s i e h q kind g l (omega (arith, end-within 10 s i e h q)))))
+      go (no k) = absurd (fine-broken 19 i (sym b ∙ sym (bad-last s i e h q form g l (omega (arith, end-within 10 s i e h q)))))
 
   further : e ≡ length s → ⊥
   further z = let k = ended in omega arith
 
-  pub good-here : good kind g (recordOf this) ≡ true
-  good-here = go (good kind g (recordOf this)) refl
+  pub good-here : good form g (recordOf this) ≡ true
+  good-here = go (good form g (recordOf this)) refl
     where
-      go : (c : Bool) → good kind g (recordOf this) ≡ c → good kind g (recordOf this) ≡ true
+      go : (c : Bool) → good form g (recordOf this) ≡ c → good form g (recordOf this) ≡ true
       go true k = k
-      go false k = absurd (fine-broken 19 i (sym b ∙ sym (bad-hit s i e h q kind g further k)))
+      go false k = absurd (fine-broken 19 i (sym b ∙ sym (bad-hit s i e h q form g further k)))
 
-  pub good-on : badLine kind g (e + 1) (piecesAt 10 s (e + 1)) ≡ Fine
-  good-on = sym (bad-miss s i e h q kind g further good-here) ∙ b
+  pub good-on : badLine form g (e + 1) (piecesAt 10 s (e + 1)) ≡ Fine
+  good-on = sym (bad-miss s i e h q form g further good-here) ∙ b
 
   list : recordsAt s i ≡ recordOf this ∷ rest
   list = front-at s i e h q ended
@@ -256,35 +257,35 @@ module _ (kind : ℕ) (g : Bool) (s : List ℕ) (i e : ℕ) (h : i ≤ length s)
   next-at = let n : length (line (recordOf this)) ≡ e - i = ap length (line-record this) ∙ piece-length s i e (omega arith) (end-within 10 s i e h q) in omega arith
 
   abbrev Left : Bool → List Record → List ℕ → ℕ → Step → List ℕ → Type 0
-  Left fit rs now n r after = Adds (rule15 kind g i rs) (not fit || someCrowded kind g rs) (bodyOf kind g rs) now n r after
+  Left fit rs now n r after = Adds (rule15 form g i rs) (not fit || someCrowded form g rs) (bodyOf form g rs) now n r after
 
-  stops-here : then (movedBy i (recordStops kind g (recordOf this))) (rule15 kind g (e + 1) rest) ≡ rule15 kind g i (recordOf this ∷ rest)
-  stops-here = ap (λ (j : ℕ). then (movedBy i (recordStops kind g (recordOf this))) (rule15 kind g j rest)) (sym next-at) ∙ rule15-cons kind g i (recordOf this) rest
+  stops-here : then (movedBy i (recordStops form g (recordOf this))) (rule15 form g (e + 1) rest) ≡ rule15 form g i (recordOf this ∷ rest)
+  stops-here = ap (λ (j : ℕ). then (movedBy i (recordStops form g (recordOf this))) (rule15 form g j rest)) (sym next-at) ∙ rule15-cons form g i (recordOf this) rest
 
   pub records-stop : (fit : Bool) {now mid after : List ℕ} {n k : ℕ} {q : Step} → q ≡ Stuck k
-      → Adds (recordStops kind g (recordOf this)) (recordCrowded kind g (recordOf this)) (laid (lined (fieldFor kind g (recordOf this)))) now n q mid
+      → Adds (recordStops form g (recordOf this)) (recordCrowded form g (recordOf this)) (laid (lined (fieldFor form g (recordOf this)))) now n q mid
       → Left fit (recordsAt s i) now n (Stuck (i + k)) after
   records-stop fit {now} {mid} {after} {n} {k} f a =
-      let z = came-stuck (recordStops kind g (recordOf this)) (recordCrowded kind g (recordOf this)) (n + length (laid (lined (fieldFor kind g (recordOf this))))) k (sym f ∙ a .answers) in
+      let z = came-stuck (recordStops form g (recordOf this)) (recordCrowded form g (recordOf this)) (n + length (laid (lined (fieldFor form g (recordOf this))))) k (sym f ∙ a .answers) in
       subst (λ (rs : List Record). Left fit rs now n (Stuck (i + k)) after) (sym list)
-      (adds-stuck (sym stops-here ∙ ap (λ (v : Verdict). then (movedBy i v) (rule15 kind g (e + 1) rest)) (z .1)))
+      (adds-stuck (sym stops-here ∙ ap (λ (v : Verdict). then (movedBy i v) (rule15 form g (e + 1) rest)) (z .1)))
 
   pub records-on : {fit fit′ : Bool} {now mid after : List ℕ} {n n′ : ℕ} {q r : Step} → Goes fit n q fit′ n′
-      → Adds (recordStops kind g (recordOf this)) (recordCrowded kind g (recordOf this)) (laid (lined (fieldFor kind g (recordOf this)))) now n q mid
-      → Adds (rule15 kind g (e + 1) rest) (not fit′ || someCrowded kind g rest) (bodyOf kind g rest) mid n′ r after → Left fit (recordsAt s i) now n r after
+      → Adds (recordStops form g (recordOf this)) (recordCrowded form g (recordOf this)) (laid (lined (fieldFor form g (recordOf this)))) now n q mid
+      → Adds (rule15 form g (e + 1) rest) (not fit′ || someCrowded form g rest) (bodyOf form g rest) mid n′ r after → Left fit (recordsAt s i) now n r after
   records-on {fit} {now = now} {after = after} {n = n} {r = r} m a d =
       subst (λ (rs : List Record). Left fit rs now n r after) (sym list)
-      (subst (λ (c : Bool). Adds (rule15 kind g i (recordOf this ∷ rest)) (not fit || c) (bodyOf kind g (recordOf this ∷ rest)) now n r after) (crowded-cons kind g (recordOf this) rest)
-      (adds-by stops-here (body-cons kind g (recordOf this) rest)
-      (adds-join i (recordStops kind g (recordOf this)) (rule15 kind g (e + 1) rest) (recordCrowded kind g (recordOf this)) (someCrowded kind g rest) (laid (lined (fieldFor kind g (recordOf this)))) (bodyOf kind g rest) m a d)))
+      (subst (λ (c : Bool). Adds (rule15 form g i (recordOf this ∷ rest)) (not fit || c) (bodyOf form g (recordOf this ∷ rest)) now n r after) (crowded-cons form g (recordOf this) rest)
+      (adds-by stops-here (body-cons form g (recordOf this) rest)
+      (adds-join i (recordStops form g (recordOf this)) (rule15 form g (e + 1) rest) (recordCrowded form g (recordOf this)) (someCrowded form g rest) (laid (lined (fieldFor form g (recordOf this)))) (bodyOf form g rest) m a d)))
 
 -- no record is left
-pub records-end : (kind : ℕ) (g : Bool) (s : List ℕ) (i : ℕ) → i ≤ length s → length s ≤ i → (fit : Bool) {now after : List ℕ} {n : ℕ} {r : Step} → Adds Fine (not fit) closing now n r after
-    → Adds (rule15 kind g i (recordsAt s i)) (not fit || someCrowded kind g (recordsAt s i)) (bodyOf kind g (recordsAt s i)) now n r after
+pub records-end : (form : Form) (g : Bool) (s : List ℕ) (i : ℕ) → i ≤ length s → length s ≤ i → (fit : Bool) {now after : List ℕ} {n : ℕ} {r : Step} → Adds Fine (not fit) closing now n r after
+    → Adds (rule15 form g i (recordsAt s i)) (not fit || someCrowded form g (recordsAt s i)) (bodyOf form g (recordsAt s i)) now n r after
 unfolding rule15 spread
-records-end kind g s i h k fit {now} {after} {n} {r} a =
+records-end form g s i h k fit {now} {after} {n} {r} a =
     let z : length s ≡ i = omega arith in
-    subst (λ (rs : List Record). Adds (rule15 kind g i rs) (not fit || someCrowded kind g rs) (bodyOf kind g rs) now n r after) (sym (ap (recordsAt s) (sym z) ∙ front-end s)) (subst (λ (b : Bool). Adds Fine b closing now n r after) (sym (or-none (not fit))) a)
+    subst (λ (rs : List Record). Adds (rule15 form g i rs) (not fit || someCrowded form g rs) (bodyOf form g rs) now n r after) (sym (ap (recordsAt s) (sym z) ∙ front-end s)) (subst (λ (b : Bool). Adds Fine b closing now n r after) (sym (or-none (not fit))) a)
   where
     or-none : (b : Bool) → (b || false) ≡ b
     or-none true = refl

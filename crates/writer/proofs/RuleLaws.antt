@@ -9,7 +9,7 @@ use Rattle.base.specs.Calls.{short}
 use Rattle.base.specs.declared.Verdict.{Verdict}
 use Rattle.base.specs.declared.Verdict.the-variants.{Fine}
 use Rattle.base.proofs.RuleLaws.{then-fine, then-clean, first-append, first-holds, Clean, first-clean, clean-first}
-use Rattle.records.specs.Rule19.{sheetType}
+use Rattle.records.specs.Rule19.{sheetForm}
 use Rattle.writer.specs.Sheet.{handRules}
 use Rattle.writer.specs.Sheet.{messageFor, sheetRules, EachSheetRule, ownRule, writeRules, NoRefusal}
 
@@ -35,7 +35,7 @@ module _ (s : List ℕ) where
     -- what is known before the room is looked at, then 17, then the message's own refusal
     pub write-by : first (writeRules s out) ≡ then (first (sheetRules s)) (then (short (messageFor s) out) (ownRule s))
     write-by =
-        first-append (sheetRules s) (handRules (sheetType s) (messageFor s) out)
+        first-append (sheetRules s) (handRules (sheetForm s) (messageFor s) out)
         ∙ ap (λ (v : Verdict). then (first (sheetRules s)) (then (short (messageFor s) out) v)) (then-fine (ownRule s))
 
     pub write-rules : first (writeRules s out) ≡ Fine → NoRefusal s out

@@ -12,6 +12,7 @@ use Rattle.base.specs.declared.Verdict.the-variants.{Fine, Broken}
 use Rattle.base.specs.declared.Outcome.{Outcome}
 use Rattle.fields.specs.Field.{Field, field, message}
 use Rattle.fields.specs.Frame.{limit}
+use Rattle.types.specs.declared.Form.{Form}
 use Rattle.types.specs.Walk.{rule18}
 use Rattle.roles.specs.Role.{shapeOf, Part, lineOf}
 use Rattle.roles.specs.Speech.{codeSize}
@@ -20,7 +21,7 @@ use Rattle.roles.specs.declared.Shape.the-variants.{Plain, Payer, Payee, Agent,
 use Rattle.judge.specs.Message.{verdictOf}
 use Rattle.records.specs.Record.{Record, records}
 use Rattle.records.specs.Places.{nextOf}
-use Rattle.records.specs.Rule19.{sheetType, sheetSign, rule19}
+use Rattle.records.specs.Rule19.{sheetForm, sheetSign, rule19}
 use Rattle.details.specs.declared.Place.the-variants.{In70}
 use Rattle.details.specs.declared.Size.{Size}
 use Rattle.details.specs.declared.Size.the-variants as size
@@ -39,9 +40,9 @@ unsaid s o [] = Fine
 unsaid s o (p ∷ ps) = then (stoppedAt o (saidPart s p)) (unsaid s (o + length (lineOf p) + 1) ps)
 
 -- records one behind another, the first at o
-unfoldable pub rule15 : ℕ → Bool → ℕ → List Record → Verdict
-rule15 kind s o [] = Fine
-rule15 kind s o (field t ps ∷ rs) = then (unsaid s (o + length t + 1) (castParts (shapeOf kind t) ps)) (rule15 kind s (nextOf o (field t ps)) rs)
+unfoldable pub rule15 : Form → Bool → ℕ → List Record → Verdict
+rule15 form s o [] = Fine
+rule15 form s o (field t ps ∷ rs) = then (unsaid s (o + length t + 1) (castParts (shapeOf form t) ps)) (rule15 form s (nextOf o (field t ps)) rs)
 
 -- ---- 16: details that don't go into the lines of their field
 abbrev pub isUnfit : Size → Bool
@@ -61,16 +62,16 @@ crowded s Payer ps = false
 crowded s Payee ps = false
 crowded s Agent ps = false
 
-abbrev pub someCrowded : ℕ → Bool → List Record → Bool
-someCrowded kind s [] = false
-someCrowded kind s (field t ps ∷ rs) = crowded s (shapeOf kind t) ps || someCrowded kind s rs
+abbrev pub someCrowded : Form → Bool → List Record → Bool
+someCrowded form s [] = false
+someCrowded form s (field t ps ∷ rs) = crowded s (shapeOf form t) ps || someCrowded form s rs
 
-unfoldable pub rule16 : ℕ → Bool → List Record → Verdict
-rule16 kind s rs = pick (someCrowded kind s rs) (Broken 16 0) Fine
+unfoldable pub rule16 : Form → Bool → List Record → Verdict
+rule16 form s rs = pick (someCrowded form s rs) (Broken 16 0) Fine
 
 -- ---- the message: the fields of the records behind the first
 unfoldable pub fieldsOf : List ℕ → List Field
-fieldsOf s = spread (sheetType s) (sheetSign s) (tail (records s))
+fieldsOf s = spread (sheetForm s) (sheetSign s) (tail (records s))
 
 unfoldable pub messageFor : List ℕ → List ℕ
 messageFor s = message (fieldsOf s)
@@ -78,30 +79,30 @@ messageFor s = message (fieldsOf s)
 -- ---- what is known of a sheet before the room is looked at
 abbrev pub sheetRules : List ℕ → List Verdict
 sheetRules s =
-    long limit s ∷ rule19 s ∷ rule18 (sheetType s) ∷ rule15 (sheetType s) (sheetSign s) 0 (records s) ∷ rule16 (sheetType s) (sheetSign s) (tail (records s)) ∷ []
+    long limit s ∷ rule19 s ∷ rule18 (sheetForm s) ∷ rule15 (sheetForm s) (sheetSign s) 0 (records s) ∷ rule16 (sheetForm s) (sheetSign s) (tail (records s)) ∷ []
 
 -- the same by name: what is said of each of them
 pub record EachSheetRule (P : Verdict → Type 0) (s : List ℕ) : Type 0 where
   pub size : P (long limit s)
   pub sound : P (rule19 s)
-  pub type : P (rule18 (sheetType s))
-  pub texts : P (rule15 (sheetType s) (sheetSign s) 0 (records s))
-  pub details : P (rule16 (sheetType s) (sheetSign s) (tail (records s)))
+  pub type : P (rule18 (sheetForm s))
+  pub texts : P (rule15 (sheetForm s) (sheetSign s) 0 (records s))
+  pub details : P (rule16 (sheetForm s) (sheetSign s) (tail (records s)))
 
 -- ---- a message handed over: 17, then its own refusal, which has place 0, since nobody has seen the message
 abbrev pub atStart : Verdict → Verdict
 atStart Fine = Fine
 atStart (Broken n p) = Broken n 0
 
-abbrev pub handRules : ℕ → List ℕ → List ℕ → List Verdict
-handRules kind m out = short m out ∷ atStart (verdictOf kind m) ∷ []
+abbrev pub handRules : Form → List ℕ → List ℕ → List Verdict
+handRules form m out = short m out ∷ atStart (verdictOf form m) ∷ []
 
 -- ---- the call: what is known before the room is looked at, then 17, then the message's own refusal
 abbrev pub ownRule : List ℕ → Verdict
-ownRule s = atStart (verdictOf (sheetType s) (messageFor s))
+ownRule s = atStart (verdictOf (sheetForm s) (messageFor s))
 
 abbrev pub writeRules : List ℕ → List ℕ → List Verdict
-writeRules s out = sheetRules s ++ handRules (sheetType s) (messageFor s) out
+writeRules s out = sheetRules s ++ handRules (sheetForm s) (messageFor s) out
 
 -- no rule of the call is broken
 pub record NoRefusal (s out : List ℕ) : Type 0 where

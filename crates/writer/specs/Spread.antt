@@ -2,6 +2,7 @@
 use Prim.Native.Nat.{ℕ}
 use mathlib.Core.Bool.{Bool, true, false}
 use mathlib.Core.List.{List, [], _∷_, _++_, map}
+use Rattle.types.specs.declared.Form.{Form}
 use Rattle.base.specs.Choice.{pick}
 use Rattle.base.specs.Bytes.{empty}
 use Rattle.base.specs.Quoted.{bytes}
@@ -77,8 +78,8 @@ contentLines s Payee ps = map (lineFor s) (cast Payee ps)
 contentLines s Agent ps = map (lineFor s) (cast Agent ps)
 
 -- ---- from records to fields
-abbrev pub fieldFor : ℕ → Bool → Record → Field
-fieldFor kind s (field t ps) = field t (contentLines s (shapeOf kind t) ps)
+abbrev pub fieldFor : Form → Bool → Record → Field
+fieldFor form s (field t ps) = field t (contentLines s (shapeOf form t) ps)
 
-unfoldable pub spread : ℕ → Bool → List Record → List Field
-spread kind s rs = map (fieldFor kind s) rs
+unfoldable pub spread : Form → Bool → List Record → List Field
+spread form s rs = map (fieldFor form s) rs

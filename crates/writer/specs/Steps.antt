@@ -5,6 +5,7 @@ use mathlib.Core.Bool.{Bool, true, false}
 use mathlib.Core.List.{List, map}
 use lib.ListN.{length}
 use lib.Seq.{sets}
+use Rattle.types.specs.declared.Form.{Form}
 use Rattle.base.specs.Calls.{Gives}
 use Rattle.base.specs.declared.Verdict.{Verdict}
 use Rattle.base.specs.declared.Verdict.the-variants.{Fine, Broken}
@@ -45,16 +46,16 @@ abbrev pub Tells : Bool → Place → ℕ → List (List ℕ) → List ℕ → �
 Tells s p o ps out at r after = Adds (unsaid s o (coded ps)) (isUnfit (sizeFor p (codeSize s) (told s ps))) (laid (linesFor p (codeSize s) (told s ps))) out at r after
 
 -- ---- records
-abbrev pub recordStops : ℕ → Bool → Record → Verdict
-recordStops kind s (field t ps) = unsaid s (length t + 1) (castParts (shapeOf kind t) ps)
+abbrev pub recordStops : Form → Bool → Record → Verdict
+recordStops form s (field t ps) = unsaid s (length t + 1) (castParts (shapeOf form t) ps)
 
-abbrev pub recordCrowded : ℕ → Bool → Record → Bool
-recordCrowded kind s (field t ps) = crowded s (shapeOf kind t) ps
+abbrev pub recordCrowded : Form → Bool → Record → Bool
+recordCrowded form s (field t ps) = crowded s (shapeOf form t) ps
 
 -- the records from a place on
 abbrev pub recordsAt : List ℕ → ℕ → List Record
 recordsAt s i = map recordOf (front (piecesAt 10 s i))
 
 -- ---- the message handed over
-abbrev pub Hands : ℕ → List ℕ → List ℕ → Outcome → List ℕ → Type 0
-Hands kind m out r after = Gives (handRules kind m out) m out r after
+abbrev pub Hands : Form → List ℕ → List ℕ → Outcome → List ℕ → Type 0
+Hands form m out r after = Gives (handRules form m out) m out r after

@@ -25,6 +25,7 @@ use records::tags::tag_number;
 use roles::Shape;
 use roles::parts::first_role;
 use roles::shapes::shape_of;
+use types::Form;
 
 // The content parts of a record, by the shape of its tag.
 fn put_content(shape: Shape, sign: bool, l: &[u8], i: usize, out: &mut [u8], at: usize) -> Step
@@ -51,21 +52,21 @@ fn put_tag(t: &[u8], out: &mut [u8], at: usize) -> usize
 }
 
 // A record, without its LF, as a field.
-fn put_record(kind: u32, sign: bool, l: &[u8], out: &mut [u8], at: usize) -> Step
-    requires { ⌜ (length (now l) ≤ 10000) × (at + 200000 ≤ near) × (good kind sign (recordOf (now l)) ≡ true) ⌝ }
-    ensures { λ r. ⌜ Adds (recordStops kind sign (recordOf (now (l .entry)))) (recordCrowded kind sign (recordOf (now (l .entry)))) (laid (lined (fieldFor kind sign (recordOf (now (l .entry)))))) (now (out .entry)) at r (now (out .exit)) × Within r (length (now (l .entry))) (at + 400 * (length (now (l .entry)) + 1)) ⌝ }
+fn put_record(form: Form, sign: bool, l: &[u8], out: &mut [u8], at: usize) -> Step
+    requires { ⌜ (length (now l) ≤ 10000) × (at + 200000 ≤ near) × (good form sign (recordOf (now l)) ≡ true) ⌝ }
+    ensures { λ r. ⌜ Adds (recordStops form sign (recordOf (now (l .entry)))) (recordCrowded form sign (recordOf (now (l .entry)))) (laid (lined (fieldFor form sign (recordOf (now (l .entry)))))) (now (out .entry)) at r (now (out .exit)) × Within r (length (now (l .entry))) (at + 400 * (length (now (l .entry)) + 1)) ⌝ }
 {
     let t = mark_at(b'\t', l, 0);
     let tag = &l[..t];
-    let shape = shape_of(kind, tag_number(tag));
+    let shape = shape_of(form, tag_number(tag));
     let n = put_tag(tag, out, at);
     put_content(shape, sign, l, t + 1, out, n)
 }
 
 // The message of a sheet that 19 lets pass: the records behind the first, which has six bytes.
-pub(crate) fn put_message(s: &[u8], kind: u32, sign: bool, out: &mut [u8]) -> Step
-    requires { ⌜ (length (now s) ≤ 10000) × (7 ≤ length (now s)) × (badLine kind sign 7 (piecesAt 10 (now s) 7) ≡ Fine) ⌝ }
-    ensures { λ r. ⌜ Adds (rule15 kind sign 7 (recordsAt (now (s .entry)) 7)) (someCrowded kind sign (recordsAt (now (s .entry)) 7)) (message (spread kind sign (recordsAt (now (s .entry)) 7))) (now (out .entry)) 0 r (now (out .exit)) ⌝ }
+pub(crate) fn put_message(s: &[u8], form: Form, sign: bool, out: &mut [u8]) -> Step
+    requires { ⌜ (length (now s) ≤ 10000) × (7 ≤ length (now s)) × (badLine form sign 7 (piecesAt 10 (now s) 7) ≡ Fine) ⌝ }
+    ensures { λ r. ⌜ Adds (rule15 form sign 7 (recordsAt (now (s .entry)) 7)) (someCrowded form sign (recordsAt (now (s .entry)) 7)) (message (spread form sign (recordsAt (now (s .entry)) 7))) (now (out .entry)) 0 r (now (out .exit)) ⌝ }
 {
     put(out, 0, b"{4:\r\n");
     let mut fit = true;
@@ -73,7 +74,7 @@ pub(crate) fn put_message(s: &[u8], kind: u32, sign: bool, out: &mut [u8]) -> St
     let mut i = 7;
     while i < s.len() {
         let e = mark_at(b'\n', s, i);
-        match put_record(kind, sign, &s[i..e], out, n) {
+        match put_record(form, sign, &s[i..e], out, n) {
             Step::Stuck(k) => return Step::Stuck(i + k),
             Step::Unfit => fit = false,
             Step::Put(m) => n = m,

@@ -10,16 +10,17 @@ use base::Verdict;
 use base::bytes::put;
 use judge::calls::judge;
 use records::sheets::judge_sheet;
+use types::Form;
 
 // As many bytes as a sheet or a message may have.
 const ROOM: usize = 10000;
 
 // The message put into the lent room, which has room for it; or its own refusal, with place 0.
-fn hand_over(kind: u32, m: &[u8], out: &mut [u8]) -> Outcome
+fn hand_over(form: Form, m: &[u8], out: &mut [u8]) -> Outcome
     requires { ⌜ length (now m) ≤ length (now out) ⌝ }
-    ensures { λ r. ⌜ Hands kind (now (m .entry)) (now (out .entry)) r (now (out .exit)) ⌝ }
+    ensures { λ r. ⌜ Hands form (now (m .entry)) (now (out .entry)) r (now (out .exit)) ⌝ }
 {
-    let f = judge(kind, m);
+    let f = judge(form, m);
     let verdict = f.verdict;
     if let Verdict::Broken { number, place } = verdict {
         return Outcome::Refused { number, place: 0 };
@@ -40,12 +41,12 @@ pub fn to_message(sheet: &[u8], out: &mut [u8]) -> Outcome
     }
     let j = judge_sheet(sheet);
     let verdict = j.verdict;
-    let kind = j.kind;
+    let form = j.form;
     if let Verdict::Broken { number, place } = verdict {
         return Outcome::Refused { number, place };
     }
     let mut m = [0u8; ROOM];
-    match put_message(sheet, kind, j.sign, &mut m) {
+    match put_message(sheet, form, j.sign, &mut m) {
         Step::Stuck(k) => Outcome::Refused {
             number: 15,
             place: k,
@@ -67,7 +68,7 @@ pub fn to_message(sheet: &[u8], out: &mut [u8]) -> Outcome
                     place: 0,
                 };
             }
-            hand_over(kind, &m[..n], out)
+            hand_over(form, &m[..n], out)
         }
     }
 }

@@ -7,6 +7,7 @@ use base::bytes::is_same;
 use base::bytes::past;
 use libc::STDOUT_FILENO;
 use sheets::calls::to_sheet;
+use types::Form;
 use writer::calls::to_message;
 
 // The longest room that is lent.
@@ -52,21 +53,21 @@ fn tell_same(a: &[u8], b: &[u8]) {
     io::write_all(STDOUT_FILENO, b"other\n");
 }
 
-// The type of a sheet that was written, by the first digit.
-fn kind_of(sheet: &[u8]) -> u32 {
+// The form of a sheet that was written, by the first digit of its type.
+fn form_named(sheet: &[u8]) -> Form {
     if sheet.len() < 4 {
-        return 0;
+        return Form::Other;
     }
     if sheet[3] == b'1' {
-        return 103;
+        return Form::Mt103;
     }
-    202
+    Form::Mt202
 }
 
 // The message read, and its sheet held against the one it was written from.
 fn tell_back(sheet: &[u8], m: &[u8]) {
     let mut out = [0u8; LONGEST];
-    match to_sheet(kind_of(sheet), m, &mut out) {
+    match to_sheet(form_named(sheet), m, &mut out) {
         Outcome::Done(n) => tell_same(front(&out, n), sheet),
         Outcome::Refused { number, place } => tell_refusal(number, place),
     }

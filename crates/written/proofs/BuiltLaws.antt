@@ -18,13 +18,15 @@ use Rattle.fields.specs.Shapes.{shaped, proper}
 use Rattle.fields.proofs.FieldLaws.{fields-message}
 use Rattle.fields.proofs.WrittenLaws.{rule2-message, rule3-message, rule4-message, proper-lineable}
 use Rattle.fields.proofs.TagLaws.{Shape as TagShape, plain, lettered, shape-of}
+use Rattle.types.specs.declared.Form.{Form}
+use Rattle.types.specs.declared.Form.the-variants.{Other, Mt103, Mt202}
 use Rattle.types.specs.Sign.{firstLine, signOf}
 use Rattle.contents.specs.Tags.{tags103, tags202, heldIn, heldBy}
 use Rattle.roles.specs.Role.{shapeFor, shapeOf, copy, cast}
 use Rattle.roles.specs.declared.Shape.{Shape}
 use Rattle.roles.specs.declared.Shape.the-variants.{Plain}
 use Rattle.records.specs.Record.{Record, records}
-use Rattle.records.specs.Rule19.{good, sheetType, sheetSign}
+use Rattle.records.specs.Rule19.{good, sheetForm, sheetSign}
 use Rattle.records.specs.Sentences.{Sound}
 use Rattle.records.proofs.RuleLaws.{fine-sound, sound-right}
 use Rattle.records.proofs.SoundLaws.{sound-each, sound-sign}
@@ -46,30 +48,36 @@ unfolding xset letter capital shared digit isIn marks
 colon-set = refl
 
 -- ---- records that 19, 15 and 16 let pass
-abbrev pub passes : ℕ → Bool → Record → Type 0
-passes kind s (field t ps) = (shaped t ≡ true) × Ready s (shapeOf kind t) ps
+abbrev pub passes : Form → Bool → Record → Type 0
+passes form s (field t ps) = (shaped t ≡ true) × Ready s (shapeOf form t) ps
 
-abbrev pub AllPass : ℕ → Bool → List Record → Type 0
-AllPass kind s [] = Unit {0}
-AllPass kind s (r ∷ rs) = passes kind s r × AllPass kind s rs
+abbrev pub AllPass : Form → Bool → List Record → Type 0
+AllPass form s [] = Unit {0}
+AllPass form s (r ∷ rs) = passes form s r × AllPass form s rs
 
-module _ (kind : ℕ) (s : Bool) where
-  one-passes : (r : Record) → good kind s r ≡ true → speaking kind s r ≡ true → roomy kind s r ≡ true → passes kind s r
+plain-20 : (form : Form) → shapeOf form (bytes "20") ≡ Plain
+unfolding shapeOf heldBy tags103 tags202 same
+plain-20 Mt103 = refl
+plain-20 Mt202 = refl
+plain-20 Other = refl
+
+module _ (form : Form) (s : Bool) where
+  one-passes : (r : Record) → good form s r ≡ true → speaking form s r ≡ true → roomy form s r ≡ true → passes form s r
   one-passes (field t ps) g a u =
-      (left (shaped t) _ g, record { is-right = sound-right s (shapeOf kind t) ps (right (shaped t) _ g); says = a; fits = isnt (crowded s (shapeOf kind t) ps) u })
+      (left (shaped t) _ g, record { is-right = sound-right s (shapeOf form t) ps (right (shaped t) _ g); says = a; fits = isnt (crowded s (shapeOf form t) ps) u })
 
-  pub all-pass : (rs : List Record) → all (good kind s) rs ≡ true → all (speaking kind s) rs ≡ true → all (roomy kind s) rs ≡ true → AllPass kind s rs
+  pub all-pass : (rs : List Record) → all (good form s) rs ≡ true → all (speaking form s) rs ≡ true → all (roomy form s) rs ≡ true → AllPass form s rs
   all-pass [] g a u = tt
   all-pass (r ∷ rs) g a u = (
-    one-passes r (left (good kind s r) _ g) (left (speaking kind s r) _ a) (left (roomy kind s r) _ u),
-    all-pass rs (right (good kind s r) _ g) (right (speaking kind s r) _ a) (right (roomy kind s r) _ u),
+    one-passes r (left (good form s r) _ g) (left (speaking form s r) _ a) (left (roomy form s r) _ u),
+    all-pass rs (right (good form s r) _ g) (right (speaking form s r) _ a) (right (roomy form s r) _ u),
   )
 
   -- ---- the fields are proper, and their lines of the set
-  all-proper : (rs : List Record) → AllPass kind s rs → all proper (map (fieldFor kind s) rs) ≡ true
+  all-proper : (rs : List Record) → AllPass form s rs → all proper (map (fieldFor form s) rs) ≡ true
   all-proper [] w = refl
   all-proper (field t ps ∷ rs) w =
-      both (fair-proper t (contentLines s (shapeOf kind t) ps) (w .0 .0) (ready-fair s (shapeOf kind t) ps (w .0 .1))) (all-proper rs (w .1))
+      both (fair-proper t (contentLines s (shapeOf form t) ps) (w .0 .0) (ready-fair s (shapeOf form t) ps (w .0 .1))) (all-proper rs (w .1))
 
   field-set : (t : List ℕ) (ls : List (List ℕ)) → shaped t ≡ true → all (all xset) ls ≡ true → (fs : List Field) → all (all xset) (linesOf fs) ≡ true
       → all (all xset) (linesOf (field t ls ∷ fs)) ≡ true
@@ -77,10 +85,10 @@ module _ (kind : ℕ) (s : Bool) where
   field-set t (l ∷ ls) e h fs k =
       both (both colon-set (all-append xset t (58 ∷ l) (tag-set t e) (both colon-set (left (all xset l) _ h)))) (all-append (all xset) ls (linesOf fs) (right (all xset l) _ h) k)
 
-  all-set : (rs : List Record) → AllPass kind s rs → all (all xset) (linesOf (map (fieldFor kind s) rs)) ≡ true
+  all-set : (rs : List Record) → AllPass form s rs → all (all xset) (linesOf (map (fieldFor form s) rs)) ≡ true
   all-set [] w = refl
   all-set (field t ps ∷ rs) w =
-      field-set t (contentLines s (shapeOf kind t) ps) (w .0 .0) (ready-fair s (shapeOf kind t) ps (w .0 .1) .inside) (map (fieldFor kind s) rs) (all-set rs (w .1))
+      field-set t (contentLines s (shapeOf form t) ps) (w .0 .0) (ready-fair s (shapeOf form t) ps (w .0 .1) .inside) (map (fieldFor form s) rs) (all-set rs (w .1))
 
   -- ---- the sign: field 20 is copied
   copied : (ps : List (List ℕ)) → map (lineFor s) (map copy ps) ≡ ps
@@ -91,25 +99,19 @@ module _ (kind : ℕ) (s : Bool) where
   unfolding contentLines cast
   plain-lines ps = copied ps
 
-  pub shape-20 : shapeOf kind (bytes "20") ≡ Plain
-  unfolding shapeOf heldBy tags103 tags202 same
-  shape-20 = go (eqb kind 103) (eqb kind 202)
-    where
-      go : (a b : Bool) → shapeFor (heldIn (pick a tags103 (pick b tags202 [])) (bytes "20")) ≡ Plain
-      go true b = refl
-      go false true = refl
-      go false false = refl
+  pub shape-20 : shapeOf form (bytes "20") ≡ Plain
+  shape-20 = plain-20 form
 
-  lines-20 : (t : List ℕ) (ps : List (List ℕ)) → same t (bytes "20") ≡ true → contentLines s (shapeOf kind t) ps ≡ ps
-  lines-20 t ps e = ap (λ (u : List ℕ). contentLines s (shapeOf kind u) ps) (same-is t (bytes "20") e) ∙ ap (λ (sh : Shape). contentLines s sh ps) shape-20 ∙ plain-lines ps
+  lines-20 : (t : List ℕ) (ps : List (List ℕ)) → same t (bytes "20") ≡ true → contentLines s (shapeOf form t) ps ≡ ps
+  lines-20 t ps e = ap (λ (u : List ℕ). contentLines s (shapeOf form u) ps) (same-is t (bytes "20") e) ∙ ap (λ (sh : Shape). contentLines s sh ps) shape-20 ∙ plain-lines ps
 
-  pub sign-spread : (rs : List Record) → signOf (map (fieldFor kind s) rs) ≡ signOf rs
+  pub sign-spread : (rs : List Record) → signOf (map (fieldFor form s) rs) ≡ signOf rs
   unfolding signOf
   sign-spread [] = refl
   sign-spread (field t ps ∷ rs) = go (same t (bytes "20")) refl (sign-spread rs)
     where
-      go : (b : Bool) → same t (bytes "20") ≡ b → signOf (map (fieldFor kind s) rs) ≡ signOf rs
-          → pick b (begins 43 (firstLine (contentLines s (shapeOf kind t) ps))) (signOf (map (fieldFor kind s) rs)) ≡ pick b (begins 43 (firstLine ps)) (signOf rs)
+      go : (b : Bool) → same t (bytes "20") ≡ b → signOf (map (fieldFor form s) rs) ≡ signOf rs
+          → pick b (begins 43 (firstLine (contentLines s (shapeOf form t) ps))) (signOf (map (fieldFor form s) rs)) ≡ pick b (begins 43 (firstLine ps)) (signOf rs)
       go true h e = ap (λ (k : List (List ℕ)). begins 43 (firstLine k)) (lines-20 t ps h)
       go false h e = e
 
@@ -121,26 +123,26 @@ module _ (s : List ℕ) (c : Clean (sheetRules s)) where
   behind-is : tail (records s) ≡ is-sound .behind
   behind-is = ap tail (is-sound .list)
 
-  spoken-all : all (speaking (sheetType s) (sheetSign s)) (tail (records s)) ≡ true
-  spoken-all = go (records s) (rule15-fine (sheetSign s) (sheetType s) 0 (records s) .0 (sheet-rules s c .texts))
+  spoken-all : all (speaking (sheetForm s) (sheetSign s)) (tail (records s)) ≡ true
+  spoken-all = go (records s) (rule15-fine (sheetSign s) (sheetForm s) 0 (records s) .0 (sheet-rules s c .texts))
     where
-      go : (rs : List Record) → all (speaking (sheetType s) (sheetSign s)) rs ≡ true → all (speaking (sheetType s) (sheetSign s)) (tail rs) ≡ true
+      go : (rs : List Record) → all (speaking (sheetForm s) (sheetSign s)) rs ≡ true → all (speaking (sheetForm s) (sheetSign s)) (tail rs) ≡ true
       go [] e = refl
-      go (r ∷ rs) e = right (speaking (sheetType s) (sheetSign s) r) _ e
+      go (r ∷ rs) e = right (speaking (sheetForm s) (sheetSign s) r) _ e
 
   -- each record behind the first is right, can be written and fits
-  pub records-pass : AllPass (sheetType s) (sheetSign s) (tail (records s))
+  pub records-pass : AllPass (sheetForm s) (sheetSign s) (tail (records s))
   records-pass =
-      all-pass (sheetType s) (sheetSign s) (tail (records s)) (ap (all (good (sheetType s) (sheetSign s))) behind-is ∙ sound-each s is-sound) spoken-all
-      (rule16-fine (sheetType s) (sheetSign s) (tail (records s)) (sheet-rules s c .details))
+      all-pass (sheetForm s) (sheetSign s) (tail (records s)) (ap (all (good (sheetForm s) (sheetSign s))) behind-is ∙ sound-each s is-sound) spoken-all
+      (rule16-fine (sheetForm s) (sheetSign s) (tail (records s)) (sheet-rules s c .details))
 
   pub fields-proper : all proper (fieldsOf s) ≡ true
   unfolding fieldsOf spread
-  fields-proper = all-proper (sheetType s) (sheetSign s) (tail (records s)) records-pass
+  fields-proper = all-proper (sheetForm s) (sheetSign s) (tail (records s)) records-pass
 
   pub fields-set : all (all xset) (linesOf (fieldsOf s)) ≡ true
   unfolding fieldsOf spread
-  fields-set = all-set (sheetType s) (sheetSign s) (tail (records s)) records-pass
+  fields-set = all-set (sheetForm s) (sheetSign s) (tail (records s)) records-pass
 
   -- 2, 3 and 4 let the message pass
   pub built-rule2 : rule2 (messageFor s) ≡ Fine
@@ -163,4 +165,4 @@ module _ (s : List ℕ) (c : Clean (sheetRules s)) where
   -- its sign is the sheet's
   pub built-sign : signOf (fieldsOf s) ≡ sheetSign s
   unfolding fieldsOf spread
-  built-sign = sign-spread (sheetType s) (sheetSign s) (tail (records s)) ∙ ap signOf behind-is ∙ sym (sound-sign s is-sound)
+  built-sign = sign-spread (sheetForm s) (sheetSign s) (tail (records s)) ∙ ap signOf behind-is ∙ sym (sound-sign s is-sound)

@@ -14,7 +14,7 @@ use Rattle.base.specs.Quoted.{bytes}
 use Rattle.base.specs.Calls.{textOf}
 use Rattle.base.proofs.Bools.{left, right, isnt}
 use Rattle.alphabets.specs.Best.{writing}
-use Rattle.values.specs.Values.{isTax}
+use Rattle.contents.specs.Tests.{looksTax}
 use Rattle.roles.specs.Role.{Part, copy, name, taxName, cast}
 use Rattle.roles.specs.Speech as speech
 use Rattle.roles.specs.Speech.{speech, told, toldAt, codeSize}
@@ -54,15 +54,15 @@ untaxed = roles.untaxed
 pub cast-untaxed : (sh : Shape) (ps : List (List ℕ)) → all untaxed (cast sh ps) ≡ true
 cast-untaxed = roles.cast-untaxed
 
-no-tax : (s : Bool) (p : List ℕ) → speaks s (taxName p) ≡ true → isTax p ≡ false → (s ≡ true → calm (taxName p) ≡ true) → isTax (textOf (writing s p)) ≡ false
+no-tax : (s : Bool) (p : List ℕ) → speaks s (taxName p) ≡ true → looksTax p ≡ false → (s ≡ true → calm (taxName p) ≡ true) → looksTax (textOf (writing s p)) ≡ false
 no-tax true p e t n = spelt-tax p (textOf (writing true p)) (said-is (writing true p) e) (isnt _ (n refl))
-no-tax false p e t n = ap isTax (plain-same p (textOf (writing false p)) (said-is (writing false p) e)) ∙ t
+no-tax false p e t n = ap looksTax (plain-same p (textOf (writing false p)) (said-is (writing false p) e)) ∙ t
 
 module _ (s : Bool) where
   steady-one : (x : Part) → speaks s x ≡ true → untaxed x ≡ true → (s ≡ true → calm x ≡ true) → Steady s x
   steady-one (copy p) e t n = tt
   steady-one (name p) e t n = spelt-head s 47 p (textOf (writing s p)) slash (said-is (writing s p) e)
-  steady-one (taxName p) e t n = (spelt-head s 47 p (textOf (writing s p)) slash (said-is (writing s p) e), no-tax s p e (isnt (isTax p) t) n)
+  steady-one (taxName p) e t n = (spelt-head s 47 p (textOf (writing s p)) slash (said-is (writing s p) e), no-tax s p e (isnt (looksTax p) t) n)
 
   all-steady : (xs : List Part) → all (speaks s) xs ≡ true → all untaxed xs ≡ true → (s ≡ true → all calm xs ≡ true) → AllSteady s xs
   all-steady [] e t n = tt

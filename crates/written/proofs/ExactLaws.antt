@@ -7,6 +7,7 @@ use mathlib.Core.List.{List, [], _∷_, _++_}
 use mathlib.Core.Logic.{_↔_}
 use native.Mathlib.Omega.{arith}
 use lib.ListN.{length}
+use Rattle.types.specs.declared.Form.{Form}
 use Rattle.base.specs.Choice.{pick, all}
 use Rattle.base.specs.Bytes.{xset}
 use Rattle.base.specs.Rules.{then}
@@ -120,16 +121,16 @@ module _ (s : Bool) where
       ∙ ap (Broken 15) (sym (w .place))
 
   -- ---- records one behind another
-  module _ (kind : ℕ) where
+  module _ (form : Form) where
     all-writable : (xs : List Part) → all (speaks s) xs ≡ true → Every (Writable s) xs
     all-writable [] e = tt
     all-writable (x ∷ xs) e = (speaks-writable x .0 (left (speaks s x) _ e), all-writable xs (right (speaks s x) _ e))
 
-    record-broken : (o : ℕ) (t : List ℕ) (ps : List (List ℕ)) (rs : List Record) (n p : ℕ) (v : Verdict) → unsaid s (o + length t + 1) (castParts (shapeOf kind t) ps) ≡ v
-        → then v (rule15 kind s (nextOf o (field t ps)) rs) ≡ Broken n p
-        → (rule15 kind s (nextOf o (field t ps)) rs ≡ Broken n p → (n ≡ 15) × StuckAt kind s (nextOf o (field t ps)) rs p) → (n ≡ 15) × StuckAt kind s o (field t ps ∷ rs) p
+    record-broken : (o : ℕ) (t : List ℕ) (ps : List (List ℕ)) (rs : List Record) (n p : ℕ) (v : Verdict) → unsaid s (o + length t + 1) (castParts (shapeOf form t) ps) ≡ v
+        → then v (rule15 form s (nextOf o (field t ps)) rs) ≡ Broken n p
+        → (rule15 form s (nextOf o (field t ps)) rs ≡ Broken n p → (n ≡ 15) × StuckAt form s (nextOf o (field t ps)) rs p) → (n ≡ 15) × StuckAt form s o (field t ps ∷ rs) p
     record-broken o t ps rs n p (Broken m q) u e ih =
-        let h = parts-broken (o + length t + 1) (castParts (shapeOf kind t) ps) n p (u ∙ e) in
+        let h = parts-broken (o + length t + 1) (castParts (shapeOf form t) ps) n p (u ∙ e) in
         let z : o + length t + 1 ≡ o + 0 + length t + 1 = omega arith in (
           h .0,
           record {
@@ -139,12 +140,12 @@ module _ (s : Bool) where
             behind = rs;
             list = refl;
             fine = tt;
-            stuck = subst (λ (k : ℕ). StuckPart s k (castParts (shapeOf kind t) ps) p) z (h .1);
+            stuck = subst (λ (k : ℕ). StuckPart s k (castParts (shapeOf form t) ps) p) z (h .1);
           },
         )
     record-broken o t ps rs n p Fine u e ih =
-        let h : (n ≡ 15) × StuckAt kind s (nextOf o (field t ps)) rs p = ih e in
-        let w : StuckAt kind s (nextOf o (field t ps)) rs p = h .1 in
+        let h : (n ≡ 15) × StuckAt form s (nextOf o (field t ps)) rs p = ih e in
+        let w : StuckAt form s (nextOf o (field t ps)) rs p = h .1 in
         let z : nextOf o (field t ps) + sizeOf (w .before) + length (w .tag) + 1 ≡ o + sizeOf (field t ps ∷ w .before) + length (w .tag) + 1 = omega arith in (
           h .0,
           record {
@@ -153,35 +154,35 @@ module _ (s : Bool) where
             parts = w .parts;
             behind = w .behind;
             list = ap (λ (l : List Record). field t ps ∷ l) (w .list);
-            fine = (all-writable (castParts (shapeOf kind t) ps) (said-all s (o + length t + 1) (castParts (shapeOf kind t) ps) u), w .fine);
-            stuck = subst (λ (k : ℕ). StuckPart s k (castParts (shapeOf kind (w .tag)) (w .parts)) p) z (w .stuck);
+            fine = (all-writable (castParts (shapeOf form t) ps) (said-all s (o + length t + 1) (castParts (shapeOf form t) ps) u), w .fine);
+            stuck = subst (λ (k : ℕ). StuckPart s k (castParts (shapeOf form (w .tag)) (w .parts)) p) z (w .stuck);
           },
         )
 
-    pub rule15-broken : (o : ℕ) (rs : List Record) (n p : ℕ) → rule15 kind s o rs ≡ Broken n p → (n ≡ 15) × StuckAt kind s o rs p
+    pub rule15-broken : (o : ℕ) (rs : List Record) (n p : ℕ) → rule15 form s o rs ≡ Broken n p → (n ≡ 15) × StuckAt form s o rs p
     unfolding rule15
     rule15-broken o [] n p e = absurd (fine-broken n p e)
     rule15-broken o (field t ps ∷ rs) n p e =
-        record-broken o t ps rs n p (unsaid s (o + length t + 1) (castParts (shapeOf kind t) ps)) refl e (rule15-broken (nextOf o (field t ps)) rs n p)
+        record-broken o t ps rs n p (unsaid s (o + length t + 1) (castParts (shapeOf form t) ps)) refl e (rule15-broken (nextOf o (field t ps)) rs n p)
 
-    hit : (o : ℕ) (us : List Record) (t : List ℕ) (ps : List (List ℕ)) (vs : List Record) (p : ℕ) → Every (WritableRecord kind s) us
-        → StuckPart s (o + sizeOf us + length t + 1) (castParts (shapeOf kind t) ps) p → rule15 kind s o (us ++ field t ps ∷ vs) ≡ Broken 15 p
+    hit : (o : ℕ) (us : List Record) (t : List ℕ) (ps : List (List ℕ)) (vs : List Record) (p : ℕ) → Every (WritableRecord form s) us
+        → StuckPart s (o + sizeOf us + length t + 1) (castParts (shapeOf form t) ps) p → rule15 form s o (us ++ field t ps ∷ vs) ≡ Broken 15 p
     unfolding rule15
     hit o [] t ps vs p w h =
         let z : o + 0 + length t + 1 ≡ o + length t + 1 = omega arith in
-        ap (λ (v : Verdict). then v (rule15 kind s (nextOf o (field t ps)) vs))
-        (stuck-broken (o + length t + 1) (castParts (shapeOf kind t) ps) p (subst (λ (k : ℕ). StuckPart s k (castParts (shapeOf kind t) ps) p) z h))
+        ap (λ (v : Verdict). then v (rule15 form s (nextOf o (field t ps)) vs))
+        (stuck-broken (o + length t + 1) (castParts (shapeOf form t) ps) p (subst (λ (k : ℕ). StuckPart s k (castParts (shapeOf form t) ps) p) z h))
     hit o (field u qs ∷ us) t ps vs p w h =
         let z : o + sizeOf (field u qs ∷ us) + length t + 1 ≡ nextOf o (field u qs) + sizeOf us + length t + 1 = omega arith in
-        ap (λ (v : Verdict). then v (rule15 kind s (nextOf o (field u qs)) (us ++ field t ps ∷ vs)))
-        (all-said s (o + length u + 1) (castParts (shapeOf kind u) qs) (every-speaks (castParts (shapeOf kind u) qs) (w .0)))
-        ∙ hit (nextOf o (field u qs)) us t ps vs p (w .1) (subst (λ (k : ℕ). StuckPart s k (castParts (shapeOf kind t) ps) p) z h)
+        ap (λ (v : Verdict). then v (rule15 form s (nextOf o (field u qs)) (us ++ field t ps ∷ vs)))
+        (all-said s (o + length u + 1) (castParts (shapeOf form u) qs) (every-speaks (castParts (shapeOf form u) qs) (w .0)))
+        ∙ hit (nextOf o (field u qs)) us t ps vs p (w .1) (subst (λ (k : ℕ). StuckPart s k (castParts (shapeOf form t) ps) p) z h)
 
-    stuck-rule15 : (o : ℕ) (rs : List Record) (p : ℕ) → StuckAt kind s o rs p → rule15 kind s o rs ≡ Broken 15 p
-    stuck-rule15 o rs p w = ap (rule15 kind s o) (w .list) ∙ hit o (w .before) (w .tag) (w .parts) (w .behind) p (w .fine) (w .stuck)
+    stuck-rule15 : (o : ℕ) (rs : List Record) (p : ℕ) → StuckAt form s o rs p → rule15 form s o rs ≡ Broken 15 p
+    stuck-rule15 o rs p w = ap (rule15 form s o) (w .list) ∙ hit o (w .before) (w .tag) (w .parts) (w .behind) p (w .fine) (w .stuck)
 
     -- 15 exactly if some part can't be written, at the first byte of the sheet that can't
-    pub rule15-iff : (o : ℕ) (rs : List Record) (p : ℕ) → (rule15 kind s o rs ≡ Broken 15 p) ↔ StuckAt kind s o rs p
+    pub rule15-iff : (o : ℕ) (rs : List Record) (p : ℕ) → (rule15 form s o rs ≡ Broken 15 p) ↔ StuckAt form s o rs p
     rule15-iff o rs p = (λ e. rule15-broken o rs 15 p e .1, stuck-rule15 o rs p)
 
 -- ---- 16
@@ -212,41 +213,41 @@ module _ (s : Bool) where
   none-crowded (pastRpp {r = []} {ps = ps} e n) = absurd (true≢false e)
   none-crowded (pastRpp {r = x ∷ r} {ps = ps} e n) = unfit-undivided BehindRpp ps .1 n
 
-  module _ (kind : ℕ) where
-    some-crowded : (rs : List Record) → someCrowded kind s rs ≡ true → CrowdedIn kind s rs
+  module _ (form : Form) where
+    some-crowded : (rs : List Record) → someCrowded form s rs ≡ true → CrowdedIn form s rs
     some-crowded [] e = absurd (false≢true e)
-    some-crowded (field t ps ∷ rs) e = go (crowded s (shapeOf kind t) ps) refl e (some-crowded rs)
+    some-crowded (field t ps ∷ rs) e = go (crowded s (shapeOf form t) ps) refl e (some-crowded rs)
       where
-        go : (b : Bool) → crowded s (shapeOf kind t) ps ≡ b → (b || someCrowded kind s rs) ≡ true → (someCrowded kind s rs ≡ true → CrowdedIn kind s rs) → CrowdedIn kind s (field t ps ∷ rs)
-        go true q e ih = record { before = []; tag = t; parts = ps; behind = rs; list = refl; no-way = crowded-none (shapeOf kind t) ps q }
+        go : (b : Bool) → crowded s (shapeOf form t) ps ≡ b → (b || someCrowded form s rs) ≡ true → (someCrowded form s rs ≡ true → CrowdedIn form s rs) → CrowdedIn form s (field t ps ∷ rs)
+        go true q e ih = record { before = []; tag = t; parts = ps; behind = rs; list = refl; no-way = crowded-none (shapeOf form t) ps q }
         go false q e ih =
-            let w : CrowdedIn kind s rs = ih e in
+            let w : CrowdedIn form s rs = ih e in
             record { before = field t ps ∷ w .before; tag = w .tag; parts = w .parts; behind = w .behind; list = ap (λ (l : List Record). field t ps ∷ l) (w .list); no-way = w .no-way }
 
-    found : (us : List Record) (t : List ℕ) (ps : List (List ℕ)) (vs : List Record) → crowded s (shapeOf kind t) ps ≡ true → someCrowded kind s (us ++ field t ps ∷ vs) ≡ true
-    found [] t ps vs e = ap (λ (b : Bool). b || someCrowded kind s vs) e
-    found (field u qs ∷ us) t ps vs e = go (crowded s (shapeOf kind u) qs) (found us t ps vs e)
+    found : (us : List Record) (t : List ℕ) (ps : List (List ℕ)) (vs : List Record) → crowded s (shapeOf form t) ps ≡ true → someCrowded form s (us ++ field t ps ∷ vs) ≡ true
+    found [] t ps vs e = ap (λ (b : Bool). b || someCrowded form s vs) e
+    found (field u qs ∷ us) t ps vs e = go (crowded s (shapeOf form u) qs) (found us t ps vs e)
       where
-        go : (b : Bool) → someCrowded kind s (us ++ field t ps ∷ vs) ≡ true → (b || someCrowded kind s (us ++ field t ps ∷ vs)) ≡ true
+        go : (b : Bool) → someCrowded form s (us ++ field t ps ∷ vs) ≡ true → (b || someCrowded form s (us ++ field t ps ∷ vs)) ≡ true
         go true h = refl
         go false h = h
 
     -- some details record of the type has no division in any way
-    pub crowded-iff : (rs : List Record) → (someCrowded kind s rs ≡ true) ↔ CrowdedIn kind s rs
-    crowded-iff rs = (some-crowded rs, λ w. ap (someCrowded kind s) (w .list) ∙ found (w .before) (w .tag) (w .parts) (w .behind) (none-crowded (w .no-way)))
+    pub crowded-iff : (rs : List Record) → (someCrowded form s rs ≡ true) ↔ CrowdedIn form s rs
+    crowded-iff rs = (some-crowded rs, λ w. ap (someCrowded form s) (w .list) ∙ found (w .before) (w .tag) (w .parts) (w .behind) (none-crowded (w .no-way)))
 
-    pub rule16-broken : (rs : List Record) (n p : ℕ) → rule16 kind s rs ≡ Broken n p → (n ≡ 16) × (p ≡ 0) × CrowdedIn kind s rs
+    pub rule16-broken : (rs : List Record) (n p : ℕ) → rule16 form s rs ≡ Broken n p → (n ≡ 16) × (p ≡ 0) × CrowdedIn form s rs
     unfolding rule16
-    rule16-broken rs n p e = go (someCrowded kind s rs) refl e
+    rule16-broken rs n p e = go (someCrowded form s rs) refl e
       where
-        go : (b : Bool) → someCrowded kind s rs ≡ b → pick b (Broken 16 0) Fine ≡ Broken n p → (n ≡ 16) × (p ≡ 0) × CrowdedIn kind s rs
+        go : (b : Bool) → someCrowded form s rs ≡ b → pick b (Broken 16 0) Fine ≡ Broken n p → (n ≡ 16) × (p ≡ 0) × CrowdedIn form s rs
         go true q e = (cc, cc, some-crowded rs q)
         go false q e = absurd (fine-broken n p e)
 
-    pub crowded-rule16 : (rs : List Record) → CrowdedIn kind s rs → rule16 kind s rs ≡ Broken 16 0
+    pub crowded-rule16 : (rs : List Record) → CrowdedIn form s rs → rule16 form s rs ≡ Broken 16 0
     unfolding rule16
     crowded-rule16 rs w = ap (λ (b : Bool). pick b (Broken 16 0) Fine) (crowded-iff rs .1 w)
 
     -- 16 exactly then
-    pub rule16-iff : (rs : List Record) → (rule16 kind s rs ≡ Broken 16 0) ↔ CrowdedIn kind s rs
+    pub rule16-iff : (rs : List Record) → (rule16 form s rs ≡ Broken 16 0) ↔ CrowdedIn form s rs
     rule16-iff rs = (λ e. rule16-broken rs 16 0 e .2, crowded-rule16 rs)

@@ -4,6 +4,7 @@ use Prim.Native.Nat.{ℕ}
 use mathlib.Core.Path.{_≡_, refl, ap}
 use mathlib.Core.Bool.{Bool, true, false, true≢false, false≢true}
 use mathlib.Core.List.{List, [], _∷_, _++_, map, tail}
+use Rattle.types.specs.declared.Form.{Form}
 use Rattle.base.specs.Choice.{pick, all}
 use Rattle.base.specs.Bytes.{empty}
 use Rattle.base.specs.Calls.{textOf}
@@ -16,7 +17,7 @@ use Rattle.roles.specs.Speech.{codeSize}
 use Rattle.roles.specs.declared.Shape.{Shape}
 use Rattle.roles.specs.declared.Shape.the-variants.{Plain, Payer, Payee, Agent, Note202}
 use Rattle.records.specs.Record.{Record, records}
-use Rattle.records.specs.Rule19.{sheetType, sheetSign}
+use Rattle.records.specs.Rule19.{sheetForm, sheetSign}
 use Rattle.records.specs.Sentences.{Right}
 use Rattle.records.specs.Sentences as sentences
 use Rattle.details.specs.Lines.{together, Division, lines}
@@ -87,12 +88,12 @@ module _ (s : Bool) where
       go (sentences.note202 r v t d e) a u =
           note-made (empty r) r v t refl (left (speaks s (name t)) _ (right (speaks s (copy v)) _ (right (speaks s (copy r)) _ a))) u
 
-  fields-made : (kind : ℕ) (rs : List Record) → AllPass kind s rs → OneByOne (Made kind s) rs (map (fieldFor kind s) rs)
-  fields-made kind [] w = tt
-  fields-made kind (field t ps ∷ rs) w = ((refl, content-made (shapeOf kind t) ps (w .0 .1)), fields-made kind rs (w .1))
+  fields-made : (form : Form) (rs : List Record) → AllPass form s rs → OneByOne (Made form s) rs (map (fieldFor form s) rs)
+  fields-made form [] w = tt
+  fields-made form (field t ps ∷ rs) w = ((refl, content-made (shapeOf form t) ps (w .0 .1)), fields-made form rs (w .1))
 
 -- ---- a sheet that no rule before 17 refuses: the fields of its message
 module _ (s : List ℕ) (c : Clean (sheetRules s)) where
-  pub built-made : OneByOne (Made (sheetType s) (sheetSign s)) (tail (records s)) (fields (messageFor s))
+  pub built-made : OneByOne (Made (sheetForm s) (sheetSign s)) (tail (records s)) (fields (messageFor s))
   unfolding fieldsOf spread
-  built-made = rw (built-fields s c) (fields-made (sheetSign s) (sheetType s) (tail (records s)) (records-pass s c))
+  built-made = rw (built-fields s c) (fields-made (sheetSign s) (sheetForm s) (tail (records s)) (records-pass s c))

@@ -15,6 +15,7 @@ use Rattle.base.proofs.RuleLaws.{fine-broken, Clean}
 use Rattle.fields.specs.Field.{fields}
 use Rattle.fields.specs.Frame.{limit, rule1}
 use Rattle.fields.specs.Places.{startOf}
+use Rattle.types.specs.declared.Form.{Form}
 use Rattle.types.specs.Form.{Place, placesOf}
 use Rattle.types.specs.Sign.{signOf}
 use Rattle.types.specs.Walk.{walked}
@@ -25,7 +26,7 @@ use Rattle.values.proofs.RuleLaws.{broken9, broken10, broken11, broken12, broke
 use Rattle.roles.specs.Rule14.{rule14}
 use Rattle.judge.specs.Message.{EachRule, verdictOf}
 use Rattle.judge.proofs.RuleLaws.{verdict-holds}
-use Rattle.records.specs.Rule19.{sheetType}
+use Rattle.records.specs.Rule19.{sheetForm}
 use Rattle.written.specs.Sentences.{Own}
 use Rattle.writer.specs.Sheet.{messageFor, sheetRules, atStart, ownRule}
 use Rattle.writer.proofs.RuleLaws.{sheet-rules}
@@ -57,23 +58,23 @@ faulty (notLater q h l) z = inr (omega arith, omega arith)
 faulty (skipping q h l k) z = inr (omega arith, omega arith)
 faulty (right q h l k) z = absurd (z refl)
 
-gives-5-7 : (kind : ℕ) (m : List ℕ) → Gives Own (walked kind m)
-gives-5-7 kind m n p e = go (walked-refused kind m n p .0 e)
+gives-5-7 : (form : Form) (m : List ℕ) → Gives Own (walked form m)
+gives-5-7 form m n p e = go (walked-refused form m n p .0 e)
   where
-    go : Refused (placesOf kind) 0 5 (fields m) n p → Own n
+    go : Refused (placesOf form) 0 5 (fields m) n p → Own n
     go (atField r) = faulty (r .fault) (r .faulty)
     go (atEnd r) = from-5 7 (r .number) (omega arith) (omega arith)
 
-gives-8 : (kind : ℕ) (m : List ℕ) → Gives Own (rule8 kind m)
+gives-8 : (form : Form) (m : List ℕ) → Gives Own (rule8 form m)
 unfolding rule8
-gives-8 kind m n p e = from-5 8 (own-number 8 (rightField kind (signOf (fields m))) startOf 5 (fields m) n p e) (omega arith) (omega arith)
+gives-8 form m n p e = from-5 8 (own-number 8 (rightField form (signOf (fields m))) startOf 5 (fields m) n p e) (omega arith) (omega arith)
 
 -- ---- a sheet that no rule before 17 refuses
 module _ (s : List ℕ) (c : Clean (sheetRules s)) where
-  rule14-fine : rule14 (sheetType s) (fields (messageFor s)) ≡ Fine
-  rule14-fine = ap (rule14 (sheetType s)) (built-fields s c) ∙ built-rule14 s c
+  rule14-fine : rule14 (sheetForm s) (fields (messageFor s)) ≡ Fine
+  rule14-fine = ap (rule14 (sheetForm s)) (built-fields s c) ∙ built-rule14 s c
 
-  all-give : EachRule (Gives Own) (sheetType s) (messageFor s)
+  all-give : EachRule (Gives Own) (sheetForm s) (messageFor s)
   all-give =
       record {
         pass = record {
@@ -82,27 +83,27 @@ module _ (s : List ℕ) (c : Clean (sheetRules s)) where
           frame = none-given (built-rule2 s c);
           bytes = none-given (built-rule3 s c);
           lines = none-given (built-rule4 s c);
-          walk = gives-5-7 (sheetType s) (messageFor s);
+          walk = gives-5-7 (sheetForm s) (messageFor s);
         };
         inside = record {
-          contents = gives-8 (sheetType s) (messageFor s);
-          days = λ n p e. from-5 9 (broken9 (fields (messageFor s)) n p .0 e .0) (omega arith) (omega arith);
-          currency = λ n p e. from-5 10 (broken10 (fields (messageFor s)) n p .0 e .0) (omega arith) (omega arith);
-          banks = λ n p e. from-5 11 (broken11 (fields (messageFor s)) n p .0 e .0) (omega arith) (omega arith);
-          parties = λ n p e. from-5 12 (broken12 (fields (messageFor s)) n p .0 e .0) (omega arith) (omega arith);
-          taxes = λ n p e. from-5 13 (broken13 (fields (messageFor s)) n p .0 e .0) (omega arith) (omega arith);
+          contents = gives-8 (sheetForm s) (messageFor s);
+          days = λ n p e. from-5 9 (broken9 (sheetForm s) (fields (messageFor s)) n p .0 e .0) (omega arith) (omega arith);
+          currency = λ n p e. from-5 10 (broken10 (sheetForm s) (fields (messageFor s)) n p .0 e .0) (omega arith) (omega arith);
+          banks = λ n p e. from-5 11 (broken11 (sheetForm s) (fields (messageFor s)) n p .0 e .0) (omega arith) (omega arith);
+          parties = λ n p e. from-5 12 (broken12 (sheetForm s) (fields (messageFor s)) n p .0 e .0) (omega arith) (omega arith);
+          taxes = λ n p e. from-5 13 (broken13 (sheetForm s) (fields (messageFor s)) n p .0 e .0) (omega arith) (omega arith);
           texts = none-given rule14-fine;
         };
       }
 
-  pub own-numbers : (n p : ℕ) → verdictOf (sheetType s) (messageFor s) ≡ Broken n p → Own n
-  own-numbers = verdict-holds (Gives Own) (sheetType s) (messageFor s) (none-given refl) all-give
+  pub own-numbers : (n p : ℕ) → verdictOf (sheetForm s) (messageFor s) ≡ Broken n p → Own n
+  own-numbers = verdict-holds (Gives Own) (sheetForm s) (messageFor s) (none-given refl) all-give
 
   -- with place 0
   pub own-refusal : (n p : ℕ) → ownRule s ≡ Broken n p → Own n × (p ≡ 0)
-  own-refusal n p e = go (verdictOf (sheetType s) (messageFor s)) refl e
+  own-refusal n p e = go (verdictOf (sheetForm s) (messageFor s)) refl e
     where
-      go : (v : Verdict) → verdictOf (sheetType s) (messageFor s) ≡ v → atStart v ≡ Broken n p → Own n × (p ≡ 0)
+      go : (v : Verdict) → verdictOf (sheetForm s) (messageFor s) ≡ v → atStart v ≡ Broken n p → Own n × (p ≡ 0)
       go Fine f e = absurd (fine-broken n p e)
       go (Broken m q) f e =
           let a : m ≡ n = cc in
@@ -110,9 +111,9 @@ module _ (s : List ℕ) (c : Clean (sheetRules s)) where
           (own-numbers n q (f ∙ ap (λ (k : ℕ). Broken k q) a), b)
 
   -- the message is refused exactly if the sheet is, once there is room
-  pub own-fine : ownRule s ≡ Fine → verdictOf (sheetType s) (messageFor s) ≡ Fine
-  own-fine e = go (verdictOf (sheetType s) (messageFor s)) refl e
+  pub own-fine : ownRule s ≡ Fine → verdictOf (sheetForm s) (messageFor s) ≡ Fine
+  own-fine e = go (verdictOf (sheetForm s) (messageFor s)) refl e
     where
-      go : (v : Verdict) → verdictOf (sheetType s) (messageFor s) ≡ v → atStart v ≡ Fine → verdictOf (sheetType s) (messageFor s) ≡ Fine
+      go : (v : Verdict) → verdictOf (sheetForm s) (messageFor s) ≡ v → atStart v ≡ Fine → verdictOf (sheetForm s) (messageFor s) ≡ Fine
       go Fine f e = f
       go (Broken m q) f e = absurd (fine-broken m 0 (sym e))

@@ -7,6 +7,7 @@ use mathlib.Core.List.{List, [], _∷_, _++_, map, tail}
 use mathlib.Core.Logic.{_↔_}
 use lib.Dec.{eqb}
 use lib.ListN.{length}
+use Rattle.types.specs.declared.Form.{Form}
 use Rattle.base.specs.Choice.{pick, all}
 use Rattle.base.specs.Bytes.{empty, isIn, digit, capital, letter, marks, shared, xset}
 use Rattle.base.specs.Quoted.{bytes}
@@ -44,8 +45,8 @@ use Rattle.written.proofs.SpeltLaws.{isSaid, said-is, plain-set, spelt-
 abbrev pub speaks : Bool → Part → Bool
 speaks s p = isSaid (saidPart s p)
 
-abbrev pub speaking : ℕ → Bool → Record → Bool
-speaking kind s (field t ps) = all (speaks s) (castParts (shapeOf kind t) ps)
+abbrev pub speaking : Form → Bool → Record → Bool
+speaking form s (field t ps) = all (speaks s) (castParts (shapeOf form t) ps)
 
 not-stopped : (o : ℕ) (a : Answer) → stoppedAt o a ≡ Fine → isSaid a ≡ true
 not-stopped o (said t) e = refl
@@ -68,40 +69,40 @@ module _ (s : Bool) where
   all-said o [] e = refl
   all-said o (p ∷ ps) e = goes-past o (saidPart s p) _ (left (speaks s p) _ e) ∙ all-said (o + length (lineOf p) + 1) ps (right (speaks s p) _ e)
 
-  module _ (kind : ℕ) where
-    fine-speaking : (o : ℕ) (rs : List Record) → rule15 kind s o rs ≡ Fine → all (speaking kind s) rs ≡ true
+  module _ (form : Form) where
+    fine-speaking : (o : ℕ) (rs : List Record) → rule15 form s o rs ≡ Fine → all (speaking form s) rs ≡ true
     unfolding rule15
     fine-speaking o [] e = refl
     fine-speaking o (field t ps ∷ rs) e =
-        let f = then-clean (unsaid s (o + length t + 1) (castParts (shapeOf kind t) ps)) _ e in
-        both (said-all (o + length t + 1) (castParts (shapeOf kind t) ps) (f .0)) (fine-speaking (nextOf o (field t ps)) rs (f .1))
+        let f = then-clean (unsaid s (o + length t + 1) (castParts (shapeOf form t) ps)) _ e in
+        both (said-all (o + length t + 1) (castParts (shapeOf form t) ps) (f .0)) (fine-speaking (nextOf o (field t ps)) rs (f .1))
 
-    speaking-fine : (o : ℕ) (rs : List Record) → all (speaking kind s) rs ≡ true → rule15 kind s o rs ≡ Fine
+    speaking-fine : (o : ℕ) (rs : List Record) → all (speaking form s) rs ≡ true → rule15 form s o rs ≡ Fine
     unfolding rule15
     speaking-fine o [] e = refl
     speaking-fine o (field t ps ∷ rs) e =
-        ap (λ (v : Verdict). then v (rule15 kind s (nextOf o (field t ps)) rs)) (all-said (o + length t + 1) (castParts (shapeOf kind t) ps) (left (speaking kind s (field t ps)) _ e))
-        ∙ speaking-fine (nextOf o (field t ps)) rs (right (speaking kind s (field t ps)) _ e)
+        ap (λ (v : Verdict). then v (rule15 form s (nextOf o (field t ps)) rs)) (all-said (o + length t + 1) (castParts (shapeOf form t) ps) (left (speaking form s (field t ps)) _ e))
+        ∙ speaking-fine (nextOf o (field t ps)) rs (right (speaking form s (field t ps)) _ e)
 
-    pub rule15-fine : (o : ℕ) (rs : List Record) → (rule15 kind s o rs ≡ Fine) ↔ (all (speaking kind s) rs ≡ true)
+    pub rule15-fine : (o : ℕ) (rs : List Record) → (rule15 form s o rs ≡ Fine) ↔ (all (speaking form s) rs ≡ true)
     rule15-fine o rs = (fine-speaking o rs, speaking-fine o rs)
 
 -- ---- 16: details fit
-abbrev pub roomy : ℕ → Bool → Record → Bool
-roomy kind s (field t ps) = not (crowded s (shapeOf kind t) ps)
+abbrev pub roomy : Form → Bool → Record → Bool
+roomy form s (field t ps) = not (crowded s (shapeOf form t) ps)
 
-module _ (kind : ℕ) (s : Bool) where
-  some-roomy : (rs : List Record) → not (someCrowded kind s rs) ≡ all (roomy kind s) rs
+module _ (form : Form) (s : Bool) where
+  some-roomy : (rs : List Record) → not (someCrowded form s rs) ≡ all (roomy form s) rs
   some-roomy [] = refl
-  some-roomy (field t ps ∷ rs) = go (crowded s (shapeOf kind t) ps) (some-roomy rs)
+  some-roomy (field t ps ∷ rs) = go (crowded s (shapeOf form t) ps) (some-roomy rs)
     where
-      go : (b : Bool) → not (someCrowded kind s rs) ≡ all (roomy kind s) rs → not (b || someCrowded kind s rs) ≡ (not b && all (roomy kind s) rs)
+      go : (b : Bool) → not (someCrowded form s rs) ≡ all (roomy form s) rs → not (b || someCrowded form s rs) ≡ (not b && all (roomy form s) rs)
       go true e = refl
       go false e = e
 
-  pub rule16-fine : (rs : List Record) → rule16 kind s rs ≡ Fine → all (roomy kind s) rs ≡ true
+  pub rule16-fine : (rs : List Record) → rule16 form s rs ≡ Fine → all (roomy form s) rs ≡ true
   unfolding rule16
-  rule16-fine rs e = sym (some-roomy rs) ∙ go (someCrowded kind s rs) e
+  rule16-fine rs e = sym (some-roomy rs) ∙ go (someCrowded form s rs) e
     where
       go : (b : Bool) → pick b (Broken 16 0) Fine ≡ Fine → not b ≡ true
       go true e = absurd (fine-broken 16 0 (sym e))

@@ -8,6 +8,7 @@ use mathlib.Core.Logic.{inl, inr}
 use native.Mathlib.Omega.{arith}
 use native.Mathlib.Decide.{decLt}
 use lib.ListN.{length, length-append}
+use Rattle.types.specs.declared.Form.{Form}
 use Rattle.base.specs.Choice.{pick}
 use Rattle.base.specs.Bytes.{empty}
 use Rattle.base.specs.Rules.{lastNumber, first}
@@ -30,7 +31,7 @@ use Rattle.roles.specs.declared.Shape.the-variants.{Plain, Payer, Payee, Agent,
 use Rattle.roles.proofs.BreachLaws.{same-lines}
 use Rattle.records.specs.Record.{Record, tabbed, line, sheet, records, rest}
 use Rattle.records.specs.Places.{sizeOf}
-use Rattle.records.specs.Rule19.{sheetType, sheetSign}
+use Rattle.records.specs.Rule19.{sheetForm, sheetSign}
 use Rattle.records.specs.Sentences.{BadAt, unbegun, untyped, wrong, unended}
 use Rattle.records.proofs.SheetLaws.{sheet-rest}
 use Rattle.records.proofs.PlaceLaws.{size-sheet, widthOf, size-tabbed}
@@ -105,14 +106,14 @@ lined-size t (l ∷ ls) = omega (arith, length-append t (58 ∷ l))
 line-long : (t : List ℕ) (ps : List (List ℕ)) → length (line (field t ps)) ≡ length t + widthOf ps
 line-long t ps = omega (arith, length-append t (tabbed ps), size-tabbed ps)
 
-record-size : (kind : ℕ) (s : Bool) (r : Record) → lines.sizeOf (lined (fieldFor kind s r)) ≤ 300 * (length (line r) + 1)
-record-size kind s (field t ps) =
-    omega (arith, lined-size t (contentLines s (shapeOf kind t) ps), content-size s (shapeOf kind t) ps, line-long t ps)
+record-size : (form : Form) (s : Bool) (r : Record) → lines.sizeOf (lined (fieldFor form s r)) ≤ 300 * (length (line r) + 1)
+record-size form s (field t ps) =
+    omega (arith, lined-size t (contentLines s (shapeOf form t) ps), content-size s (shapeOf form t) ps, line-long t ps)
 
-records-size : (kind : ℕ) (s : Bool) (rs : List Record) → lines.sizeOf (linesOf (map (fieldFor kind s) rs)) ≤ 300 * sizeOf rs
-records-size kind s [] = omega arith
-records-size kind s (r ∷ rs) =
-    omega (arith, record-size kind s r, records-size kind s rs, size-append (lined (fieldFor kind s r)) (linesOf (map (fieldFor kind s) rs)))
+records-size : (form : Form) (s : Bool) (rs : List Record) → lines.sizeOf (linesOf (map (fieldFor form s) rs)) ≤ 300 * sizeOf rs
+records-size form s [] = omega arith
+records-size form s (r ∷ rs) =
+    omega (arith, record-size form s r, records-size form s rs, size-append (lined (fieldFor form s r)) (linesOf (map (fieldFor form s) rs)))
 
 -- the records take no more than the sheet
 records-within : (s : List ℕ) → sizeOf (records s) ≤ length s
@@ -127,8 +128,8 @@ pub message-within : (s : List ℕ) → length (messageFor s) ≤ 300 * length s
 unfolding messageFor fieldsOf spread message
 message-within s =
     let rs : List Record = tail (records s) in
-    let ls : List (List ℕ) = linesOf (map (fieldFor (sheetType s) (sheetSign s)) rs) in
-    omega (arith, records-size (sheetType s) (sheetSign s) rs, tail-within (records s), records-within s, laid-size ls, length-append (laid ls) closing)
+    let ls : List (List ℕ) = linesOf (map (fieldFor (sheetForm s) (sheetSign s)) rs) in
+    omega (arith, records-size (sheetForm s) (sheetSign s) rs, tail-within (records s), records-within s, laid-size ls, length-append (laid ls) closing)
 
 -- so the place of 17 is small: the longest message of a sheet within the limit
 abbrev pub longest : ℕ
@@ -174,9 +175,9 @@ width Agent ps = cast-width Agent ps
 part-within : {s : Bool} {o : ℕ} {xs : List Part} {p : ℕ} → StuckPart s o xs p → p < o + partsSize xs
 part-within w = omega (arith, w .place, w .first .within, ap partsSize (w .list), parts-on (w .before) (w .this ∷ w .behind))
 
-stuck-within : {kind : ℕ} {s : Bool} {rs : List Record} {p : ℕ} → StuckAt kind s 0 rs p → p < sizeOf rs
-stuck-within {kind} {s} {rs} w =
-    omega (arith, part-within (w .stuck), width (shapeOf kind (w .tag)) (w .parts), line-long (w .tag) (w .parts), ap sizeOf (w .list), size-on (w .before) (field (w .tag) (w .parts) ∷ w .behind))
+stuck-within : {form : Form} {s : Bool} {rs : List Record} {p : ℕ} → StuckAt form s 0 rs p → p < sizeOf rs
+stuck-within {form} {s} {rs} w =
+    omega (arith, part-within (w .stuck), width (shapeOf form (w .tag)) (w .parts), line-long (w .tag) (w .parts), ap sizeOf (w .list), size-on (w .before) (field (w .tag) (w .parts) ∷ w .behind))
 
 bad-within : {s : List ℕ} {p : ℕ} → BadAt s p → p ≤ sizeOf (records s)
 bad-within (unbegun e z) = omega arith

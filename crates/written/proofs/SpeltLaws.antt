@@ -9,7 +9,7 @@ use lib.Dec.{eqb}
 use lib.ListN.{getD}
 use borrow.Author.Tests.{eqb-true, ne-eqb}
 use Rattle.base.specs.Choice.{all}
-use Rattle.base.specs.Bytes.{byte, begins, empty, isIn, digit, capital, letter, marks, shared, xset}
+use Rattle.base.specs.Bytes.{byte, begins, empty, isIn, digit, capital, letter, marks, shared, xset, same}
 use Rattle.base.specs.Quoted.{bytes}
 use Rattle.base.specs.Calls.{Answer, said, stuck, textOf}
 use Rattle.base.proofs.Bools.{left, right, both}
@@ -23,7 +23,7 @@ use Rattle.alphabets.proofs.Back.{never}
 use Rattle.alphabets.proofs.Shortest.{Came, turned, signed, came}
 use Rattle.alphabets.proofs.Theorems.{Written, written, plain-only, plain-iff, reads-back}
 use Rattle.fields.specs.Shapes.{goesOn}
-use Rattle.values.specs.Values.{starts, isTax}
+use Rattle.contents.specs.Tests.{looksTax, starts}
 use Rattle.roles.specs.Rule14.{hidden, isInn}
 
 -- ---- an answer that is a text
@@ -193,7 +193,7 @@ unfolding digit
 digit-not x e = ne-eqb x 39 (λ q. absurd (false≢true (rw q at e)))
 
 inn-by : (x : ℕ) (d : List ℕ) (a : Answer) → digit x ≡ true → after 200 (after 205 (after 205 (after x a))) ≡ said d → isInn d ≡ true
-unfolding isInn digit
+unfolding isInn digit same
 inn-by zero d a e r = absurd (false≢true e)
 inn-by (suc x) d (stuck k) e r = absurd (not-said (suc (suc (suc (suc k)))) d r)
 inn-by (suc x) d (said t) e r = let q : 200 ∷ 205 ∷ 205 ∷ suc x ∷ t ≡ d = cc in ap isInn (sym q) ∙ e
@@ -202,8 +202,8 @@ inn-reads : (x : ℕ) (r d : List ℕ) → digit x ≡ true → reads false (73 
 unfolding reads
 inn-reads x r d e q = inn-by x d (reads false r) e (rw (inn-signs .0, inn-signs .1, digit-not x e, digit-sign x e) at q)
 
-tax-reads : (b d : List ℕ) → isTax b ≡ true → reads false b ≡ said d → isInn d ≡ true
-unfolding isTax digit
+tax-reads : (b d : List ℕ) → looksTax b ≡ true → reads false b ≡ said d → isInn d ≡ true
+unfolding looksTax digit same
 tax-reads [] d e r = absurd (false≢true e)
 tax-reads (x ∷ []) d e r = absurd (false≢true (right (starts (bytes "INN") (x ∷ [])) _ e))
 tax-reads (x ∷ y ∷ []) d e r = absurd (false≢true (right (starts (bytes "INN") (x ∷ y ∷ [])) _ e))
@@ -217,9 +217,9 @@ tax-reads (x ∷ y ∷ z ∷ w ∷ b) d e r =
     let u : z ≡ 78 = eqb-true z 78 (left (eqb z 78) _ h) in
     inn-reads w b d (right (starts (bytes "INN") (x ∷ y ∷ z ∷ w ∷ b)) _ e) (rw (p, q, u) at r)
 
-pub spelt-tax : (d t : List ℕ) → writing true d ≡ said t → isInn d ≡ false → isTax t ≡ false
-spelt-tax d t e n = go (isTax t) refl
+pub spelt-tax : (d t : List ℕ) → writing true d ≡ said t → isInn d ≡ false → looksTax t ≡ false
+spelt-tax d t e n = go (looksTax t) refl
   where
-    go : (b : Bool) → isTax t ≡ b → isTax t ≡ false
+    go : (b : Bool) → looksTax t ≡ b → looksTax t ≡ false
     go true h = absurd (true≢false (sym (tax-reads t d h (reads-back true d t e)) ∙ n))
     go false h = h

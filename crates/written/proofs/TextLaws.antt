@@ -5,8 +5,9 @@ use mathlib.Core.Path.{_≡_, refl, sym, ap, ap₂, _∙_, subst}
 use mathlib.Core.Bool.{Bool, true, false, not, _||_, false≢true}
 use mathlib.Core.List.{List, [], _∷_, _++_, map, tail}
 use lib.ListN.{length}
+use Rattle.types.specs.declared.Form.{Form}
 use Rattle.base.specs.Choice.{pick, all}
-use Rattle.base.specs.Bytes.{empty}
+use Rattle.base.specs.Bytes.{empty, same}
 use Rattle.base.specs.Calls.{Answer, said, textOf}
 use Rattle.base.specs.declared.Verdict.the-variants.{Fine}
 use Rattle.base.proofs.Bools.{left, right, both, isnt, all-imp}
@@ -18,7 +19,7 @@ use Rattle.fields.specs.Field.{field}
 use Rattle.fields.specs.Places.{startOf}
 use Rattle.fields.specs.Places as fields
 use Rattle.fields.specs.Shapes.{goesOn}
-use Rattle.values.specs.Values.{isTax}
+use Rattle.contents.specs.Tests.{looksTax}
 use Rattle.roles.specs.Role.{shapeOf, Part, copy, name, taxName, lineOf, cast}
 use Rattle.roles.specs.Speech.{Manner, named, taxPlaced, told, Speech, speech, saidAt, names, noted, codeSize, speeches}
 use Rattle.roles.specs.Speech as speech
@@ -28,7 +29,7 @@ use Rattle.roles.specs.declared.Shape.{Shape}
 use Rattle.roles.specs.declared.Shape.the-variants.{Payer, Payee, Agent}
 use Rattle.roles.proofs.BreachLaws.{same-lines, rule14-fine}
 use Rattle.records.specs.Record.{Record, records}
-use Rattle.records.specs.Rule19.{digits, sheetType, sheetSign}
+use Rattle.records.specs.Rule19.{digits, sheetForm, sheetSign}
 use Rattle.records.specs.Sentences.{Right, plain, agent, payer, payee, details, note103, note202}
 use Rattle.records.proofs.SoundLaws.{calm, cast-calm}
 use Rattle.details.specs.Layouts.{linesFor, sizeFor}
@@ -57,7 +58,7 @@ name-heard : (p : List ℕ) → speaks true (name p) ≡ true → empty p ≡ fa
 name-heard p e n =
     by-reading named (textOf (writing true p)) p (back p e) (ap₂ _||_ n (spelt-open p (textOf (writing true p)) (said-is (writing true p) e)))
 
-tax-heard : (p : List ℕ) → speaks true (name p) ≡ true → empty p ≡ false → isTax p ≡ false → isInn p ≡ false → breaks taxPlaced (textOf (writing true p)) ≡ false
+tax-heard : (p : List ℕ) → speaks true (name p) ≡ true → empty p ≡ false → looksTax p ≡ false → isInn p ≡ false → breaks taxPlaced (textOf (writing true p)) ≡ false
 unfolding taxLike
 tax-heard p e n t i =
     by-reading taxPlaced (textOf (writing true p)) p (back p e)
@@ -70,7 +71,7 @@ some p = not (empty p)
 part-heard : (o : ℕ) (x : Part) → speaks true x ≡ true → some (lineOf x) ≡ true → untaxed x ≡ true → calm x ≡ true → Heard (saidAt o (turned true x))
 part-heard o (copy p) e n t c = tt
 part-heard o (name p) e n t c = (name-heard p e (isnt (empty p) n), tt)
-part-heard o (taxName p) e n t c = (tax-heard p e (isnt (empty p) n) (isnt (isTax p) t) (isnt (isInn p) c), tt)
+part-heard o (taxName p) e n t c = (tax-heard p e (isnt (empty p) n) (isnt (looksTax p) t) (isnt (isInn p) c), tt)
 
 heard-both : (xs ys : List Speech) → Heard xs → Heard ys → Heard (xs ++ ys)
 heard-both [] ys h k = k
@@ -103,11 +104,11 @@ heard-told q vo p o d n e h =
 
 -- /NZP/ is no RPP line, /RPP/ is one
 noted-first : (o : ℕ) (least : ℕ) (text : List ℕ) → Laid In72 least text → noted true o (linesFor In72 least text) ≡ speech.details (frontOf In72 true) (nextOf In72) o (linesFor In72 least text)
-unfolding noted
+unfolding noted same
 noted-first o least text h = ap (noted true o) (h .is) ∙ ap (speech.details (frontOf In72 true) (nextOf In72) o) (sym (h .is))
 
 noted-behind : (o : ℕ) (r : List ℕ) (ls : List (List ℕ)) → noted true o (rppLine r ∷ ls) ≡ speech.details (frontOf BehindRpp true) (nextOf BehindRpp) (o + length (rppLine r) + 2) ls
-unfolding noted
+unfolding noted same
 noted-behind o r ls = refl
 
 note-heard : (b : Bool) (o : ℕ) (r vo p : List ℕ) → digits 5 vo ≡ true → empty p ≡ false → speaks true (name p) ≡ true
@@ -139,20 +140,20 @@ ready-heard o sh ps w = go (w .is-right) (w .says) (w .fits)
     go (note202 r v t d e) a u =
         note-heard (empty r) o r v t d e (left (speaks true (name t)) _ (right (speaks true (copy v)) _ (right (speaks true (copy r)) _ a))) u
 
-records-heard : (kind o : ℕ) (rs : List Record) → AllPass kind true rs → Heard (spoken kind o (map (fieldFor kind true) rs))
+records-heard : (form : Form) (o : ℕ) (rs : List Record) → AllPass form true rs → Heard (spoken form o (map (fieldFor form true) rs))
 unfolding spoken
-records-heard kind o [] w = tt
-records-heard kind o (field t ps ∷ rs) w =
-    let ls : List (List ℕ) = contentLines true (shapeOf kind t) ps in
-    heard-both (speeches true (shapeOf kind t) (startOf o (field t ls)) ls) (spoken kind (fields.nextOf o (field t ls)) (map (fieldFor kind true) rs))
-    (ready-heard (startOf o (field t ls)) (shapeOf kind t) ps (w .0 .1)) (records-heard kind (fields.nextOf o (field t ls)) rs (w .1))
+records-heard form o [] w = tt
+records-heard form o (field t ps ∷ rs) w =
+    let ls : List (List ℕ) = contentLines true (shapeOf form t) ps in
+    heard-both (speeches true (shapeOf form t) (startOf o (field t ls)) ls) (spoken form (fields.nextOf o (field t ls)) (map (fieldFor form true) rs))
+    (ready-heard (startOf o (field t ls)) (shapeOf form t) ps (w .0 .1)) (records-heard form (fields.nextOf o (field t ls)) rs (w .1))
 
-signed-heard : (kind : ℕ) (g : Bool) (rs : List Record) → g ≡ true → AllPass kind g rs → Heard (spoken kind 5 (map (fieldFor kind g) rs))
-signed-heard kind true rs q w = records-heard kind 5 rs w
-signed-heard kind false rs q w = absurd (false≢true q)
+signed-heard : (form : Form) (g : Bool) (rs : List Record) → g ≡ true → AllPass form g rs → Heard (spoken form 5 (map (fieldFor form g) rs))
+signed-heard form true rs q w = records-heard form 5 rs w
+signed-heard form false rs q w = absurd (false≢true q)
 
 -- ---- a sheet that no rule before 17 refuses
 module _ (s : List ℕ) (c : Clean (sheetRules s)) where
-  pub built-rule14 : rule14 (sheetType s) (fieldsOf s) ≡ Fine
+  pub built-rule14 : rule14 (sheetForm s) (fieldsOf s) ≡ Fine
   unfolding fieldsOf spread
-  built-rule14 = rule14-fine (sheetType s) (fieldsOf s) .1 (λ q. signed-heard (sheetType s) (sheetSign s) (tail (records s)) (sym (built-sign s c) ∙ q) (records-pass s c))
+  built-rule14 = rule14-fine (sheetForm s) (fieldsOf s) .1 (λ q. signed-heard (sheetForm s) (sheetSign s) (tail (records s)) (sym (built-sign s c) ∙ q) (records-pass s c))

@@ -21,11 +21,13 @@ use Rattle.base.proofs.RuleLaws.{fine-broken, same-broken, then-fine, Clean, fi
 use Rattle.base.proofs.CallLaws.{gives-one, accepted, refused, not-long, is-short, not-short, enough}
 use Rattle.fields.specs.Field.{fields}
 use Rattle.fields.specs.Frame.{limit}
-use Rattle.types.specs.Form.{Place, Form, form, placesOf, forms, form103, form202}
+use Rattle.types.specs.declared.Form.{Form}
+use Rattle.types.specs.declared.Form.the-variants.{Other, Mt103, Mt202}
+use Rattle.types.specs.Form.{places103, places202}
 use Rattle.types.specs.Walk.{rule18}
 use Rattle.judge.specs.Message.{verdictOf}
 use Rattle.records.specs.Record.{records}
-use Rattle.records.specs.Rule19.{sheetType, sheetSign, rule19}
+use Rattle.records.specs.Rule19.{sheetForm, sheetSign, rule19}
 use Rattle.records.specs.Sentences.{BadAt}
 use Rattle.records.proofs.RuleLaws.{rule19-bad, bad-rule19}
 use Rattle.writer.specs.Sheet.{rule15, rule16, messageFor, sheetRules, atStart, ownRule, writeRules, MessageTo}
@@ -47,18 +49,11 @@ passed [] vs c = refl
 passed (u ∷ us) vs c = ap (λ (v : Verdict). then v (first (us ++ vs))) (c .0) ∙ passed us vs (c .1)
 
 -- ---- 18: the type is neither 103 nor 202
-abbrev placesIn : Form → List Place
-placesIn (form n ps) = ps
-
-rule18-broken : (kind n p : ℕ) → rule18 kind ≡ Broken n p → (n ≡ 18) × (p ≡ 0) × NoType kind
-unfolding rule18 placesOf forms form103 form202
-rule18-broken kind n p e = go (eqb kind 103) (eqb kind 202) (placesIn form103) (placesIn form202) refl refl refl refl e
-  where
-    go : (a b : Bool) (x y : List Place) → empty x ≡ false → empty y ≡ false → eqb kind 103 ≡ a → eqb kind 202 ≡ b
-        → pick (empty (pick a x (pick b y []))) (Broken 18 0) Fine ≡ Broken n p → (n ≡ 18) × (p ≡ 0) × NoType kind
-    go true b x y h k f g e = absurd (fine-broken n p (ap (λ (q : Bool). pick q (Broken 18 0) Fine) (sym h) ∙ e))
-    go false true x y h k f g e = absurd (fine-broken n p (ap (λ (q : Bool). pick q (Broken 18 0) Fine) (sym k) ∙ e))
-    go false false x y h k f g e = (cc, cc, (eqb-false kind 103 f, eqb-false kind 202 g))
+rule18-broken : (form : Form) (n p : ℕ) → rule18 form ≡ Broken n p → (n ≡ 18) × (p ≡ 0) × NoType form
+unfolding rule18 places103 places202
+rule18-broken Mt103 n p e = absurd (fine-broken n p e)
+rule18-broken Mt202 n p e = absurd (fine-broken n p e)
+rule18-broken Other n p e = (cc, cc, refl)
 
 -- ---- why a sheet is refused
 module _ (s out : List ℕ) where
@@ -80,9 +75,9 @@ module _ (s out : List ℕ) where
       go false h e = absurd (fine-broken n p e)
 
   own-broken : (n p : ℕ) → Clean (sheetRules s) → ownRule s ≡ Broken n p → Reason s out p n
-  own-broken n p c e = go (verdictOf (sheetType s) (messageFor s)) refl e
+  own-broken n p c e = go (verdictOf (sheetForm s) (messageFor s)) refl e
     where
-      go : (v : Verdict) → verdictOf (sheetType s) (messageFor s) ≡ v → atStart v ≡ Broken n p → Reason s out p n
+      go : (v : Verdict) → verdictOf (sheetForm s) (messageFor s) ≡ v → atStart v ≡ Broken n p → Reason s out p n
       go Fine f e = absurd (fine-broken n p e)
       go (Broken m q) f e =
           let h = own-refusal s c n p (ap atStart f ∙ e) in
@@ -105,14 +100,14 @@ module _ (s out : List ℕ) where
     why-19 : Why (rule19 s)
     why-19 e = let h = rule19-bad s n p e in by-number 19 (sym (h .0)) (why.against (h .1))
 
-    why-18 : Why (rule18 (sheetType s))
-    why-18 e = let h = rule18-broken (sheetType s) n p e in by-number 18 (h .0) (why.typeless (h .2) (h .1))
+    why-18 : Why (rule18 (sheetForm s))
+    why-18 e = let h = rule18-broken (sheetForm s) n p e in by-number 18 (h .0) (why.typeless (h .2) (h .1))
 
-    why-15 : Why (rule15 (sheetType s) (sheetSign s) 0 (records s))
-    why-15 e = let h = rule15-broken (sheetSign s) (sheetType s) 0 (records s) n p e in by-number 15 (h .0) (why.unsaid (h .1))
+    why-15 : Why (rule15 (sheetForm s) (sheetSign s) 0 (records s))
+    why-15 e = let h = rule15-broken (sheetSign s) (sheetForm s) 0 (records s) n p e in by-number 15 (h .0) (why.unsaid (h .1))
 
-    why-16 : Why (rule16 (sheetType s) (sheetSign s) (tail (records s)))
-    why-16 e = let h = rule16-broken (sheetSign s) (sheetType s) (tail (records s)) n p e in by-number 16 (h .0) (why.crowded (h .2) (h .1))
+    why-16 : Why (rule16 (sheetForm s) (sheetSign s) (tail (records s)))
+    why-16 e = let h = rule16-broken (sheetSign s) (sheetForm s) (tail (records s)) n p e in by-number 16 (h .0) (why.crowded (h .2) (h .1))
 
     why-17 : Why (short (messageFor s) out)
     why-17 e = let h = short-broken n p e in by-number 17 (h .0) (why.short (h .2) (h .1))
@@ -130,9 +125,9 @@ module _ (s out : List ℕ) (p : ℕ) where
   abbrev pub Tells : ℕ → Type 0
   Tells n =
       pick (eqb n 19) (BadAt s p)
-      (pick (eqb n 18) ((p ≡ 0) × NoType (sheetType s))
-      (pick (eqb n 15) (StuckAt (sheetType s) (sheetSign s) 0 (records s) p)
-      (pick (eqb n 16) ((p ≡ 0) × CrowdedIn (sheetType s) (sheetSign s) (tail (records s)))
+      (pick (eqb n 18) ((p ≡ 0) × NoType (sheetForm s))
+      (pick (eqb n 15) (StuckAt (sheetForm s) (sheetSign s) 0 (records s) p)
+      (pick (eqb n 16) ((p ≡ 0) × CrowdedIn (sheetForm s) (sheetSign s) (tail (records s)))
       (pick (eqb n 17) ((p ≡ length (messageFor s)) × (length out < length (messageFor s))) (Unit {0})))))
 
   tells-own : (n : ℕ) → n ≤ 13 → Tells n
@@ -153,11 +148,9 @@ module _ (s out : List ℕ) (p : ℕ) where
   tells (why.own {n} q h f z) = tells-own n (at-most h)
 
 -- ---- and each is given exactly then, where nothing earlier stands
-no-type : (kind : ℕ) → NoType kind → rule18 kind ≡ Broken 18 0
-unfolding rule18 placesOf forms form103 form202
-no-type kind h =
-    ap (λ (a : Bool). pick (empty (pick a (placesIn form103) (pick (eqb kind 202) (placesIn form202) []))) (Broken 18 0) Fine) (ne-eqb kind 103 (h .0))
-    ∙ ap (λ (b : Bool). pick (empty (pick b (placesIn form202) [])) (Broken 18 0) Fine) (ne-eqb kind 202 (h .1))
+no-type : (form : Form) → NoType form → rule18 form ≡ Broken 18 0
+unfolding rule18 places103 places202
+no-type form h = ap rule18 h
 
 module _ (s out : List ℕ) (r : Outcome) (after : List ℕ) (g : MessageTo s out r after) where
   -- from the rules to the outcome, and back
@@ -187,25 +180,25 @@ module _ (s out : List ℕ) (r : Outcome) (after : List ℕ) (g : MessageTo s ou
       (λ b. given 19 p (rw (not-long limit s h, bad-rule19 s p b))),
     )
 
-    pub exact-18 : Clean (long limit s ∷ rule19 s ∷ []) → (r ≡ Refused 18 p) ↔ ((p ≡ 0) × NoType (sheetType s))
+    pub exact-18 : Clean (long limit s ∷ rule19 s ∷ []) → (r ≡ Refused 18 p) ↔ ((p ≡ 0) × NoType (sheetForm s))
     exact-18 (size, (sound, z)) = (
       (λ e. told 18 p e),
-      (λ b. given 18 p (rw (size, sound, no-type (sheetType s) (b .1), b .0))),
+      (λ b. given 18 p (rw (size, sound, no-type (sheetForm s) (b .1), b .0))),
     )
 
     -- 15 exactly if a name or details text has no bank text or a copied part leaves the x set, at the first such byte
-    pub exact-15 : Clean (long limit s ∷ rule19 s ∷ rule18 (sheetType s) ∷ []) → (r ≡ Refused 15 p) ↔ StuckAt (sheetType s) (sheetSign s) 0 (records s) p
+    pub exact-15 : Clean (long limit s ∷ rule19 s ∷ rule18 (sheetForm s) ∷ []) → (r ≡ Refused 15 p) ↔ StuckAt (sheetForm s) (sheetSign s) 0 (records s) p
     exact-15 (size, (sound, (type, z))) = (
       (λ e. told 15 p e),
-      (λ b. given 15 p (rw (size, sound, type, rule15-iff (sheetSign s) (sheetType s) 0 (records s) p .1 b))),
+      (λ b. given 15 p (rw (size, sound, type, rule15-iff (sheetSign s) (sheetForm s) 0 (records s) p .1 b))),
     )
 
     -- 16 exactly if some details record of the type has no division in any way
-    pub exact-16 : Clean (long limit s ∷ rule19 s ∷ rule18 (sheetType s) ∷ rule15 (sheetType s) (sheetSign s) 0 (records s) ∷ [])
-        → (r ≡ Refused 16 p) ↔ ((p ≡ 0) × CrowdedIn (sheetType s) (sheetSign s) (tail (records s)))
+    pub exact-16 : Clean (long limit s ∷ rule19 s ∷ rule18 (sheetForm s) ∷ rule15 (sheetForm s) (sheetSign s) 0 (records s) ∷ [])
+        → (r ≡ Refused 16 p) ↔ ((p ≡ 0) × CrowdedIn (sheetForm s) (sheetSign s) (tail (records s)))
     exact-16 (size, (sound, (type, (texts, z)))) = (
       (λ e. told 16 p e),
-      (λ b. given 16 p (rw (size, sound, type, texts, crowded-rule16 (sheetSign s) (sheetType s) (tail (records s)) (b .1), b .0))),
+      (λ b. given 16 p (rw (size, sound, type, texts, crowded-rule16 (sheetSign s) (sheetForm s) (tail (records s)) (b .1), b .0))),
     )
 
     -- 17 exactly if the room is shorter than the message, whose length is the place
@@ -225,18 +218,18 @@ module _ (s out : List ℕ) (r : Outcome) (after : List ℕ) (g : MessageTo s ou
     own-alone : first (writeRules s out) ≡ ownRule s
     own-alone = passed (sheetRules s) (short (messageFor s) out ∷ ownRule s ∷ []) c ∙ ap (λ (v : Verdict). then v (then (ownRule s) Fine)) (not-short (messageFor s) out h) ∙ then-fine (ownRule s)
 
-    pub exact-own : (n p : ℕ) → (r ≡ Refused n p) ↔ ((q : ℕ) × (verdictOf (sheetType s) (messageFor s) ≡ Broken n q) × (p ≡ 0))
+    pub exact-own : (n p : ℕ) → (r ≡ Refused n p) ↔ ((q : ℕ) × (verdictOf (sheetForm s) (messageFor s) ≡ Broken n q) × (p ≡ 0))
     exact-own n p = (
-      (λ e. go (verdictOf (sheetType s) (messageFor s)) refl (sym own-alone ∙ rule-of n p e .0)),
+      (λ e. go (verdictOf (sheetForm s) (messageFor s)) refl (sym own-alone ∙ rule-of n p e .0)),
       (λ w. given n p (own-alone ∙ ap atStart (w .1) ∙ ap (Broken n) (sym (w .2)))),
     )
       where
-        go : (v : Verdict) → verdictOf (sheetType s) (messageFor s) ≡ v → atStart v ≡ Broken n p → (q : ℕ) × (verdictOf (sheetType s) (messageFor s) ≡ Broken n q) × (p ≡ 0)
+        go : (v : Verdict) → verdictOf (sheetForm s) (messageFor s) ≡ v → atStart v ≡ Broken n p → (q : ℕ) × (verdictOf (sheetForm s) (messageFor s) ≡ Broken n q) × (p ≡ 0)
         go Fine f e = absurd (fine-broken n p e)
         go (Broken m q) f e = let k = same-broken e in (q, f ∙ ap (λ (j : ℕ). Broken j q) (k .0), sym (k .1))
 
     -- written exactly if the message is accepted
-    pub exact-done : verdictOf (sheetType s) (messageFor s) ≡ Fine → (r ≡ Done (length (messageFor s))) × (after ≡ over (messageFor s) out)
+    pub exact-done : verdictOf (sheetForm s) (messageFor s) ≡ Fine → (r ≡ Done (length (messageFor s))) × (after ≡ over (messageFor s) out)
     unfolding MessageTo
     exact-done e =
         let f : first (writeRules s out) ≡ Fine = own-alone ∙ ap atStart e in
@@ -249,8 +242,8 @@ module _ (s out : List ℕ) (r : Outcome) (after : List ℕ) (g : MessageTo s ou
     pub room : length (messageFor s) ≤ length out
     pub filled : after ≡ over (messageFor s) out
     -- the message is accepted, and has just the fields of the records
-    pub message-fine : verdictOf (sheetType s) (messageFor s) ≡ Fine
-    pub made : OneByOne (Made (sheetType s) (sheetSign s)) (tail (records s)) (fields (messageFor s))
+    pub message-fine : verdictOf (sheetForm s) (messageFor s) ≡ Fine
+    pub made : OneByOne (Made (sheetForm s) (sheetSign s)) (tail (records s)) (fields (messageFor s))
 
   pub written : (n : ℕ) → r ≡ Done n → Written n
   unfolding MessageTo

@@ -6,6 +6,8 @@ use mathlib.Core.Logic.{_⊎_}
 use mathlib.Core.Bool.{Bool, true, false}
 use mathlib.Core.List.{List, [], _∷_, _++_, tail}
 use lib.ListN.{length}
+use Rattle.types.specs.declared.Form.{Form}
+use Rattle.types.specs.declared.Form.the-variants.{Other}
 use Rattle.base.specs.Choice.{all}
 use Rattle.base.specs.Bytes.{empty, xset}
 use Rattle.base.specs.Calls.{said}
@@ -22,7 +24,7 @@ use Rattle.roles.specs.declared.Shape.the-variants.{Plain, Payer, Payee, Agent,
 use Rattle.judge.specs.Message.{verdictOf}
 use Rattle.records.specs.Record.{Record, records}
 use Rattle.records.specs.Places.{sizeOf}
-use Rattle.records.specs.Rule19.{sheetType, sheetSign}
+use Rattle.records.specs.Rule19.{sheetForm, sheetSign}
 use Rattle.records.specs.Sentences.{BadAt}
 use Rattle.details.specs.Lines.{together, Most}
 use Rattle.details.specs.Breaking.{opens}
@@ -73,8 +75,8 @@ pub data Content (s : Bool) : Shape → List (List ℕ) → List (List ℕ) → 
   behindRpp : {r vo text : List ℕ} {ls : List (List ℕ)} → empty r ≡ false → Told s BehindRpp vo text ls → Content s Note202 (r ∷ vo ∷ text ∷ []) (rppLine r ∷ ls)
 
 -- a field made of a record: the same tag, and such a content
-abbrev pub Made : ℕ → Bool → Record → Field → Type 0
-Made kind s (field t ps) (field u ls) = (u ≡ t) × Content s (shapeOf kind t) ps ls
+abbrev pub Made : Form → Bool → Record → Field → Type 0
+Made form s (field t ps) (field u ls) = (u ≡ t) × Content s (shapeOf form t) ps ls
 
 -- ---- 15
 -- a copied part is of the x set; some bank text reads as a name or a details text
@@ -111,18 +113,18 @@ pub record StuckPart (s : Bool) (o : ℕ) (xs : List Part) (p : ℕ) : Type 0 wh
   pub first : FirstFails (canWrite s this) (lineOf this) at
   pub place : p ≡ o + partsSize before + at
 
-abbrev pub WritableRecord : ℕ → Bool → Record → Type 0
-WritableRecord kind s (field t ps) = Every (Writable s) (castParts (shapeOf kind t) ps)
+abbrev pub WritableRecord : Form → Bool → Record → Type 0
+WritableRecord form s (field t ps) = Every (Writable s) (castParts (shapeOf form t) ps)
 
 -- of records one behind another, the first at o: p is that byte, in the first record that can't be written
-pub record StuckAt (kind : ℕ) (s : Bool) (o : ℕ) (rs : List Record) (p : ℕ) : Type 0 where
+pub record StuckAt (form : Form) (s : Bool) (o : ℕ) (rs : List Record) (p : ℕ) : Type 0 where
   pub before : List Record
   pub tag : List ℕ
   pub parts : List (List ℕ)
   pub behind : List Record
   pub list : rs ≡ before ++ field tag parts ∷ behind
-  pub fine : Every (WritableRecord kind s) before
-  pub stuck : StuckPart s (o + sizeOf before + length tag + 1) (castParts (shapeOf kind tag) parts) p
+  pub fine : Every (WritableRecord form s) before
+  pub stuck : StuckPart s (o + sizeOf before + length tag + 1) (castParts (shapeOf form tag) parts) p
 
 -- ---- 16
 -- the code and the text written for it can't be divided in any way
@@ -134,28 +136,28 @@ pub data NoWay (s : Bool) : Shape → List (List ℕ) → Type 0 where
   in72 : {ps : List (List ℕ)} → Undivided s In72 ps → NoWay s Note202 ([] ∷ ps)
   pastRpp : {r : List ℕ} {ps : List (List ℕ)} → empty r ≡ false → Undivided s BehindRpp ps → NoWay s Note202 (r ∷ ps)
 
-pub record CrowdedIn (kind : ℕ) (s : Bool) (rs : List Record) : Type 0 where
+pub record CrowdedIn (form : Form) (s : Bool) (rs : List Record) : Type 0 where
   pub before : List Record
   pub tag : List ℕ
   pub parts : List (List ℕ)
   pub behind : List Record
   pub list : rs ≡ before ++ field tag parts ∷ behind
-  pub no-way : NoWay s (shapeOf kind tag) parts
+  pub no-way : NoWay s (shapeOf form tag) parts
 
 -- ---- the built message's own refusal: 1, or 5 to 13
 abbrev pub Own : ℕ → Type 0
 Own n = (n ≡ 1) ⊎ ((5 ≤ n) × (n ≤ 13))
 
--- ---- 18: the type is neither of the two
-abbrev pub NoType : ℕ → Type 0
-NoType kind = (kind ≡ 103 → ⊥) × (kind ≡ 202 → ⊥)
+-- ---- 18: the type is neither of the two (types/proofs/TableLaws, `rule18-iff`)
+abbrev pub NoType : Form → Type 0
+NoType form = form ≡ Other
 
 -- ---- why a sheet is refused by n at p; that nothing earlier stands is in the order of the rules
 pub data Reason (s out : List ℕ) (p : ℕ) : ℕ → Type 0 where
   over : limit < length s → p ≡ limit → Reason s out p 1
   against : BadAt s p → Reason s out p 19
-  typeless : NoType (sheetType s) → p ≡ 0 → Reason s out p 18
-  unsaid : StuckAt (sheetType s) (sheetSign s) 0 (records s) p → Reason s out p 15
-  crowded : CrowdedIn (sheetType s) (sheetSign s) (tail (records s)) → p ≡ 0 → Reason s out p 16
+  typeless : NoType (sheetForm s) → p ≡ 0 → Reason s out p 18
+  unsaid : StuckAt (sheetForm s) (sheetSign s) 0 (records s) p → Reason s out p 15
+  crowded : CrowdedIn (sheetForm s) (sheetSign s) (tail (records s)) → p ≡ 0 → Reason s out p 16
   short : length out < length (messageFor s) → p ≡ length (messageFor s) → Reason s out p 17
-  own : {n : ℕ} (q : ℕ) → Own n → verdictOf (sheetType s) (messageFor s) ≡ Broken n q → p ≡ 0 → Reason s out p n
+  own : {n : ℕ} (q : ℕ) → Own n → verdictOf (sheetForm s) (messageFor s) ≡ Broken n q → p ≡ 0 → Reason s out p n

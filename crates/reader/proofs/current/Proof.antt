@@ -1,4 +1,4 @@
--- `reader::current` meets its contract: a walk of its MIR, by hand. The struct is taken apart, and `message::content` is called on its fields. All that the proof knows of `content` is that it meets its contract.
+-- `reader::current` meets its contract: a walk of its MIR, by hand. The struct is taken apart, and `content_at` is called on its fields. All that the proof knows of `content_at` is that it meets its contract.
 -- The struct is Copy: what it owns is had twice, and one copy is kept whole for the exit. The callee takes the fields in their order and nothing else, so what the fields own together is what it asks, by computation.
 -- Assumes nothing.
 use mathlib.Core.Path.{_≡_, refl}
@@ -41,11 +41,12 @@ use denote.Triple.Table.{entered, cited}
 use denote.Triple.Walked.{says, Stays, stay-none, walkOf, goes-none, Walks, ends-at, walked, walk-meets}
 use denote.Exit.{yes}
 use denote.Triple.Clauses.{ensured, lasts}
+use Rattle.types.specs.Form.{formOf}
 use Rattle.message.specs.Calls.{contentOf}
-use Rattle.message.proofs.calls.content as content
-use Rattle.message.proofs.calls.content.Symbol as content-def
-use Rattle.message.proofs.calls.content.Symbol.{name as #message·content}
-use Rattle.message.proofs.calls.content.Met as content-thm
+use Rattle.reader.proofs.content_at as content
+use Rattle.reader.proofs.content_at.Symbol as content-def
+use Rattle.reader.proofs.content_at.Symbol.{name as #reader·content-at}
+use Rattle.reader.proofs.content_at.Met as content-thm
 use Rattle.reader.specs.declared.Reader.{Reader}
 use Rattle.reader.proofs.Reader as T
 use Rattle.reader.proofs.Reader.Laws as T′
@@ -71,7 +72,7 @@ module _ {M : Type 1} (𝓤 : URA M) (H : Heap 𝓤) (A : Atoms 𝓤) (W : Given
   mach = T′.lowered d
 
   abbrev Found : RefT (List ℕ) → Type 0
-  Found r = now r ≡ contentOf (d .kind) (now (d .message)) (d .place)
+  Found r = now r ≡ contentOf (formOf (d .kind)) (now (d .message)) (d .place)
 
   abbrev Post : Val → SProp 𝓤
   Post = walkOf 𝓤 H A current.ended stayed (current.clauses 𝓤 H A mem run) .post (((κ, tt), (q, tt), tt, (d, tt), (mach ∷ [], tt)), tt)
@@ -118,7 +119,7 @@ module _ {M : Type 1} (𝓤 : URA M) (H : Heap 𝓤) (A : Atoms 𝓤) (W : Given
       suffices ! _ (ends-at 𝓤 H A current.ended stayed (current.clauses 𝓤 H A mem run) W (((κ, tt), (q, tt), tt, (d, tt), (mach ∷ [], tt)), tt) u r (tt, tt) (tt, tt)) $ says ! e $
       move ! (1 ∷ []) $ frame ! $ nothing ! $ move ! (2 ∷ 0 ∷ []) $ fjoin ! $ frame ! $ done !
 
-  module _ (C : Calls 𝓤 H) (Λ : Loops 𝓤 H) (fm : FmC 𝓤 H (W .laws) C) (known : Triple 𝓤 (C #message·content) (Content 𝓤 H A mem run)) where
+  module _ (C : Calls 𝓤 H) (Λ : Loops 𝓤 H) (fm : FmC 𝓤 H (W .laws) C) (known : Triple 𝓤 (C #reader·content-at) (Content 𝓤 H A mem run)) where
     walk : Holds (hasTy (T′.mir (named 0)) mach) × WT mach → ent 𝓤 (onEntry 𝓤 H A current.signature (κ, tt) (q, tt) (d, tt) (mach ∷ [], tt)) (WpFn 𝓤 H C Λ code.function (mach ∷ []) Post)
     walk wt =
         qed W (raw (onEntry 𝓤 H A current.signature (κ, tt) (q, tt) (d, tt) (mach ∷ [], tt)) ∷ []) ∵ enter ! C Λ code.function (mach ∷ []) _ $
@@ -137,13 +138,13 @@ module _ {M : Type 1} (𝓤 : URA M) (H : Heap 𝓤) (A : Atoms 𝓤) (W : Given
         move ! (11 ∷ 12 ∷ []) $ free1 ! $ move ! (9 ∷ 10 ∷ []) $ free1 ! $ move ! (7 ∷ 8 ∷ []) $ free1 ! $ move ! (5 ∷ 6 ∷ []) $ free1 ! $ move ! (3 ∷ 4 ∷ []) $ free1 ! $ free0 ! $ by ! (exits r u e))))))))))
 
 module _ {M : Type 1} (𝓤 : URA M) (H : Heap 𝓤) (A : Atoms 𝓤) (W : Given 𝓤 H A) (mem : Memory → SProp 𝓤) (run : Routine → Fun 𝓤) where
-  current-walks : (C : Calls 𝓤 H) (Λ : Loops 𝓤 H) → FmC 𝓤 H (W .laws) C → Triple 𝓤 (C #message·content) (Content 𝓤 H A mem run)
+  current-walks : (C : Calls 𝓤 H) (Λ : Loops 𝓤 H) → FmC 𝓤 H (W .laws) C → Triple 𝓤 (C #reader·content-at) (Content 𝓤 H A mem run)
       → Walks 𝓤 H A current.ended stayed (WpFn 𝓤 H C Λ code.function) (current.clauses 𝓤 H A mem run)
   current-walks C Λ fm known = walked 𝓤 H A current.ended stayed (current.clauses 𝓤 H A mem run) (WpFn 𝓤 H C Λ code.function) (λ κs. (LL.vals (T.the-type (namedLft 1 0 tt κs)) (T′.the-laws (namedLft 1 0 tt κs)), tt)) (λ κs. (LL.tells (T.the-type (namedLft 1 0 tt κs)) (T′.the-laws (namedLft 1 0 tt κs)), tt))
       (λ κs qs bounds a g are. via 𝓤 _ (fst∗ 𝓤 _ (emp 𝓤)) (walk 𝓤 H A W mem run (κs .0) (qs .0) (a .0) C Λ fm known (LL.lawful (T.the-type (namedLft 1 0 tt κs)) (T′.the-laws (namedLft 1 0 tt κs)) 𝓤 H A W .typed (a .0) _ (are .0) .0)))
 
 current-meets : {M : Type 1} (𝓤 : URA M) (H : Heap 𝓤) (A : Atoms 𝓤) (W : Given 𝓤 H A) (mem : Memory → SProp 𝓤) (run : Routine → Fun 𝓤) (𝓣 : Tables 𝓤 H)
-    → Triple 𝓤 (𝓣 .C #message·content) (Content 𝓤 H A mem run)
+    → Triple 𝓤 (𝓣 .C #reader·content-at) (Content 𝓤 H A mem run)
     → Meets 𝓤 H A current.signature (WpFn 𝓤 H (𝓣 .C) (𝓣 .Λ) code.function) (current.spec 𝓤 H A mem run)
 current-meets 𝓤 H A W mem run 𝓣 known = walk-meets 𝓤 H A current.ended stayed W (goes-none 𝓤 H A W 1 B yes (λ κs x f. refl), tt) (current.clauses 𝓤 H A mem run) (WpFn 𝓤 H (𝓣 .C) (𝓣 .Λ) code.function) (WpFn-mono 𝓤 H (W .laws) 𝓣 code.function)
     (current-walks 𝓤 H A W mem run (𝓣 .C) (𝓣 .Λ) (fmOf 𝓤 H (W .laws) 𝓣) known)
@@ -154,4 +155,4 @@ current-spec 𝓤 H 𝓜 𝓖 𝓡 =
     entered 𝓤 H (tripleOf 𝓤 H (𝓖 .A) current.signature (current.spec 𝓤 H (𝓖 .A) (𝓜 .mem) (𝓡 .run)))
     (tables 𝓤 H 𝓜 𝓡 code.env .C) (tables 𝓤 H 𝓜 𝓡 code.env .Λ) #reader·current code.function (code.unfolded 𝓤 H 𝓜 𝓡)
     (current-meets 𝓤 H (𝓖 .A) (givenOf 𝓤 H 𝓜 𝓖) (𝓜 .mem) (𝓡 .run) (tablesOf 𝓤 H 𝓜 (tables 𝓤 H 𝓜 𝓡 code.env))
-    (cited 𝓤 H (Content 𝓤 H (𝓖 .A) (𝓜 .mem) (𝓡 .run)) 𝓜 𝓡 code.env #message·content content-def.routine code.calls-message·calls·content (content-thm.met 𝓤 H 𝓜 𝓖 𝓡)))
+    (cited 𝓤 H (Content 𝓤 H (𝓖 .A) (𝓜 .mem) (𝓡 .run)) 𝓜 𝓡 code.env #reader·content-at content-def.routine code.calls-reader·content-at (content-thm.met 𝓤 H 𝓜 𝓖 𝓡)))

@@ -37,6 +37,7 @@ use denote.Triple.Table.{entered, cited}
 use denote.Triple.Walked.{says, Stays, stay-none, stay-none-slice, walkOf, goes-none, goes-none-slice, Walks, ends-at, walked, walk-meets}
 use denote.Exit.{yes}
 use denote.Triple.Clauses.{ensured, lasts}
+use Rattle.types.specs.Form.{formOf}
 use Rattle.message.specs.Calls.{contentOf}
 use Rattle.reader.specs.declared.Reader.{Reader}
 use Rattle.reader.proofs.Reader as T
@@ -78,7 +79,7 @@ module _ {M : Type 1} (𝓤 : URA M) (H : Heap 𝓤) (A : Atoms 𝓤) (W : Given
   at = (vint w32 k ∷ [], (v ∷ [], tt))
 
   abbrev Found : RefT (List ℕ) → Type 0
-  Found c = now c ≡ contentOf k (now s) 0
+  Found c = now c ≡ contentOf (formOf k) (now s) 0
 
   -- the struct's type as a local of a body has it
   abbrev αᵉ : NamedLft
@@ -114,14 +115,14 @@ module _ {M : Type 1} (𝓤 : URA M) (H : Heap 𝓤) (A : Atoms 𝓤) (W : Given
   goes-current r u = qed W (‵ (B (κ, tt) .own r (u ∷ [])) ∷ (‵ (flft κ q) ⊛ ‵ ftrue) ∷ []) ∵ nothing ! $ move ! (1 ∷ 0 ∷ []) $ fjoin ! $ move ! (1 ∷ 0 ∷ []) $ join ! $ frame ! $ done !
 
   abbrev Read : Reader → RefT (List ℕ) → Type 0
-  Read r c = now c ≡ contentOf (r .kind) (now (r .message)) (r .place)
+  Read r c = now c ≡ contentOf (formOf (r .kind)) (now (r .message)) (r .place)
 
   current-said : (r : Reader) (c : RefT (List ℕ)) → ent 𝓤 (ensured 𝓤 H A current.ended (current.clauses 𝓤 H A mem run) (κ, tt) (r, tt) tt c) (fact 𝓤 (Read r c))
   current-said r c = exE 𝓤 _ (λ ws. snd∗ 𝓤 (sem 𝓤 H A (lasts current.ended (κ, tt) (r, tt) ws)) (fact 𝓤 (Read r c)))
 
   is-first : (r : Reader) (c : RefT (List ℕ)) → Opened r → Read r c → Found c
   is-first r c e f =
-      f ∙ ap (λ (n : ℕ). contentOf n (now (r .message)) (r .place)) (e .0) ∙ ap (λ (x : RefT (List ℕ)). contentOf k (now x) (r .place)) (e .1) ∙ ap (contentOf k (now s)) (e .2)
+      f ∙ ap (λ (n : ℕ). contentOf (formOf n) (now (r .message)) (r .place)) (e .0) ∙ ap (λ (x : RefT (List ℕ)). contentOf (formOf k) (now x) (r .place)) (e .1) ∙ ap (contentOf (formOf k) (now s)) (e .2)
 
   exits : (c : RefT (List ℕ)) (u : Val) → Found c → ent 𝓤 (⋆ 𝓤 H A (‵ (ShrSlice (named 0) κ u8 .own c (u ∷ [])) ∷ (‵ (flft κ q) ⊛ ‵ ftrue) ∷ ‵ Own ∷ [])) (Post u)
   exits c u e =

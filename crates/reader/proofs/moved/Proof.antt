@@ -43,6 +43,7 @@ use denote.Triple.Table.{entered, cited}
 use denote.Triple.Walked.{says, Stays, stay-none, walkOf, goes-none, Walks, ends-at, walked, walk-meets}
 use denote.Exit.{yes}
 use denote.Triple.Clauses.{ensured, lasts}
+use Rattle.types.specs.Form.{formOf}
 use Rattle.reader.specs.Reading.{placeBehind}
 use Rattle.reader.proofs.place_behind as behind
 use Rattle.reader.proofs.place_behind.Symbol as behind-def
@@ -73,7 +74,7 @@ module _ {M : Type 1} (𝓤 : URA M) (H : Heap 𝓤) (A : Atoms 𝓤) (W : Given
   mach = T′.lowered d
 
   abbrev Found : ℕ → Type 0
-  Found n = n ≡ placeBehind (d .kind) (now (d .message)) (d .place)
+  Found n = n ≡ placeBehind (formOf (d .kind)) (now (d .message)) (d .place)
 
   abbrev moved-to : ℕ → Reader
   moved-to n = record { kind = d .kind; message = d .message; place = n }

@@ -14,6 +14,9 @@ returns c = let a = c .before .before .before .before .args in reads-untyped (a 
 type-of-requires : tie.Need-type-of-requires
 type-of-requires c κs = on (c .before .names-type .ensures) (c .if1 .left)
 
+form-of-requires : tie.Need-form-of-requires
+form-of-requires c κs = search needs
+
 past-requires : tie.Need-past-requires
 past-requires c κs = search needs
 
@@ -24,7 +27,7 @@ same-length : tie.Need-same-length
 same-length c = search needs
 
 returns-2 : tie.Need-returns-2
-returns-2 c = let a = c .before .before .before .before .before .before .before .before .before .before .args in reads-typed (a .i .now) (a .m .now) (on (c .before .before .before .before .before .before .before .names-type .ensures) (c .before .before .before .before .before .before .if1 .left)) (c .before .before .before .before .before .type-of .ensures) (c .before .before .before .before .past .ensures) (c .before .before .to-sheet .ensures)
+returns-2 c = let a = c .before .before .before .before .before .before .before .before .before .before .before .args in reads-typed (a .i .now) (a .m .now) (on (c .before .before .before .before .before .before .before .before .names-type .ensures) (c .before .before .before .before .before .before .before .if1 .left)) (c .before .before .before .before .before .before .type-of .ensures) (c .before .before .before .before .before .form-of .ensures) (c .before .before .before .before .past .ensures) (c .before .before .to-sheet .ensures)
 
 pub read-named-spec : {M : Type 1} → statement M
 read-named-spec =
@@ -33,6 +36,7 @@ read-named-spec =
     names-type-requires
     returns
     type-of-requires
+    form-of-requires
     past-requires
     to-sheet-requires
     same-length

@@ -3,6 +3,9 @@ use borrow.Author.Needs.{needs}
 use Rattle.checks.proofs.answers.answer.Statement.{statement}
 use Rattle.checks.proofs.answers.answer.Tie as tie
 
+form-of-requires : tie.Need-form-of-requires
+form-of-requires c κs = search needs
+
 tell-check-requires : tie.Need-tell-check-requires
 tell-check-requires c κs = search needs
 
@@ -22,6 +25,7 @@ pub answer-spec : {M : Type 1} → statement M
 answer-spec =
     tie.close
     (tie.spec
+    form-of-requires
     tell-check-requires
     tell-parts-requires
     tell-kopecks-requires

@@ -6,10 +6,10 @@ use Rattle.checks.proofs.answers.tell_parts.Statement.{statement}
 use Rattle.checks.proofs.answers.tell_parts.Tie as tie
 
 abbrev Inv-loop : tie.InvT-loop
-Inv-loop kind m place₀ t5 place = place ≤ 15
+Inv-loop form m place₀ t5 place = place ≤ 15
 
 abbrev μ-loop : tie.MeasureT-loop
-μ-loop kind m place₀ t5 place = 15 - place
+μ-loop form m place₀ t5 place = 15 - place
 
 slice-aggregate-write-all : tie.Need-slice-aggregate-write-all Inv-loop μ-loop
 slice-aggregate-write-all c = omega arith

@@ -4,6 +4,7 @@ use mathlib.Core.Path.{refl}
 use native.Mathlib.Omega.{arith}
 use Rattle.base.proofs.MarkLaws.{up-rest}
 use Rattle.fields.proofs.ContentLaws.{lines-last}
+use Rattle.contents.proofs.LineTests.{looks-by}
 use Rattle.contents.proofs.FieldLaws.{front, lines-on, looks-wrong, looks-rest, plain-wrong, plain}
 use borrow.Author.Needs.{needs}
 use Rattle.contents.proofs.whole.beside.Statement.{statement}
@@ -29,11 +30,11 @@ are-names-requires c κs = search needs
 
 returns : tie.Need-returns
 returns c = let f = front (c .before .before .before .before .before .before .before .args .c .now) (c .before .before .before .before .before .before .before .args .at) (c .before .before .before .before .before .mark-at .result) (c .before .before .before .before .before .before .before .pre) (c .before .before .before .before .before .mark-at .ensures) in
-    (rw (f .1) (plain (c .before .before .before .before .before .before .before .args .twelve) _ (f .0) (denied (c .before .before .before .looks-tax .ensures) (c .before .before .if1 .taken))), c .before .are-names .ensures .so (c .if2 .taken))
+    (rw (f .1) (plain (c .before .before .before .before .before .before .before .args .twelve) _ (f .0) (denied (looks-by (c .before .before .before .looks-tax .ensures)) (c .before .before .if1 .taken))), c .before .are-names .ensures .so (c .if2 .taken))
 
 returns-2 : tie.Need-returns-2
 returns-2 c = let f = front (c .before .before .before .before .before .before .before .args .c .now) (c .before .before .before .before .before .before .before .args .at) (c .before .before .before .before .before .mark-at .result) (c .before .before .before .before .before .before .before .pre) (c .before .before .before .before .before .mark-at .ensures) in
-    rw (f .1) (plain-wrong (c .before .before .before .before .before .before .before .args .twelve) _ (f .0) (denied (c .before .before .before .looks-tax .ensures) (c .before .before .if1 .taken)) (rw (f .1) at (c .before .are-names .ensures .not-so (c .if2 .left))))
+    rw (f .1) (plain-wrong (c .before .before .before .before .before .before .before .args .twelve) _ (f .0) (denied (looks-by (c .before .before .before .looks-tax .ensures)) (c .before .before .if1 .taken)) (rw (f .1) at (c .before .are-names .ensures .not-so (c .if2 .left))))
 
 sub-tax-line : tie.Need-sub-tax-line
 sub-tax-line c = search needs
@@ -55,10 +56,10 @@ enum-told c = search needs
 
 returns-3 : tie.Need-returns-3
 returns-3 c = let f = front (c .before .before .before .before .before .before .before .before .before .args .c .now) (c .before .before .before .before .before .before .before .before .before .args .at) (c .before .before .before .before .before .before .before .mark-at .result) (c .before .before .before .before .before .before .before .before .before .pre) (c .before .before .before .before .before .before .before .mark-at .ensures) in
-    rw (f .1) (looks-wrong (c .before .before .before .before .before .before .before .before .before .args .twelve) _ (f .0) (said (c .before .before .before .before .before .looks-tax .ensures) (c .before .before .before .before .if1 .left)) (λ t. (rw (c .enum-told .given .1) at (c .before .before .tax-line .ensures)) (t .0) (t .1) (t .2)))
+    rw (f .1) (looks-wrong (c .before .before .before .before .before .before .before .before .before .args .twelve) _ (f .0) (said (looks-by (c .before .before .before .before .before .looks-tax .ensures)) (c .before .before .before .before .if1 .left)) (λ t. (rw (c .enum-told .given .1) at (c .before .before .tax-line .ensures)) (t .0) (t .1) (t .2)))
 
 returns-4 : tie.Need-returns-4
-returns-4 c = rw (lines-last (c .before .before .before .before .before .before .before .before .before .before .before .args .c .now) (c .before .before .before .before .before .before .before .before .before .before .before .args .at) (c .before .before .before .before .before .before .before .before .before .mark-at .result) (c .before .before .before .before .before .before .before .before .before .before .before .pre) (c .before .before .before .before .before .before .before .before .before .mark-at .ensures) (c .if3 .taken)) (looks-rest (c .before .before .before .before .before .before .before .before .before .before .before .args .twelve) _ _ (said (c .before .before .before .before .before .before .before .looks-tax .ensures) (c .before .before .before .before .before .before .if1 .left)) (λ n. absurd (omega (arith, n .least))))
+returns-4 c = rw (lines-last (c .before .before .before .before .before .before .before .before .before .before .before .args .c .now) (c .before .before .before .before .before .before .before .before .before .before .before .args .at) (c .before .before .before .before .before .before .before .before .before .mark-at .result) (c .before .before .before .before .before .before .before .before .before .before .before .pre) (c .before .before .before .before .before .before .before .before .before .mark-at .ensures) (c .if3 .taken)) (looks-rest (c .before .before .before .before .before .before .before .before .before .before .before .args .twelve) _ _ (said (looks-by (c .before .before .before .before .before .before .before .looks-tax .ensures)) (c .before .before .before .before .before .before .if1 .left)) (λ n. absurd (omega (arith, n .least))))
 
 next-line-requires : tie.Need-next-line-requires
 next-line-requires c κs = search needs
@@ -72,7 +73,7 @@ returns-5 c = let g = lines-on (c .before .before .before .before .before .befor
 
 returns-6 : tie.Need-returns-6
 returns-6 c = let g = lines-on (c .before .before .before .before .before .before .before .before .before .before .before .before .before .before .args .c .now) (c .before .before .before .before .before .before .before .before .before .before .before .before .before .before .args .at) (c .before .before .before .before .before .before .before .before .before .before .before .before .mark-at .result) (c .before .before .next-line .result) (c .before .before .before .before .before .before .before .before .before .before .before .before .before .before .pre) (c .before .before .before .before .before .before .before .before .before .before .before .before .mark-at .ensures) (c .before .before .before .if3 .left) (c .before .before .next-line .ensures) in
-    rw (g .0) (looks-rest (c .before .before .before .before .before .before .before .before .before .before .before .before .before .before .args .twelve) _ _ (said (c .before .before .before .before .before .before .before .before .before .before .looks-tax .ensures) (c .before .before .before .before .before .before .before .before .before .if1 .left)) (c .before .are-names2 .ensures .not-so (c .if4 .left)))
+    rw (g .0) (looks-rest (c .before .before .before .before .before .before .before .before .before .before .before .before .before .before .args .twelve) _ _ (said (looks-by (c .before .before .before .before .before .before .before .before .before .before .looks-tax .ensures)) (c .before .before .before .before .before .before .before .before .before .if1 .left)) (c .before .are-names2 .ensures .not-so (c .if4 .left)))
 
 pub beside-spec : {M : Type 1} → statement M
 beside-spec =

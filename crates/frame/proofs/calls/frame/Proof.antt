@@ -11,7 +11,7 @@ use Rattle.frame.proofs.calls.frame.Statement.{statement}
 use Rattle.frame.proofs.calls.frame.Tie as tie
 
 -- the type has places
-some : (c : tie.Else1) → length (placesOf (c .before .before .before .args .kind)) ≡ 0 → ⊥
+some : (c : tie.Else1) → length (placesOf (c .before .before .before .args .form)) ≡ 0 → ⊥
 some c q = c .if1 .left (c .before .count-of .ensures ∙ q)
 
 framed-here : (c : tie.Else3) → framed (c .before .before .before .before .before .before .args .m .now) ≡ true
@@ -27,7 +27,7 @@ returns : tie.Need-returns
 returns c =
     let k = c .before .before in
     let a = k .before .before .args in
-    c .refused .ensures ∙ is-18 (a .kind) (a .m .now) (sym (k .count-of .ensures) ∙ c .before .if1 .taken)
+    c .refused .ensures ∙ is-18 (a .form) (a .m .now) (sym (k .count-of .ensures) ∙ c .before .if1 .taken)
 
 refused-requires-2 : tie.Need-refused-requires-2
 refused-requires-2 c κs = search needs
@@ -36,7 +36,7 @@ returns-2 : tie.Need-returns-2
 returns-2 c =
     let e = c .before .before in
     let a = e .before .before .before .args in
-    c .refused2 .ensures ∙ is-1 (a .kind) (a .m .now) (some e) (c .before .if2 .taken)
+    c .refused2 .ensures ∙ is-1 (a .form) (a .m .now) (some e) (c .before .if2 .taken)
 
 is-framed-requires : tie.Need-is-framed-requires
 is-framed-requires c κs = search needs
@@ -49,7 +49,7 @@ returns-3 c =
     let f = c .before .before in
     let e = f .before .before in
     let a = e .before .before .before .args in
-    c .refused3 .ensures ∙ is-2 (a .kind) (a .m .now) (some e) (f .before .if2 .left) (sym (f .is-framed .ensures) ∙ not-true _ (c .before .if3 .taken))
+    c .refused3 .ensures ∙ is-2 (a .form) (a .m .now) (some e) (f .before .if2 .left) (sym (f .is-framed .ensures) ∙ not-true _ (c .before .if3 .taken))
 
 x-classes-requires : tie.Need-x-classes-requires
 x-classes-requires c κs = search needs
@@ -77,7 +77,7 @@ returns-4 c =
     let f = c .before .before .before .before .before .before .before in
     let e = f .before .before .before in
     let a = e .before .before .before .args in
-    c .pass .ensures ∙ is-rest (a .kind) (a .m .now) (some e) (f .before .before .if2 .left) (framed-here f)
+    c .pass .ensures ∙ is-rest (a .form) (a .m .now) (some e) (f .before .before .if2 .left) (framed-here f)
 
 pub frame-spec : {M : Type 1} → statement M
 frame-spec =

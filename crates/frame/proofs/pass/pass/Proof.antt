@@ -23,10 +23,10 @@ use Rattle.frame.proofs.pass.pass.Statement.{statement}
 use Rattle.frame.proofs.pass.pass.Tie as tie
 
 abbrev Inv-loop : tie.InvT-loop
-Inv-loop kind t tags musts count m e spots₀ at₀ n₀ next₀ word₀ spots at n next word = Going kind m spots at n next word
+Inv-loop form t tags musts count m e spots₀ at₀ n₀ next₀ word₀ spots at n next word = Going form m spots at n next word
 
 abbrev μ-loop : tie.MeasureT-loop
-μ-loop kind t tags musts count m e spots₀ at₀ n₀ next₀ word₀ spots at n next word = length m - at
+μ-loop form t tags musts count m e spots₀ at₀ n₀ next₀ word₀ spots at n next word = length m - at
 
 -- the line that a turn passes
 line : (c : tie.Else1 Inv-loop μ-loop) → let k = c .before .before in let l = k .before .before in let m = l .before .before .args .m .now in
@@ -39,35 +39,35 @@ good : (c : tie.Else2 Inv-loop μ-loop) → let e = c .before .before .before .b
 good c = sym (c .before .is-bad-line .ensures) ∙ c .if2 .left
 
 -- its field's place, and what is wrong there
-spot : (c : tie.After-step-of Inv-loop μ-loop) → let e = c .before .before .before .before .before .before in let k = e .before .before in let l = k .before .before in let a = l .before .before .args in
+spot : (c : tie.After-field-step Inv-loop μ-loop) → let e = c .before .before .before .before .before .before in let k = e .before .before in let l = k .before .before in let a = l .before .before .args in
     let t = upto 58 (tail (take (k .end-of .result - l .loop .at) (drop (l .loop .at) (a .m .now)))) in
-    (c .step-of .result .place ≡ find (placesOf (a .kind)) t) × (c .step-of .result .wrong ≡ wrong (placesOf (a .kind)) (l .loop .next) (find (placesOf (a .kind)) t))
+    (c .field-step .result .place ≡ find (placesOf (a .form)) t) × (c .field-step .result .wrong ≡ wrong (placesOf (a .form)) (l .loop .next) (find (placesOf (a .form)) t))
 spot c =
     let t = c .before .before .before .before in
     let e = t .before .before in
     let l = e .before .before .before .before in
-    stepped (l .before .before .pre .1) (l .loop .next) (t .line-tag .result) _ (c .step-of .result) (t .line-tag .ensures) (c .before .if3 .left) (c .step-of .ensures)
+    stepped (l .before .before .args .form) (l .loop .next) (t .line-tag .result) _ (c .field-step .result) (t .line-tag .ensures) (c .before .if3 .left) (c .field-step .ensures)
 
 -- nothing is
 fine : (c : tie.Else4 Inv-loop μ-loop) → let s = c .before in let l = s .before .before .before .before .before .before .before .before .before .before in
-    wrong (placesOf (l .before .before .args .kind)) (l .loop .next) (s .step-of .result .place) ≡ 0
+    wrong (placesOf (l .before .before .args .form)) (l .loop .next) (s .field-step .result .place) ≡ 0
 fine c =
     let s = c .before in
     let l = s .before .before .before .before .before .before .before .before .before .before in
-    ap (wrong (placesOf (l .before .before .args .kind)) (l .loop .next)) (spot s .0) ∙ sym (spot s .1) ∙ c .if4 .left
+    ap (wrong (placesOf (l .before .before .args .form)) (l .loop .next)) (spot s .0) ∙ sym (spot s .1) ∙ c .if4 .left
 
 seat : (c : tie.Else4 Inv-loop μ-loop) → let s = c .before in let l = s .before .before .before .before .before .before .before .before .before .before in
-    Seated (placesOf (l .before .before .args .kind)) (l .loop .next) (s .step-of .result .place)
+    Seated (placesOf (l .before .before .args .form)) (l .loop .next) (s .field-step .result .place)
 seat c = wrong-seated _ _ _ (fine c)
 
 few : (c : tie.At-loop Inv-loop μ-loop) → (c .loop .n ≤ 14) × (c .loop .next ≤ 14)
-few c = let p = few-places (c .before .before .args .kind) in let g = c .loop .inv in (omega (arith, g .few, g .many), omega (arith, g .many))
+few c = let p = few-places (c .before .before .args .form) in let g = c .loop .inv in (omega (arith, g .few, g .many), omega (arith, g .many))
 
 sub-e : tie.Need-sub-e Inv-loop μ-loop
 sub-e c = let p = c .before .pre in let m = c .before .args .m .now in omega (arith, framed-long m (rule2-fine m .0 (p .3)))
 
 loop-holds : tie.Need-loop-holds Inv-loop μ-loop
-loop-holds c = begin (c .before .args .kind) (c .before .args .m .now) (c .before .pre .3)
+loop-holds c = begin (c .before .args .form) (c .before .args .m .now) (c .before .pre .3)
 
 end-of-requires : tie.Need-end-of-requires Inv-loop μ-loop
 end-of-requires c κs = let l = c .before in (l .before .before .pre .0, l .loop .inv .tail, c .loop-test .taken)
@@ -84,7 +84,7 @@ returns c =
     let k = t .before .before in
     let l = k .before .before in
     let a = l .before .before .args in
-    c .refused .ensures ∙ bare-broken (a .kind) (a .m .now) (stop-3 (l .loop .inv) (k .end-of .ensures .broken (sym (t .before .is-ended .ensures) ∙ not-true _ (t .if1 .taken))))
+    c .refused .ensures ∙ bare-broken (a .form) (a .m .now) (stop-3 (l .loop .inv) (k .end-of .ensures .broken (sym (t .before .is-ended .ensures) ∙ not-true _ (t .if1 .taken))))
 
 sub-line : tie.Need-sub-line Inv-loop μ-loop
 sub-line c = let r = line c in omega (arith, r .size)
@@ -117,7 +117,7 @@ returns-2 c =
     let e = b .before .before .before in
     let l = e .before .before .before .before in
     let a = l .before .before .args in
-    c .refused2 .ensures ∙ bare-after3 (a .kind) (a .m .now) _ 4 (l .loop .at) (stop-4 (l .loop .inv) (line e) (sym (b .is-bad-line .ensures) ∙ t .if2 .taken)) (c .before .late-line .ensures)
+    c .refused2 .ensures ∙ bare-after3 (a .form) (a .m .now) _ 4 (l .loop .at) (stop-4 (l .loop .inv) (line e) (sym (b .is-bad-line .ensures) ∙ t .if2 .taken)) (c .before .late-line .ensures)
 
 add-at : tie.Need-add-at Inv-loop μ-loop
 add-at c = let e = c .before .before .before .before .before in let s = e .before .before .end-of .ensures in omega (arith, s .short)
@@ -132,8 +132,8 @@ loop-again c =
     let l = e .before .before .before .before in
     on-line (l .loop .inv) (line e) (good (c .before)) (plain (eqb (l .loop .at) 5) _ (good (c .before)) (sym (t .line-tag .ensures) ∙ c .if3 .taken))
 
-step-of-requires : tie.Need-step-of-requires Inv-loop μ-loop
-step-of-requires c κs = search needs
+field-step-requires : tie.Need-field-step-requires Inv-loop μ-loop
+field-step-requires c κs = search needs
 
 add-late-field : tie.Need-add-late-field Inv-loop μ-loop
 add-late-field c = let e = c .before .before .before .before .before .before .before in let s = e .before .before .end-of .ensures in omega (arith, s .short)
@@ -153,7 +153,7 @@ returns-3 c =
     let l = e .before .before .before .before in
     let a = l .before .before .args in
     c .refused3 .ensures
-    ∙ bare-after4 (a .kind) (a .m .now) _ _ (l .loop .at)
+    ∙ bare-after4 (a .form) (a .m .now) _ _ (l .loop .at)
     (stop-5 (l .loop .inv) (line e) (good (s .before .before)) (opened _ (λ q. s .before .if3 .left (u .line-tag .ensures ∙ q))) (spot s .1) (t .if4 .taken)) (c .before .late-field .ensures)
 
 cast-spots : tie.Need-cast-spots Inv-loop μ-loop
@@ -175,8 +175,8 @@ add-word : tie.Need-add-word Inv-loop μ-loop
 add-word c =
     let e = c .before in
     let l = e .before .before .before .before .before .before .before .before .before .before .before in
-    let q = e .before .step-of .result .place in
-    let p = few-places (l .before .before .args .kind) in
+    let q = e .before .field-step .result .place in
+    let p = few-places (l .before .before .args .form) in
     let s = seat e in
     let b = c .bit-of .ensures ∙ bit-of q (omega (arith, s .within)) in
     let w = word-on (l .loop .word) (l .loop .next) q (l .loop .inv .small) (s .low) in
@@ -184,7 +184,7 @@ add-word c =
     omega arith
 
 add-next : tie.Need-add-next Inv-loop μ-loop
-add-next c = let e = c .before in let l = e .before .before .before .before .before .before .before .before .before .before .before in let p = few-places (l .before .before .args .kind) in omega (arith, seat e .within)
+add-next c = let e = c .before in let l = e .before .before .before .before .before .before .before .before .before .before .before in let p = few-places (l .before .before .args .form) in omega (arith, seat e .within)
 
 add-at-2 : tie.Need-add-at-2 Inv-loop μ-loop
 add-at-2 c = let e = c .before .before .before .before .before .before .before .before in let s = e .before .before .end-of .ensures in omega (arith, s .short)
@@ -199,7 +199,7 @@ loop-again-2 c =
     let u = s .before .before .before .before in
     let e = u .before .before in
     let l = e .before .before .before .before in
-    let p = few-places (l .before .before .args .kind) in
+    let p = few-places (l .before .before .args .form) in
     on-field (l .loop .inv) (line e) (good (s .before .before)) (opened _ (λ q. s .before .if3 .left (u .line-tag .ensures ∙ q))) (spot s .0) (fine f)
     (c .bit-of .ensures ∙ bit-of _ (omega (arith, seat f .within)))
 
@@ -216,7 +216,7 @@ returns-4 c =
     let l = k .before .before in
     let a = l .before .before .args in
     c .refused4 .ensures
-    ∙ bare-broken (a .kind) (a .m .now) (finish (l .loop .inv) (k .before .loop-test .left) (sym (missing-of-form (l .before .before .pre .1) (l .loop .next)) ∙ sym (k .is-missing .ensures) ∙ t .if5 .taken))
+    ∙ bare-broken (a .form) (a .m .now) (finish (l .loop .inv) (k .before .loop-test .left) (sym (missing-of-form (l .before .before .pre .1) (l .loop .next)) ∙ sym (k .is-missing .ensures) ∙ t .if5 .taken))
 
 cast-spots-2 : tie.Need-cast-spots-2 Inv-loop μ-loop
 cast-spots-2 c = let l = c .before .before .before in let p = l .before .before .pre in omega (arith, p .2)
@@ -258,7 +258,7 @@ pass-spec =
     add-at
     loop-less
     loop-again
-    step-of-requires
+    field-step-requires
     add-late-field
     late-field-requires
     refused-requires-3

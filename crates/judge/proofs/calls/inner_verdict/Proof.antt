@@ -1,14 +1,11 @@
 -- `judge::calls::inner_verdict` meets its contract. Assumes nothing.
-use Rattle.judge.proofs.CallLaws.{inner-refused, inner-plain, inner-signed}
-use Rattle.fields.specs.Field.{fields}
-use borrow.Author.Tests.{not-true, not-false}
 use mathlib.Core.Path.{_∙_}
+use borrow.Author.Tests.{not-true, not-false}
+use Rattle.fields.specs.Field.{fields}
+use Rattle.judge.proofs.CallLaws.{inner-refused, inner-plain, inner-signed}
 use borrow.Author.Needs.{needs}
 use Rattle.judge.proofs.calls.inner_verdict.Statement.{statement}
 use Rattle.judge.proofs.calls.inner_verdict.Tie as tie
-
-facts-of-requires : tie.Need-facts-of-requires
-facts-of-requires c κs = search needs
 
 values-rule-requires : tie.Need-values-rule-requires
 values-rule-requires c κs = search needs
@@ -17,13 +14,14 @@ enum-known-v : tie.Need-enum-known-v
 enum-known-v c = search needs
 
 returns : tie.Need-returns
-returns c = let a = (c .before .before .before .before .before .before .args) in inner-refused (a .kind) (fields (a .m .now)) (c .before .before .before .before .facts-of .ensures) (c .before .before .before .values-rule .ensures) (c .before .v .given .1)
+returns c = let s = c .before .before .before .before .before in let a = s .args in inner-refused (a .form) (fields (a .m .now)) (s .pre .3) (c .before .before .before .values-rule .ensures) (c .before .v .given .1)
 
 enum-told : tie.Need-enum-told
 enum-told c = search needs
 
 returns-2 : tie.Need-returns-2
-returns-2 c = let s = (c .before .before .before .before .before .before) in inner-plain (s .args .kind) (fields (s .args .m .now)) (c .before .before .before .before .facts-of .ensures) (c .before .before .before .values-rule .ensures) (c .before .enum-told .given .1) (s .pre .2) (not-true _ (c .if1 .taken))
+returns-2 c = let s = c .before .before .before .before .before in let a = s .args in
+    inner-plain (a .form) (fields (a .m .now)) (s .pre .3) (c .before .before .before .values-rule .ensures) (c .before .enum-told .given .1) (s .pre .2) (not-true _ (c .if1 .taken))
 
 back-table-requires : tie.Need-back-table-requires
 back-table-requires c κs = search needs
@@ -32,13 +30,13 @@ speeches-rule-requires : tie.Need-speeches-rule-requires
 speeches-rule-requires c κs = search needs
 
 returns-3 : tie.Need-returns-3
-returns-3 c = let s = (c .before .before .before .before .before .before .before .before .before) in (c .speeches-rule .ensures) ∙ inner-signed (s .args .kind) (fields (s .args .m .now)) (c .before .before .before .before .before .before .before .facts-of .ensures) (c .before .before .before .before .before .before .values-rule .ensures) (c .before .before .before .before .enum-told .given .1) (s .pre .2) (not-false _ (c .before .before .before .if1 .left))
+returns-3 c = let s = c .before .before .before .before .before .before .before .before in let a = s .args in
+    c .speeches-rule .ensures ∙ inner-signed (a .form) (fields (a .m .now)) (s .pre .3) (c .before .before .before .before .before .before .values-rule .ensures) (c .before .before .before .before .enum-told .given .1) (s .pre .2) (not-false _ (c .before .before .before .if1 .left))
 
 pub inner-verdict-spec : {M : Type 1} → statement M
 inner-verdict-spec =
     tie.close
     (tie.spec
-    facts-of-requires
     values-rule-requires
     enum-known-v
     returns

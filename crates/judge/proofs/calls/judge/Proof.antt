@@ -16,7 +16,7 @@ returns : tie.Need-returns
 returns c =
     let a = (c .before .before .before .before .before .args) in
     let e = (c .before .before .before .frame .ensures) in
-    frame-refused (a .kind) (a .m .now) e (refused-by (a .kind) (a .m .now) e (c .enum-told .given .1))
+    frame-refused (a .form) (a .m .now) e (refused-by (a .form) (a .m .now) e (c .enum-told .given .1))
 
 enum-told-2 : tie.Need-enum-told-2
 enum-told-2 c = search needs
@@ -26,8 +26,8 @@ content-verdict-requires c κs =
     let a = (c .before .before .before .before .before .before .args) in
     let e = (c .before .before .before .before .frame .ensures) in
     let q = (c .before .enum-told2 .given .1) in
-    let f = found (a .kind) (a .m .now) e q in
-    (settled f, fields-counted (a .kind) (a .m .now) e q, taken (a .kind) (a .m .now) (f .clean) .walk-fine)
+    let f = found (a .form) (a .m .now) e q in
+    (settled f, fields-counted (a .form) (a .m .now) e q, taken (a .form) (a .m .now) (f .clean) .walk-fine)
 
 enum-known-v : tie.Need-enum-known-v
 enum-known-v c = search needs
@@ -38,7 +38,7 @@ refused-requires c κs = search needs
 returns-2 : tie.Need-returns-2
 returns-2 c =
     let a = (c .before .before .before .before .before .before .before .before .before .before .before .args) in
-    judged-refused (a .kind) (a .m .now) (refused-by (a .kind) (a .m .now) (c .before .before .before .before .before .before .before .before .before .frame .ensures) (c .before .before .before .before .before .before .enum-told2 .given .1)) (c .before .before .before .before .content-verdict .ensures) (c .before .before .v .given .1) (c .refused .ensures)
+    judged-refused (a .form) (a .m .now) (refused-by (a .form) (a .m .now) (c .before .before .before .before .before .before .before .before .before .frame .ensures) (c .before .before .before .before .before .before .enum-told2 .given .1)) (c .before .before .before .before .content-verdict .ensures) (c .before .before .v .given .1) (c .refused .ensures)
 
 enum-told-3 : tie.Need-enum-told-3
 enum-told-3 c = search needs
@@ -47,7 +47,7 @@ returns-3 : tie.Need-returns-3
 returns-3 c =
     let a = (c .before .before .before .before .before .before .before .before .before .args) in
     let e = (c .before .before .before .before .before .before .before .frame .ensures) in
-    judged-fine (a .kind) (a .m .now) (refused-by (a .kind) (a .m .now) e (c .before .before .before .before .enum-told2 .given .1)) (c .before .before .content-verdict .ensures) e (c .enum-told3 .given .1)
+    judged-fine (a .form) (a .m .now) (refused-by (a .form) (a .m .now) e (c .before .before .before .before .enum-told2 .given .1)) (c .before .before .content-verdict .ensures) e (c .enum-told3 .given .1)
 
 pub judge-spec : {M : Type 1} → statement M
 judge-spec =

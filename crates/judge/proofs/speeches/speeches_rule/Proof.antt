@@ -13,13 +13,13 @@ use Rattle.judge.proofs.speeches.speeches_rule.Statement.{statement}
 use Rattle.judge.proofs.speeches.speeches_rule.Tie as tie
 
 abbrev Inv-loop : tie.InvT-loop
-Inv-loop back kind m spots n k₀ k = (k ≤ n) × (unheard (spoken kind 5 (fields m)) ≡ unheard (spoken kind (byte spots k) (drop k (fields m))))
+Inv-loop back form m spots n k₀ k = (k ≤ n) × (unheard (spoken form 5 (fields m)) ≡ unheard (spoken form (byte spots k) (drop k (fields m))))
 
 abbrev μ-loop : tie.MeasureT-loop
-μ-loop back kind m spots n k₀ k = n - k
+μ-loop back form m spots n k₀ k = n - k
 
 loop-holds : tie.Need-loop-holds Inv-loop μ-loop
-loop-holds c = let a = (c .before .args) in (omega arith, walk-start (c .before .pre .1) (λ o fs. unheard (spoken (a .kind) o fs)))
+loop-holds c = let a = (c .before .args) in (omega arith, walk-start (c .before .pre .1) (λ o fs. unheard (spoken (a .form) o fs)))
 
 field-at-requires : tie.Need-field-at-requires Inv-loop μ-loop
 field-at-requires c κs = ((c .before .before .before .pre .1), omega (arith, (c .loop-test .taken), (c .before .before .before .pre .2)))
@@ -43,14 +43,14 @@ add-t17 : tie.Need-add-t17 Inv-loop μ-loop
 add-t17 c =
     let s = (c .before .before .before .before .before .before .before .before .before) in
     let h = (c .before .before .before .before .before .field-at .ensures) in
-    let e = unheard-here h (s .args .kind) (s .pre .0) (sym (c .before .i .given .1) ∙ (c .before .before .before .broken-text .ensures)) in
-    omega (arith, place-small (s .pre .1) (s .args .kind) _ 14 _ (omega (arith, (c .before .before .before .before .before .before .loop-test .taken), s .pre .2)) e, s .pre .1 .within)
+    let e = unheard-here h (s .args .form) (s .pre .0) (sym (c .before .i .given .1) ∙ (c .before .before .before .broken-text .ensures)) in
+    omega (arith, place-small (s .pre .1) (s .args .form) _ 14 _ (omega (arith, (c .before .before .before .before .before .before .loop-test .taken), s .pre .2)) e, s .pre .1 .within)
 
 returns : tie.Need-returns Inv-loop μ-loop
 returns c =
     let s = (c .before .before .before .before .before .before .before .before .before) in
     let h = (c .before .before .before .before .before .field-at .ensures) in
-    sym ((c .before .before .before .before .before .before .before .loop .inv .1) ∙ sym (unheard-here h (s .args .kind) (s .pre .0) (sym (c .before .i .given .1) ∙ (c .before .before .before .broken-text .ensures))))
+    sym ((c .before .before .before .before .before .before .before .loop .inv .1) ∙ sym (unheard-here h (s .args .form) (s .pre .0) (sym (c .before .i .given .1) ∙ (c .before .before .before .broken-text .ensures))))
 
 enum-told : tie.Need-enum-told Inv-loop μ-loop
 enum-told c = search needs
@@ -65,11 +65,11 @@ loop-again : tie.Need-loop-again Inv-loop μ-loop
 loop-again c =
     let s = (c .before .before .before .before .before .before .before .before) in
     let h = (c .before .before .before .before .field-at .ensures) in
-    (omega (arith, (c .before .before .before .before .before .loop-test .taken)), (c .before .before .before .before .before .before .loop .inv .1) ∙ heard-on h (s .args .kind) (s .pre .0) (sym (c .enum-told .given .1) ∙ (c .before .before .broken-text .ensures)))
+    (omega (arith, (c .before .before .before .before .before .loop-test .taken)), (c .before .before .before .before .before .before .loop .inv .1) ∙ heard-on h (s .args .form) (s .pre .0) (sym (c .enum-told .given .1) ∙ (c .before .before .broken-text .ensures)))
 
 returns-2 : tie.Need-returns-2 Inv-loop μ-loop
 unfolding unheard spoken
-returns-2 c = let s = (c .before .before .before) in let a = s .args in sym ((c .before .loop .inv .1) ∙ walk-end (a .m .now) _ (λ o fs. unheard (spoken (a .kind) o fs)) (s .pre .2) (c .loop-test .left))
+returns-2 c = let s = (c .before .before .before) in let a = s .args in sym ((c .before .loop .inv .1) ∙ walk-end (a .m .now) _ (λ o fs. unheard (spoken (a .form) o fs)) (s .pre .2) (c .loop-test .left))
 
 pub speeches-rule-spec : {M : Type 1} → statement M
 speeches-rule-spec =

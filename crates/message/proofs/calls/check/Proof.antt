@@ -19,23 +19,23 @@ use Rattle.message.proofs.calls.check.Statement.{statement}
 use Rattle.message.proofs.calls.check.Tie as tie
 
 -- the message is not refused
-here : (c : tie.After-enum-told) → let f = c .before .before .before in let a = f .before .before .before .args in Found (a .kind) (a .m .now) (f .judge .result .spots) (f .judge .result .present)
-here c = let f = c .before .before .before in let a = f .before .before .before .args in judged-found (a .kind) (a .m .now) (f .judge .ensures) (c .enum-told .given .1)
+here : (c : tie.After-enum-told) → let f = c .before .before .before in let a = f .before .before .before .args in Found (a .form) (a .m .now) (f .judge .result .spots) (f .judge .result .present)
+here c = let f = c .before .before .before in let a = f .before .before .before .args in judged-found (a .form) (a .m .now) (f .judge .ensures) (c .enum-told .given .1)
 
-clean : (c : tie.After-enum-told) → let f = c .before .before .before in let a = f .before .before .before .args in verdictOf (a .kind) (a .m .now) ≡ Fine
-clean c = let f = c .before .before .before in let a = f .before .before .before .args in judged-by (a .kind) (a .m .now) (f .judge .ensures) (c .enum-told .given .1)
+clean : (c : tie.After-enum-told) → let f = c .before .before .before in let a = f .before .before .before .args in verdictOf (a .form) (a .m .now) ≡ Fine
+clean c = let f = c .before .before .before in let a = f .before .before .before .args in judged-by (a .form) (a .m .now) (f .judge .ensures) (c .enum-told .given .1)
 
 -- as many ones as fields
 counted : (c : tie.After-enum-told) → let f = c .before .before .before in ones (f .judge .result .present) ≡ length (fields (f .before .before .before .args .m .now))
 counted c =
     let f = c .before .before .before in
     let a = f .before .before .before .args in
-    ap ones (here c .word-is) ∙ taken (a .kind) (a .m .now) (here c .clean) .sound .as-many
+    ap ones (here c .word-is) ∙ taken (a .form) (a .m .now) (here c .clean) .sound .as-many
 
 few : (c : tie.After-enum-told) → ones (c .before .before .before .judge .result .present) ≤ 14
 few c =
     let a = c .before .before .before .before .before .before .args in
-    let t = taken (a .kind) (a .m .now) (here c .clean) in
+    let t = taken (a .form) (a .m .now) (here c .clean) in
     omega (arith, counted c, t .few)
 
 judge-requires : tie.Need-judge-requires
@@ -48,7 +48,7 @@ returns : tie.Need-returns
 returns c =
     let f = c .before .before .before .before in
     let a = f .before .before .before .args in
-    gives-refused (a .kind) (a .m .now) (a .list .now) (judged-by (a .kind) (a .m .now) (f .judge .ensures) (c .before .verdict .given .1))
+    gives-refused (a .form) (a .m .now) (a .list .now) (judged-by (a .form) (a .m .now) (f .judge .ensures) (c .before .verdict .given .1))
 
 enum-told : tie.Need-enum-told
 enum-told c = search needs
@@ -67,8 +67,8 @@ returns-2 c =
     let t = c .before in
     let a = t .before .before .before .before .before .before .args in
     let n = counted t in
-    subst (λ (x : ℕ). Checks (a .kind) (a .m .now) (a .list .now) (Refused 17 (3 * x)) (a .list .now)) (sym n)
-    (gives-short (a .kind) (a .m .now) (a .list .now) (clean t) (omega (arith, c .if1 .taken)))
+    subst (λ (x : ℕ). Checks (a .form) (a .m .now) (a .list .now) (Refused 17 (3 * x)) (a .list .now)) (sym n)
+    (gives-short (a .form) (a .m .now) (a .list .now) (clean t) (omega (arith, c .if1 .taken)))
 
 fill-requires : tie.Need-fill-requires
 fill-requires c κs = search needs
@@ -83,7 +83,7 @@ returns-3 c =
     let t = e .before in
     let a = t .before .before .before .before .before .before .args in
     let n = counted t in
-    let r = gives-full (a .kind) (a .m .now) (a .list .now) (clean t) (omega (arith, e .if1 .left)) in
+    let r = gives-full (a .form) (a .m .now) (a .list .now) (clean t) (omega (arith, e .if1 .left)) in
     record {
       answers = ap₂ Accepted n (here t .word-is) ∙ r .answers;
       leaves = p .fill .ensures ∙ ap (placed (a .list .now) 0) (numbers-listed (here t) n) ∙ r .leaves;

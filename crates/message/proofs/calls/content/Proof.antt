@@ -10,7 +10,7 @@ span-requires : tie.Need-span-requires
 span-requires c κs = search needs
 
 cut-requires : tie.Need-cut-requires
-cut-requires c κs = let a = (c .before .before .args) in inside-is (a .m .now) (c .span .ensures) (inside-span (a .kind) (a .m .now) (a .place))
+cut-requires c κs = let a = (c .before .before .args) in inside-is (a .m .now) (c .span .ensures) (inside-span (a .form) (a .m .now) (a .place))
 
 returns : tie.Need-returns
 unfolding contentOf

@@ -20,7 +20,7 @@ part-of-requires : tie.Need-part-of-requires
 part-of-requires c κs = search needs
 
 cut-requires : tie.Need-cut-requires
-cut-requires c κs = let a = (c .before .before .before .before .before .before .before .before .args) in paid-inside (a .kind) (a .m .now) (c .before .before .before .before .before .before .judge .ensures) (c .before .before .before .enum-told .given .1) (c .before .paid-place .ensures) (c .part-of .ensures)
+cut-requires c κs = let a = (c .before .before .before .before .before .before .before .before .args) in paid-inside (a .form) (a .m .now) (c .before .before .before .before .before .before .judge .ensures) (c .before .before .before .enum-told .given .1) (c .before .paid-place .ensures) (c .part-of .ensures)
 
 date-of-requires : tie.Need-date-of-requires
 date-of-requires c κs = search needs
@@ -29,10 +29,10 @@ split-day-requires : tie.Need-split-day-requires
 split-day-requires c κs = search needs
 
 returns : tie.Need-returns
-returns c = let a = (c .before .before .before .before .before .before .args) in day-refused (a .kind) (a .m .now) (c .before .before .before .before .judge .ensures) (c .before .verdict .given .1)
+returns c = let a = (c .before .before .before .before .before .before .args) in day-refused (a .form) (a .m .now) (c .before .before .before .before .judge .ensures) (c .before .verdict .given .1)
 
 returns-2 : tie.Need-returns-2
-returns-2 c = let a = (c .before .before .before .before .before .before .before .before .before .before .before .args) in day-is (a .kind) (a .m .now) (c .before .before .before .before .before .before .before .before .before .judge .ensures) (c .before .before .before .before .before .before .enum-told .given .1) (c .before .before .before .before .paid-place .ensures) (c .before .before .before .part-of .ensures) (c .before .before .cut .ensures) (c .before .date-of .ensures) (c .split-day .ensures)
+returns-2 c = let a = (c .before .before .before .before .before .before .before .before .before .before .before .args) in day-is (a .form) (a .m .now) (c .before .before .before .before .before .before .before .before .before .judge .ensures) (c .before .before .before .before .before .before .enum-told .given .1) (c .before .before .before .before .paid-place .ensures) (c .before .before .before .part-of .ensures) (c .before .before .cut .ensures) (c .before .date-of .ensures) (c .split-day .ensures)
 
 pub date-spec : {M : Type 1} → statement M
 date-spec =

@@ -20,16 +20,16 @@ part-of-requires : tie.Need-part-of-requires
 part-of-requires c κs = search needs
 
 cut-requires : tie.Need-cut-requires
-cut-requires c κs = let a = (c .before .before .before .before .before .before .before .before .args) in paid-inside (a .kind) (a .m .now) (c .before .before .before .before .before .before .judge .ensures) (c .before .before .before .enum-told .given .1) (c .before .paid-place .ensures) (c .part-of .ensures)
+cut-requires c κs = let a = (c .before .before .before .before .before .before .before .before .args) in paid-inside (a .form) (a .m .now) (c .before .before .before .before .before .before .judge .ensures) (c .before .before .before .enum-told .given .1) (c .before .paid-place .ensures) (c .part-of .ensures)
 
 kopecks-of-requires : tie.Need-kopecks-of-requires
 kopecks-of-requires c κs = search needs
 
 returns : tie.Need-returns
-returns c = let a = (c .before .before .before .before .before .before .args) in amount-refused (a .kind) (a .m .now) (c .before .before .before .before .judge .ensures) (c .before .verdict .given .1)
+returns c = let a = (c .before .before .before .before .before .before .args) in amount-refused (a .form) (a .m .now) (c .before .before .before .before .judge .ensures) (c .before .verdict .given .1)
 
 returns-2 : tie.Need-returns-2
-returns-2 c = let a = (c .before .before .before .before .before .before .before .before .before .before .args) in amount-is (a .kind) (a .m .now) (c .before .before .before .before .before .before .before .before .judge .ensures) (c .before .before .before .before .before .enum-told .given .1) (c .before .before .before .paid-place .ensures) (c .before .before .part-of .ensures) (c .before .cut .ensures) (c .kopecks-of .ensures)
+returns-2 c = let a = (c .before .before .before .before .before .before .before .before .before .before .args) in amount-is (a .form) (a .m .now) (c .before .before .before .before .before .before .before .before .judge .ensures) (c .before .before .before .before .before .enum-told .given .1) (c .before .before .before .paid-place .ensures) (c .before .before .part-of .ensures) (c .before .cut .ensures) (c .kopecks-of .ensures)
 
 pub kopecks-spec : {M : Type 1} → statement M
 kopecks-spec =

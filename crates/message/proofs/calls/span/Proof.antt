@@ -28,7 +28,7 @@ unfolding spanOf
 returns c =
     let f = c .before .before .before in
     let a = f .before .before .args in
-    sym (ap (λ (v : Verdict). spanBy v (partAt (placesOf (a .kind)) (a .place) 5 (fields (a .m .now)))) (judged-by (a .kind) (a .m .now) (f .judge .ensures) (c .enum-told .given .1)))
+    sym (ap (λ (v : Verdict). spanBy v (partAt (placesOf (a .form)) (a .place) 5 (fields (a .m .now)))) (judged-by (a .form) (a .m .now) (f .judge .ensures) (c .enum-told .given .1)))
 
 returns-2 : tie.Need-returns-2
 unfolding spanOf
@@ -36,8 +36,8 @@ returns-2 c =
     let t = c .before .before in
     let f = t .before .before .before in
     let a = f .before .before .args in
-    let d = judged-found (a .kind) (a .m .now) (f .judge .ensures) (t .enum-told2 .given .1) in
-    c .part-of .ensures ∙ part-is d (a .place) ∙ sym (ap (λ (v : Verdict). spanBy v (partAt (placesOf (a .kind)) (a .place) 5 (fields (a .m .now)))) (judged-by (a .kind) (a .m .now) (f .judge .ensures) (t .enum-told2 .given .1)))
+    let d = judged-found (a .form) (a .m .now) (f .judge .ensures) (t .enum-told2 .given .1) in
+    c .part-of .ensures ∙ part-is d (a .place) ∙ sym (ap (λ (v : Verdict). spanBy v (partAt (placesOf (a .form)) (a .place) 5 (fields (a .m .now)))) (judged-by (a .form) (a .m .now) (f .judge .ensures) (t .enum-told2 .given .1)))
 
 pub span-spec : {M : Type 1} → statement M
 span-spec =

@@ -16,7 +16,7 @@ tag-number-requires : tie.Need-tag-number-requires
 tag-number-requires c κs = search needs
 
 returns : tie.Need-returns
-returns c = let d = c .before in let n = d .before .before in let a = n .before .before .args in good-untagged (a .l .now) (n .mark-at .result) (n .mark-at .ensures) (a .kind) (a .sign) (sym (d .tag-number .ensures) ∙ c .if1 .taken)
+returns c = let d = c .before in let n = d .before .before in let a = n .before .before .args in good-untagged (a .l .now) (n .mark-at .result) (n .mark-at .ensures) (a .form) (a .sign) (sym (d .tag-number .ensures) ∙ c .if1 .taken)
 
 shape-of-requires : tie.Need-shape-of-requires
 shape-of-requires c κs = search needs
@@ -29,7 +29,7 @@ is-sound-requires c κs = search needs
 
 returns-2 : tie.Need-returns-2
 returns-2 c = let s = c .before in let f = s .before in let d = f .before in let n = d .before .before in let a = n .before .before .args in
-    good-shape (a .l .now) (n .mark-at .result) (n .mark-at .ensures) (a .kind) (a .sign) (d .tag-number .result) (s .shape-of .result) (d .tag-number .ensures) (f .if1 .left) (s .shape-of .ensures) (c .is-sound .ensures)
+    good-shape (a .l .now) (n .mark-at .result) (n .mark-at .ensures) (a .form) (a .sign) (d .tag-number .result) (s .shape-of .result) (d .tag-number .ensures) (f .if1 .left) (s .shape-of .ensures) (c .is-sound .ensures)
 
 pub is-good-spec : {M : Type 1} → statement M
 is-good-spec =

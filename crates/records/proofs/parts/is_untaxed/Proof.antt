@@ -22,22 +22,22 @@ returns-2 c = let a = c .before .before .before .args in untaxed-none (a .l .now
 mark-at-requires : tie.Need-mark-at-requires
 mark-at-requires c κs = search needs
 
-sub-is-numbered : tie.Need-sub-is-numbered
-sub-is-numbered c = search needs
+sub-is-inn : tie.Need-sub-is-inn
+sub-is-inn c = search needs
 
-part-is-numbered-start : tie.Need-part-is-numbered-start
-part-is-numbered-start c = search needs
+part-is-inn-start : tie.Need-part-is-inn-start
+part-is-inn-start c = search needs
 
-part-is-numbered-end : tie.Need-part-is-numbered-end
-part-is-numbered-end c = omega (arith, within c)
+part-is-inn-end : tie.Need-part-is-inn-end
+part-is-inn-end c = omega (arith, within c)
 
-is-numbered-requires : tie.Need-is-numbered-requires
-is-numbered-requires c κs = search needs
+is-inn-requires : tie.Need-is-inn-requires
+is-inn-requires c κs = search needs
 
 returns-3 : tie.Need-returns-3
 unfolding isInn
 returns-3 c = let n = c .before .before in let a = n .before .before .before .before .args in
-    untaxed-part (a .l .now) (a .i) (n .mark-at .result) (n .before .if2 .left) (n .mark-at .ensures) (a .sign) (not-false _ (n .before .before .if1 .left)) (c .is-numbered .ensures)
+    untaxed-part (a .l .now) (a .i) (n .mark-at .result) (n .before .if2 .left) (n .mark-at .ensures) (a .sign) (not-false _ (n .before .before .if1 .left)) (c .is-inn .ensures)
 
 pub is-untaxed-spec : {M : Type 1} → statement M
 is-untaxed-spec =
@@ -46,8 +46,8 @@ is-untaxed-spec =
     returns
     returns-2
     mark-at-requires
-    sub-is-numbered
-    part-is-numbered-start
-    part-is-numbered-end
-    is-numbered-requires
+    sub-is-inn
+    part-is-inn-start
+    part-is-inn-end
+    is-inn-requires
     returns-3)

@@ -17,18 +17,18 @@ enum-told-2 : tie.Need-enum-told-2
 enum-told-2 c = search needs
 
 returns : tie.Need-returns
-returns c = let b = c .before .before in then-stop (rule18 (b .before .before .args .kind)) (b .bad-record .ensures) (c .enum-told2 .given .1)
+returns c = let b = c .before .before in then-stop (rule18 (b .before .before .args .form)) (b .bad-record .ensures) (c .enum-told2 .given .1)
 
 count-of-requires : tie.Need-count-of-requires
 count-of-requires c κs = search needs
 
 returns-2 : tie.Need-returns-2
 returns-2 c = let n = c .before in let t = n .before in let b = t .before .before in let a = b .before .before .args in
-    then-type (a .kind) (b .bad-record .ensures) (t .enum-told .given .1) (sym (no-places (a .kind) (sym (n .count-of .ensures) ∙ c .if1 .taken)))
+    then-type (a .form) (b .bad-record .ensures) (t .enum-told .given .1) (sym (no-places (a .form) (sym (n .count-of .ensures) ∙ c .if1 .taken)))
 
 returns-3 : tie.Need-returns-3
 returns-3 c = let n = c .before in let t = n .before in let b = t .before .before in let a = b .before .before .args in
-    then-type (a .kind) (b .bad-record .ensures) (t .enum-told .given .1) (sym (some-places (a .kind) (λ z. c .if1 .left (n .count-of .ensures ∙ z))))
+    then-type (a .form) (b .bad-record .ensures) (t .enum-told .given .1) (sym (some-places (a .form) (λ z. c .if1 .left (n .count-of .ensures ∙ z))))
 
 pub behind-type-spec : {M : Type 1} → statement M
 behind-type-spec =

@@ -8,7 +8,7 @@ use lib.ListN.{length, take}
 use Rattle.records.specs.Record.{recordOf}
 use Rattle.records.specs.Rule19.{typed}
 use Rattle.records.proofs.WalkLaws.{first-within, first-size, judge-none, judge-untyped, judge-typed}
-use Rattle.records.proofs.TypeLaws.{six-end, type-digits, type-number}
+use Rattle.records.proofs.TypeLaws.{six-end, type-digits, type-form}
 use borrow.Author.Needs.{needs}
 use Rattle.records.proofs.sheets.judge_sheet.Statement.{statement}
 use Rattle.records.proofs.sheets.judge_sheet.Tie as tie
@@ -62,15 +62,18 @@ part-number-of-end c = omega (arith, on (c .before .before .before))
 number-of-requires : tie.Need-number-of-requires
 number-of-requires c κs = let n = c .before .before .before .before .before in type-digits (n .before .before .before .args .s .now) (n .mark-at .result) (line-size n) (typed-line (c .before))
 
+form-of-requires : tie.Need-form-of-requires
+form-of-requires c κs = search needs
+
 add-behind-type : tie.Need-add-behind-type
-add-behind-type c = omega (arith, on (c .before .before .before .before .before))
+add-behind-type c = omega (arith, on (c .before .before .before .before .before .before))
 
 behind-type-requires : tie.Need-behind-type-requires
-behind-type-requires c κs = omega (arith, on (c .before .before .before .before .before))
+behind-type-requires c κs = omega (arith, on (c .before .before .before .before .before .before))
 
 returns-3 : tie.Need-returns-3
-returns-3 c = let t = c .before in let y = t .before .before in let f = y .before .before .before in let n = f .before in let a = n .before .before .before .args in
-    judge-typed (a .s .now) (n .mark-at .result) (n .mark-at .ensures) (n .before .sign-of .ensures) (f .if1 .left) (typed-line y) (type-number (a .s .now) (n .mark-at .result) (line-size n) (typed-line y) (t .number-of .ensures)) (c .behind-type .ensures)
+returns-3 c = let w = c .before in let t = w .before in let y = t .before .before in let f = y .before .before .before in let n = f .before in let a = n .before .before .before .args in
+    judge-typed (a .s .now) (n .mark-at .result) (n .mark-at .ensures) (n .before .sign-of .ensures) (f .if1 .left) (typed-line y) (type-form (a .s .now) (n .mark-at .result) (line-size n) (typed-line y) (t .number-of .ensures) (w .form-of .ensures)) (c .behind-type .ensures)
 
 pub judge-sheet-spec : {M : Type 1} → statement M
 judge-sheet-spec =
@@ -88,6 +91,7 @@ judge-sheet-spec =
     part-number-of-start
     part-number-of-end
     number-of-requires
+    form-of-requires
     add-behind-type
     behind-type-requires
     returns-3)

@@ -12,8 +12,8 @@ returns : tie.Need-returns
 unfolding lineBreaks
 returns c = search flags depth 9
 
-is-tax-requires : tie.Need-is-tax-requires
-is-tax-requires c κs = search needs
+looks-tax-requires : tie.Need-looks-tax-requires
+looks-tax-requires c κs = search needs
 
 returns-2 : tie.Need-returns-2
 unfolding lineBreaks
@@ -32,7 +32,7 @@ breaks-line-spec =
     (tie.spec
     breaks-named-requires
     returns
-    is-tax-requires
+    looks-tax-requires
     returns-2
     breaks-tax-requires
     returns-3)

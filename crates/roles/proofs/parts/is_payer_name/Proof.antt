@@ -11,11 +11,11 @@ starts-requires c κs = search needs
 returns : tie.Need-returns
 returns c = payer-slash (c .before .before .before .args .p .now) (sym (c .before .starts .ensures) ∙ (c .if1 .taken))
 
-is-tax-requires : tie.Need-is-tax-requires
-is-tax-requires c κs = search needs
+looks-tax-requires : tie.Need-looks-tax-requires
+looks-tax-requires c κs = search needs
 
 returns-2 : tie.Need-returns-2
-returns-2 c = payer-tax (c .before .before .before .before .args .p .now) (sym (c .before .before .starts .ensures) ∙ (c .before .if1 .left)) (c .is-tax .ensures)
+returns-2 c = payer-tax (c .before .before .before .before .args .p .now) (sym (c .before .before .starts .ensures) ∙ (c .before .if1 .left)) (c .looks-tax .ensures)
 
 pub is-payer-name-spec : {M : Type 1} → statement M
-is-payer-name-spec = tie.close (tie.spec starts-requires returns is-tax-requires returns-2)
+is-payer-name-spec = tie.close (tie.spec starts-requires returns looks-tax-requires returns-2)

@@ -32,8 +32,8 @@ enum-told-4 c = search needs
 enum-told-5 : tie.Need-enum-told-5
 enum-told-5 c = search needs
 
-is-tax-requires : tie.Need-is-tax-requires
-is-tax-requires c κs = search needs
+looks-tax-requires : tie.Need-looks-tax-requires
+looks-tax-requires c κs = search needs
 
 enum-told-6 : tie.Need-enum-told-6
 enum-told-6 c = search needs
@@ -51,7 +51,7 @@ returns-5 : tie.Need-returns-5
 returns-5 c = sign-on (c .before .before .before .before .args .sign) (c .before .before .before .before .args .role) OfAgent (c .before .before .before .before .args .p .now) (not-false _ (c .before .before .if1 .left)) (c .enum-told4 .given .1) refl
 
 returns-6 : tie.Need-returns-6
-returns-6 c = sign-on (c .before .before .before .before .before .args .sign) (c .before .before .before .before .before .args .role) Taxed (c .before .before .before .before .before .args .p .now) (not-false _ (c .before .before .before .if1 .left)) (c .before .enum-told5 .given .1) (ap not (c .is-tax .ensures))
+returns-6 c = sign-on (c .before .before .before .before .before .args .sign) (c .before .before .before .before .before .args .role) Taxed (c .before .before .before .before .before .args .p .now) (not-false _ (c .before .before .before .if1 .left)) (c .before .enum-told5 .given .1) (ap not (c .looks-tax .ensures))
 
 returns-7 : tie.Need-returns-7
 returns-7 c = sign-on (c .before .before .before .before .args .sign) (c .before .before .before .before .args .role) Names (c .before .before .before .before .args .p .now) (not-false _ (c .before .before .if1 .left)) (c .enum-told6 .given .1) refl
@@ -68,7 +68,7 @@ is-spoken-spec =
     starts-requires
     enum-told-4
     enum-told-5
-    is-tax-requires
+    looks-tax-requires
     enum-told-6
     returns-2
     returns-3

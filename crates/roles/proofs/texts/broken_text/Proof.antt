@@ -48,25 +48,25 @@ in-note-requires : tie.Need-in-note-requires
 in-note-requires c κs = search needs
 
 returns : tie.Need-returns
-returns c = let w = c in let s = w .before .before in let a = s .before .before .args in by-shape (a .back .now) (a .kind) (unpack (a .tag)) (a .content .now) Plain _ (sym (w .enum-told .given .1) ∙ s .shape-of .ensures) (plain-none (a .back .now) (linesIn (a .content .now)))
+returns c = let w = c in let s = w .before .before in let a = s .before .before .args in by-shape (a .back .now) (a .form) (unpack (a .tag)) (a .content .now) Plain _ (sym (w .enum-told .given .1) ∙ s .shape-of .ensures) (plain-none (a .back .now) (linesIn (a .content .now)))
 
 returns-2 : tie.Need-returns-2
-returns-2 c = let w = c .before in let s = w .before .before in let a = s .before .before .args in by-shape (a .back .now) (a .kind) (unpack (a .tag)) (a .content .now) Payer _ (sym (w .enum-told2 .given .1) ∙ s .shape-of .ensures) (c .in-party .ensures)
+returns-2 c = let w = c .before in let s = w .before .before in let a = s .before .before .args in by-shape (a .back .now) (a .form) (unpack (a .tag)) (a .content .now) Payer _ (sym (w .enum-told2 .given .1) ∙ s .shape-of .ensures) (c .in-party .ensures)
 
 returns-3 : tie.Need-returns-3
-returns-3 c = let w = c .before in let s = w .before .before in let a = s .before .before .args in by-shape (a .back .now) (a .kind) (unpack (a .tag)) (a .content .now) Payee _ (sym (w .enum-told3 .given .1) ∙ s .shape-of .ensures) (c .in-party2 .ensures)
+returns-3 c = let w = c .before in let s = w .before .before in let a = s .before .before .args in by-shape (a .back .now) (a .form) (unpack (a .tag)) (a .content .now) Payee _ (sym (w .enum-told3 .given .1) ∙ s .shape-of .ensures) (c .in-party2 .ensures)
 
 returns-4 : tie.Need-returns-4
-returns-4 c = let w = c .before in let s = w .before .before in let a = s .before .before .args in by-shape (a .back .now) (a .kind) (unpack (a .tag)) (a .content .now) Agent _ (sym (w .enum-told4 .given .1) ∙ s .shape-of .ensures) (c .in-agent .ensures)
+returns-4 c = let w = c .before in let s = w .before .before in let a = s .before .before .args in by-shape (a .back .now) (a .form) (unpack (a .tag)) (a .content .now) Agent _ (sym (w .enum-told4 .given .1) ∙ s .shape-of .ensures) (c .in-agent .ensures)
 
 returns-5 : tie.Need-returns-5
-returns-5 c = let w = c .before in let s = w .before .before in let a = s .before .before .args in by-shape (a .back .now) (a .kind) (unpack (a .tag)) (a .content .now) Details _ (sym (w .enum-told5 .given .1) ∙ s .shape-of .ensures) (c .in-details .ensures ∙ details-whole (a .back .now) (a .content .now))
+returns-5 c = let w = c .before in let s = w .before .before in let a = s .before .before .args in by-shape (a .back .now) (a .form) (unpack (a .tag)) (a .content .now) Details _ (sym (w .enum-told5 .given .1) ∙ s .shape-of .ensures) (c .in-details .ensures ∙ details-whole (a .back .now) (a .content .now))
 
 returns-6 : tie.Need-returns-6
-returns-6 c = let w = c in let s = w .before .before in let a = s .before .before .args in by-shape (a .back .now) (a .kind) (unpack (a .tag)) (a .content .now) Note103 _ (sym (w .enum-told6 .given .1) ∙ s .shape-of .ensures) (note103-none (a .back .now) (linesIn (a .content .now)))
+returns-6 c = let w = c in let s = w .before .before in let a = s .before .before .args in by-shape (a .back .now) (a .form) (unpack (a .tag)) (a .content .now) Note103 _ (sym (w .enum-told6 .given .1) ∙ s .shape-of .ensures) (note103-none (a .back .now) (linesIn (a .content .now)))
 
 returns-7 : tie.Need-returns-7
-returns-7 c = let w = c .before in let s = w .before .before in let a = s .before .before .args in by-shape (a .back .now) (a .kind) (unpack (a .tag)) (a .content .now) Note202 _ (sym (w .enum-told7 .given .1) ∙ s .shape-of .ensures) (c .in-note .ensures)
+returns-7 c = let w = c .before in let s = w .before .before in let a = s .before .before .args in by-shape (a .back .now) (a .form) (unpack (a .tag)) (a .content .now) Note202 _ (sym (w .enum-told7 .given .1) ∙ s .shape-of .ensures) (c .in-note .ensures)
 
 pub broken-text-spec : {M : Type 1} → statement M
 broken-text-spec =

@@ -47,7 +47,7 @@ same-length : tie.Need-same-length
 same-length c = search needs
 
 returns : tie.Need-returns
-returns c = let s = c .before .before .before .before .before .before .before .before .before .before .before .before .before .before .before .before .before .before in let a = s .args in let t = c .before .before .before .before .before .before .before .before .before .before .before .before .put-tag in let p = c .before .before .before .before .before .before .before .put-content in (field-small (a .f .now) (a .at) (t .result) (tag-some (t .ensures .1)) (tag-within (s .pre .0) (t .ensures .0)) (p .ensures .0), field-put (a .back .now) (a .kind) (a .sign) (a .f .now) (t .ensures .0) (c .before .before .before .before .before .before .before .before .before .before .before .before .before .before .before .line-tag .ensures) (c .before .before .before .before .before .before .before .before .before .before .before .before .before .before .shape-of .ensures) (s .pre .0) (t .ensures .3) (tag-place (a .f .now) (a .at) (t .result) (tag-some (t .ensures .1)) (tag-within (s .pre .0) (t .ensures .0))) (p .ensures .1) (c .before .before .put .ensures))
+returns c = let s = c .before .before .before .before .before .before .before .before .before .before .before .before .before .before .before .before .before .before in let a = s .args in let t = c .before .before .before .before .before .before .before .before .before .before .before .before .put-tag in let p = c .before .before .before .before .before .before .before .put-content in (field-small (a .f .now) (a .at) (t .result) (tag-some (t .ensures .1)) (tag-within (s .pre .0) (t .ensures .0)) (p .ensures .0), field-put (a .back .now) (a .form) (a .sign) (a .f .now) (t .ensures .0) (c .before .before .before .before .before .before .before .before .before .before .before .before .before .before .before .line-tag .ensures) (c .before .before .before .before .before .before .before .before .before .before .before .before .before .before .shape-of .ensures) (s .pre .0) (t .ensures .3) (tag-place (a .f .now) (a .at) (t .result) (tag-some (t .ensures .1)) (tag-within (s .pre .0) (t .ensures .0))) (p .ensures .1) (c .before .before .put .ensures))
 
 pub put-field-spec : {M : Type 1} → statement M
 put-field-spec =

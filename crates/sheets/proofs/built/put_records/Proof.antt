@@ -13,11 +13,11 @@ use Rattle.sheets.proofs.built.put_records.Statement.{statement}
 use Rattle.sheets.proofs.built.put_records.Tie as tie
 
 abbrev Inv-loop : tie.InvT-loop
-Inv-loop back kind sign m spots n out₀ at₀ k₀ out at k = (length out ≡ length out₀) × (k ≤ n) × (at ≤ byte spots k + 2 + 5 * k)
-    × Leads (sheetBy back kind sign (fields m)) out₀ at₀ (sheetBy back kind sign (drop k (fields m))) out at
+Inv-loop back form sign m spots n out₀ at₀ k₀ out at k = (length out ≡ length out₀) × (k ≤ n) × (at ≤ byte spots k + 2 + 5 * k)
+    × Leads (sheetBy back form sign (fields m)) out₀ at₀ (sheetBy back form sign (drop k (fields m))) out at
 
 abbrev μ-loop : tie.MeasureT-loop
-μ-loop back kind sign m spots n out₀ at₀ k₀ out at k = n - k
+μ-loop back form sign m spots n out₀ at₀ k₀ out at k = n - k
 
 near : (c : tie.In-loop Inv-loop μ-loop) → c .before .loop .k < length (fields (c .before .before .before .before .before .before .before .before .args .m .now))
 near c = omega (arith, c .loop-test .taken, c .before .before .before .before .before .before .before .before .pre .2)
@@ -77,13 +77,13 @@ loop-less : tie.Need-loop-less Inv-loop μ-loop
 loop-less c = omega (arith, (c .before .before .before .before .before .before .before .loop-test .taken))
 
 loop-again : tie.Need-loop-again Inv-loop μ-loop
-loop-again c = (search needs, omega (arith, (c .before .before .before .before .before .before .before .loop-test .taken)), at-on (c .before .before .before .before .before .before .before .before .before .before .before .before .before .before .before .pre .1) (c .before .before .before .before .before .before .before .before .loop .k) (near (c .before .before .before .before .before .before .before)) (c .before .before .before .before .before .before .before .before .loop .inv .2) (c .before .before .put-field .ensures .0), sheet-on (c .before .before .before .before .before .before .before .before .before .before .before .before .before .before .before .pre .1) (c .before .before .before .before .before .before .before .before .loop .k) (near (c .before .before .before .before .before .before .before)) (c .before .before .before .before .before .before .before .before .before .before .before .before .before .before .before .args .back .now) (c .before .before .before .before .before .before .before .before .before .before .before .before .before .before .before .args .kind) (c .before .before .before .before .before .before .before .before .before .before .before .before .before .before .before .args .sign) (c .before .before .before .before .before .before .before .before .loop .inv .3) (c .before .before .put-field .ensures .1))
+loop-again c = (search needs, omega (arith, (c .before .before .before .before .before .before .before .loop-test .taken)), at-on (c .before .before .before .before .before .before .before .before .before .before .before .before .before .before .before .pre .1) (c .before .before .before .before .before .before .before .before .loop .k) (near (c .before .before .before .before .before .before .before)) (c .before .before .before .before .before .before .before .before .loop .inv .2) (c .before .before .put-field .ensures .0), sheet-on (c .before .before .before .before .before .before .before .before .before .before .before .before .before .before .before .pre .1) (c .before .before .before .before .before .before .before .before .loop .k) (near (c .before .before .before .before .before .before .before)) (c .before .before .before .before .before .before .before .before .before .before .before .before .before .before .before .args .back .now) (c .before .before .before .before .before .before .before .before .before .before .before .before .before .before .before .args .form) (c .before .before .before .before .before .before .before .before .before .before .before .before .before .before .before .args .sign) (c .before .before .before .before .before .before .before .before .loop .inv .3) (c .before .before .put-field .ensures .1))
 
 same-length : tie.Need-same-length Inv-loop μ-loop
 same-length c = search needs
 
 returns : tie.Need-returns Inv-loop μ-loop
-returns c = (at-end (c .before .before .before .before .before .before .before .before .pre .1) (c .before .before .before .before .before .before .before .before .pre .2) (c .loop-test .left) (c .before .loop .inv .1) (c .before .loop .inv .2), sheet-end (c .before .before .before .before .before .before .before .before .args .m .now) (c .before .loop .k) (c .before .before .before .before .before .before .before .before .args .n) (c .before .before .before .before .before .before .before .before .pre .2) (c .loop-test .left) (c .before .before .before .before .before .before .before .before .args .back .now) (c .before .before .before .before .before .before .before .before .args .kind) (c .before .before .before .before .before .before .before .before .args .sign) (c .before .before .before .before .put-type .ensures .1) (c .before .loop .inv .3))
+returns c = (at-end (c .before .before .before .before .before .before .before .before .pre .1) (c .before .before .before .before .before .before .before .before .pre .2) (c .loop-test .left) (c .before .loop .inv .1) (c .before .loop .inv .2), sheet-end (c .before .before .before .before .before .before .before .before .args .m .now) (c .before .loop .k) (c .before .before .before .before .before .before .before .before .args .n) (c .before .before .before .before .before .before .before .before .pre .2) (c .loop-test .left) (c .before .before .before .before .before .before .before .before .args .back .now) (c .before .before .before .before .before .before .before .before .args .form) (c .before .before .before .before .before .before .before .before .args .sign) (c .before .before .before .before .put-type .ensures .1) (c .before .loop .inv .3))
 
 pub put-records-spec : {M : Type 1} → statement M
 put-records-spec =

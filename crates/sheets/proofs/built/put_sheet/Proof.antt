@@ -13,13 +13,13 @@ is-signed-requires : tie.Need-is-signed-requires
 is-signed-requires c κs = search needs
 
 put-records-requires : tie.Need-put-records-requires
-put-records-requires c κs = let s = c .before .before .before .before .before .before in (type-fine (s .args .kind) (s .args .m .now) (s .pre .fine), s .pre .settled, s .pre .count)
+put-records-requires c κs = let s = c .before .before .before .before .before .before in (type-fine (s .args .form) (s .args .m .now) (s .pre .fine), s .pre .settled, s .pre .count)
 
 same-length : tie.Need-same-length
 same-length c = search needs
 
 returns : tie.Need-returns
-returns c = let s = c .before .before .before .before .before .before .before .before .before in (c .before .before .put-records .ensures .0, sheet-put (s .args .kind) (s .args .m .now) (s .pre .fine) (c .before .before .before .before .before .before .back-table .ensures) (c .before .before .before .before .before .is-signed .ensures ∙ signed-is (s .pre .settled)) (c .before .before .put-records .ensures .1))
+returns c = let s = c .before .before .before .before .before .before .before .before .before in (c .before .before .put-records .ensures .0, sheet-put (s .args .form) (s .args .m .now) (s .pre .fine) (c .before .before .before .before .before .before .back-table .ensures) (c .before .before .before .before .before .is-signed .ensures ∙ signed-is (s .pre .settled)) (c .before .before .put-records .ensures .1))
 
 pub put-sheet-spec : {M : Type 1} → statement M
 put-sheet-spec =

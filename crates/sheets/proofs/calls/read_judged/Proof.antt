@@ -9,13 +9,13 @@ enum-known-verdict : tie.Need-enum-known-verdict
 enum-known-verdict c = search needs
 
 returns : tie.Need-returns
-returns c = let s = c .before .before .before .before .before in own-refused (s .args .kind) (s .args .m .now) (s .args .out .now) (judged-by (s .args .kind) (s .args .m .now) (s .pre) (c .before .verdict .given .1))
+returns c = let s = c .before .before .before .before .before in own-refused (s .args .form) (s .args .m .now) (s .args .out .now) (judged-by (s .args .form) (s .args .m .now) (s .pre) (c .before .verdict .given .1))
 
 enum-told : tie.Need-enum-told
 enum-told c = search needs
 
 read-sound-requires : tie.Need-read-sound-requires
-read-sound-requires c κs = let s = c .before .before .before .before .before .before .before in judged-sound (s .args .kind) (s .args .m .now) (s .pre) (c .before .before .before .enum-told .given .1)
+read-sound-requires c κs = let s = c .before .before .before .before .before .before .before in judged-sound (s .args .form) (s .args .m .now) (s .pre) (c .before .before .before .enum-told .given .1)
 
 same-length : tie.Need-same-length
 same-length c = search needs

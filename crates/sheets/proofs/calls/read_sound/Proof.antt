@@ -24,7 +24,7 @@ same-length-2 : tie.Need-same-length-2
 same-length-2 c = search needs
 
 returns-2 : tie.Need-returns-2
-returns-2 c = let s = c .before .before .before .before .before .before .before in let p = c .before .before .put-sheet .ensures in sheet-done (s .args .kind) (s .args .m .now) (s .args .out .now) (s .pre .fine) (p .1) (omega (arith, p .0, c .before .before .before .before .if1 .left)) (p .1)
+returns-2 c = let s = c .before .before .before .before .before .before .before in let p = c .before .before .put-sheet .ensures in sheet-done (s .args .form) (s .args .m .now) (s .args .out .now) (s .pre .fine) (p .1) (omega (arith, p .0, c .before .before .before .before .if1 .left)) (p .1)
 
 pub read-sound-spec : {M : Type 1} → statement M
 read-sound-spec =

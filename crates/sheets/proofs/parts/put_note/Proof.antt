@@ -10,11 +10,11 @@ use Rattle.sheets.proofs.parts.put_note.Tie as tie
 mark-at-requires : tie.Need-mark-at-requires
 mark-at-requires c κs = search needs
 
-slice-aggregate-is-rpp : tie.Need-slice-aggregate-is-rpp
-slice-aggregate-is-rpp c = head-size (c .before .before .before .before .args .c .now) (c .before .mark-at .result) (c .before .mark-at .ensures)
+slice-aggregate-opens-rpp : tie.Need-slice-aggregate-opens-rpp
+slice-aggregate-opens-rpp c = head-size (c .before .before .before .before .args .c .now) (c .before .mark-at .result) (c .before .mark-at .ensures)
 
-is-rpp-requires : tie.Need-is-rpp-requires
-is-rpp-requires c κs = search needs
+opens-rpp-requires : tie.Need-opens-rpp-requires
+opens-rpp-requires c κs = search needs
 
 slice-aggregate-put : tie.Need-slice-aggregate-put
 slice-aggregate-put c = search needs
@@ -32,7 +32,7 @@ same-length : tie.Need-same-length
 same-length c = search needs
 
 returns : tie.Need-returns
-returns c = let a = c .before .before .before .before .before .before .before .before .before .before .before .before .before .before .before .args in note-none (a .c .now) (c .before .before .before .before .before .before .before .before .before .before .before .before .mark-at .result) (c .before .before .before .before .before .before .before .before .before .before .before .before .mark-at .ensures) (a .back .now) (a .sign) (c .before .before .before .before .before .before .before .before .before .before .is-rpp .ensures) (not-true _ (c .before .before .before .before .before .before .before .before .before .if1 .taken)) (c .before .before .before .before .before .before .put .ensures) (c .before .before .put-told .ensures .0) (c .before .before .put-told .ensures .1)
+returns c = let a = c .before .before .before .before .before .before .before .before .before .before .before .before .before .before .before .args in note-none (a .c .now) (c .before .before .before .before .before .before .before .before .before .before .before .before .mark-at .result) (c .before .before .before .before .before .before .before .before .before .before .before .before .mark-at .ensures) (a .back .now) (a .sign) (c .before .before .before .before .before .before .before .before .before .before .opens-rpp .ensures) (not-true _ (c .before .before .before .before .before .before .before .before .before .if1 .taken)) (c .before .before .before .before .before .before .put .ensures) (c .before .before .put-told .ensures .0) (c .before .before .put-told .ensures .1)
 
 slice-aggregate-past : tie.Need-slice-aggregate-past
 slice-aggregate-past c = head-size (c .before .before .before .before .before .before .before .args .c .now) (c .before .before .before .before .mark-at .result) (c .before .before .before .before .mark-at .ensures)
@@ -47,7 +47,7 @@ same-length-2 : tie.Need-same-length-2
 same-length-2 c = search needs
 
 returns-2 : tie.Need-returns-2
-returns-2 c = let a = c .before .before .before .before .before .before .before .before .before .before .before .before .before .args in note-alone (a .c .now) (c .before .before .before .before .before .before .before .before .before .before .mark-at .result) (c .before .before .before .before .before .before .before .before .before .before .mark-at .ensures) (a .back .now) (a .sign) (c .before .before .before .before .before .before .before .before .is-rpp .ensures) (not-false _ (c .before .before .before .before .before .before .before .if1 .left)) (c .before .before .before .before .before .past .ensures) (c .if2 .taken) (c .before .before .before .put-part .ensures .0) (c .before .before .before .put-part .ensures .1)
+returns-2 c = let a = c .before .before .before .before .before .before .before .before .before .before .before .before .before .args in note-alone (a .c .now) (c .before .before .before .before .before .before .before .before .before .before .mark-at .result) (c .before .before .before .before .before .before .before .before .before .before .mark-at .ensures) (a .back .now) (a .sign) (c .before .before .before .before .before .before .before .before .opens-rpp .ensures) (not-false _ (c .before .before .before .before .before .before .before .if1 .left)) (c .before .before .before .before .before .past .ensures) (c .if2 .taken) (c .before .before .before .put-part .ensures .0) (c .before .before .before .put-part .ensures .1)
 
 next-line-requires : tie.Need-next-line-requires
 next-line-requires c κs = search needs
@@ -68,15 +68,15 @@ same-length-3 : tie.Need-same-length-3
 same-length-3 c = search needs
 
 returns-3 : tie.Need-returns-3
-returns-3 c = let a = c .before .before .before .before .before .before .before .before .before .before .before .before .before .before .before .before .before .before .before .args in note-more (a .c .now) (c .before .before .before .before .before .before .before .before .before .before .before .before .before .before .before .before .mark-at .result) (c .before .before .before .before .before .before .before .before .before .before .before .before .before .before .before .before .mark-at .ensures) (a .back .now) (a .sign) (c .before .before .before .before .before .before .before .before .before .before .before .before .before .before .is-rpp .ensures) (not-false _ (c .before .before .before .before .before .before .before .before .before .before .before .before .before .if1 .left)) (c .before .before .before .before .before .before .before .before .before .before .before .past .ensures) (c .before .before .before .before .before .next-line .result) (c .before .before .before .before .before .before .if2 .left) (c .before .before .before .before .before .next-line .ensures) (c .before .before .before .before .before .before .before .before .before .put-part .ensures .0) (c .before .before .before .before .before .before .before .before .before .put-part .ensures .1) (c .before .before .put-told2 .ensures .0) (c .before .before .put-told2 .ensures .1)
+returns-3 c = let a = c .before .before .before .before .before .before .before .before .before .before .before .before .before .before .before .before .before .before .before .args in note-more (a .c .now) (c .before .before .before .before .before .before .before .before .before .before .before .before .before .before .before .before .mark-at .result) (c .before .before .before .before .before .before .before .before .before .before .before .before .before .before .before .before .mark-at .ensures) (a .back .now) (a .sign) (c .before .before .before .before .before .before .before .before .before .before .before .before .before .before .opens-rpp .ensures) (not-false _ (c .before .before .before .before .before .before .before .before .before .before .before .before .before .if1 .left)) (c .before .before .before .before .before .before .before .before .before .before .before .past .ensures) (c .before .before .before .before .before .next-line .result) (c .before .before .before .before .before .before .if2 .left) (c .before .before .before .before .before .next-line .ensures) (c .before .before .before .before .before .before .before .before .before .put-part .ensures .0) (c .before .before .before .before .before .before .before .before .before .put-part .ensures .1) (c .before .before .put-told2 .ensures .0) (c .before .before .put-told2 .ensures .1)
 
 pub put-note-spec : {M : Type 1} → statement M
 put-note-spec =
     tie.close
     (tie.spec
     mark-at-requires
-    slice-aggregate-is-rpp
-    is-rpp-requires
+    slice-aggregate-opens-rpp
+    opens-rpp-requires
     slice-aggregate-put
     put-requires
     add-put-told

@@ -1,24 +1,32 @@
--- `types::forms::tags_of` meets its contract, type by type. Assumes nothing.
-use Prim.Native.Nat.{ℕ}
+-- `types::forms::tags_of` meets its contract, form by form. Assumes nothing.
 use mathlib.Core.Path.{sym, ap}
-use mathlib.Core.List.{List}
 use Rattle.types.specs.Tables.{tagTable}
-use Rattle.types.specs.Form.{Place, form103, form202, forms, placesOf}
-use Rattle.types.proofs.TableLaws.{no-form}
+use borrow.Author.Needs.{needs}
+use Rattle.types.specs.declared.Form.{Form}
+use Rattle.types.specs.Form.{placesOf, places103, places202}
 use Rattle.types.proofs.forms.tags_of.Statement.{statement}
 use Rattle.types.proofs.forms.tags_of.Tie as tie
 
+enum-told : tie.Need-enum-told
+enum-told c = search needs
+
+enum-told-2 : tie.Need-enum-told-2
+enum-told-2 c = search needs
+
+enum-told-3 : tie.Need-enum-told-3
+enum-told-3 c = search needs
+
 returns : tie.Need-returns
-unfolding placesOf forms form103 form202 tagTable
-returns c = sym (ap (λ (k : ℕ). tagTable (placesOf k)) (c .if1 .taken))
+unfolding tagTable places103 places202
+returns c = sym (ap (λ (f : Form). tagTable (placesOf f)) (c .enum-told .given .1))
 
 returns-2 : tie.Need-returns-2
-unfolding placesOf forms form103 form202 tagTable
-returns-2 c = sym (ap (λ (k : ℕ). tagTable (placesOf k)) (c .if2 .taken))
+unfolding tagTable places103 places202
+returns-2 c = sym (ap (λ (f : Form). tagTable (placesOf f)) (c .enum-told2 .given .1))
 
 returns-3 : tie.Need-returns-3
-unfolding tagTable
-returns-3 c = sym (ap (λ (ps : List Place). tagTable ps) (no-form (c .before .before .args .kind) (c .before .if1 .left) (c .if2 .left)))
+unfolding tagTable places103 places202
+returns-3 c = sym (ap (λ (f : Form). tagTable (placesOf f)) (c .enum-told3 .given .1))
 
 pub tags-of-spec : {M : Type 1} → statement M
-tags-of-spec = tie.close (tie.spec returns returns-2 returns-3)
+tags-of-spec = tie.close (tie.spec enum-told enum-told-2 enum-told-3 returns returns-2 returns-3)

@@ -1,92 +1,90 @@
--- `values::amounts::kopecks_of` meets its contract: the digits before i come to n (`Counting`). Assumes nothing.
-use Prim.Native.Nat.{ℕ, _+_, _*_, _-_}
-use mathlib.Core.Path.{sym, ap, _∙_}
+-- `values::amounts::kopecks_of` meets its contract. Assumes nothing.
+use mathlib.Core.Path.{sym}
 use native.Mathlib.Omega.{arith}
+use Rattle.contents.specs.Answers.{PaidWith}
+use Rattle.values.proofs.GrammarLaws.{unpaid-kopecks}
+use Rattle.values.proofs.MoneyLaws.{paid-size, paid-few, whole-run, whole-small, kopecks-by}
 use borrow.Author.Needs.{needs}
-use lib.ListN.{length}
-use Rattle.values.proofs.MoneyLaws.{Counting, count-long, count-start, count-small, count-on, count-comma, count-end}
 use Rattle.values.proofs.amounts.kopecks_of.Statement.{statement}
 use Rattle.values.proofs.amounts.kopecks_of.Tie as tie
 
-abbrev Inv-loop : tie.InvT-loop
-Inv-loop content n₀ i₀ n i = Counting content n i
+-- the line that was read
+read : (k : tie.After-known-told) → PaidWith (k .before .whole .given .0 .0) (k .before .whole .given .0 .1 .0) (k .before .before .before .before .before .args .content .now)
+read k = rw (k .before .whole .given .1) at (k .before .before .before .payment .ensures)
 
-abbrev μ-loop : tie.MeasureT-loop
-μ-loop content n₀ i₀ n i = length content - i
+payment-requires : tie.Need-payment-requires
+payment-requires c κs = search needs
 
-returns : tie.Need-returns Inv-loop μ-loop
-returns c = sym (count-long (c .before .before .args .content .now) (c .if1 .taken))
+enum-known-whole : tie.Need-enum-known-whole
+enum-known-whole c = search needs
 
-loop-holds : tie.Need-loop-holds Inv-loop μ-loop
-loop-holds c = count-start (c .before .before .args .content .now) (c .if1 .left)
+enum-told : tie.Need-enum-told
+enum-told c = search needs
 
-shared-slice-read-if2 : tie.Need-shared-slice-read-if2 Inv-loop μ-loop
-shared-slice-read-if2 c = omega arith
+returns : tie.Need-returns
+returns c = sym (unpaid-kopecks (c .before .before .before .before .args .content .now) (rw (c .enum-told .given .1) at (c .before .before .payment .ensures)))
 
-mul-result : tie.Need-mul-result Inv-loop μ-loop
-mul-result c = omega (arith, count-small (c .before .before .before .loop .inv))
+add-comma : tie.Need-add-comma
+add-comma c = omega (arith, paid-few (read c))
 
-add-decimals-at : tie.Need-add-decimals-at Inv-loop μ-loop
-add-decimals-at c = omega arith
+add-behind : tie.Need-add-behind
+add-behind c = omega (arith, paid-few (read c))
 
-decimals-at-requires : tie.Need-decimals-at-requires Inv-loop μ-loop
-decimals-at-requires c κs = search needs
+sub-number-of : tie.Need-sub-number-of
+sub-number-of c = search needs
 
-add-result : tie.Need-add-result Inv-loop μ-loop
-add-result c = omega (arith, count-small (c .before .before .before .before .loop .inv))
+part-number-of-start : tie.Need-part-number-of-start
+part-number-of-start c = search needs
 
-returns-2 : tie.Need-returns-2 Inv-loop μ-loop
-returns-2 c = let t = c .before in let l = t .before .before .before in
-    ap (λ (x : ℕ). l .loop .n * 100 + x) (c .decimals-at .ensures .0) ∙ sym (count-comma (l .loop .inv) (t .before .before .loop-test .taken) (t .if2 .taken))
+part-number-of-end : tie.Need-part-number-of-end
+part-number-of-end c = omega (arith, paid-size (read c))
 
-mul-n : tie.Need-mul-n Inv-loop μ-loop
-mul-n c = omega (arith, count-small (c .before .before .before .loop .inv))
+number-of-requires : tie.Need-number-of-requires
+number-of-requires c κs = whole-run (read (c .before))
 
-shared-slice-read-long-worth : tie.Need-shared-slice-read-long-worth Inv-loop μ-loop
-shared-slice-read-long-worth c = omega arith
+mul-result : tie.Need-mul-result
+mul-result c = omega (arith, whole-small (read (c .before .before)) (c .number-of .ensures))
 
-long-worth-requires : tie.Need-long-worth-requires Inv-loop μ-loop
-long-worth-requires c κs = search needs
+add-fraction-of : tie.Need-add-fraction-of
+add-fraction-of c = omega (arith, paid-few (read (c .before .before)))
 
-add-n : tie.Need-add-n Inv-loop μ-loop
-add-n c = omega (arith, count-small (c .before .before .before .before .before .loop .inv))
+sub-fraction-of : tie.Need-sub-fraction-of
+sub-fraction-of c = search needs
 
-add-i : tie.Need-add-i Inv-loop μ-loop
-add-i c = omega arith
+part-fraction-of-start : tie.Need-part-fraction-of-start
+part-fraction-of-start c = search needs
 
-loop-less : tie.Need-loop-less Inv-loop μ-loop
-loop-less c = omega arith
+part-fraction-of-end : tie.Need-part-fraction-of-end
+part-fraction-of-end c = omega (arith, paid-size (read (c .before .before)))
 
-loop-again : tie.Need-loop-again Inv-loop μ-loop
-loop-again c = let e = c .before .before in
-    count-on (c .long-worth .result) (e .before .before .before .loop .inv) (e .before .before .loop-test .taken) (e .if2 .left) (c .long-worth .ensures .0) (c .long-worth .ensures .1)
+fraction-of-requires : tie.Need-fraction-of-requires
+fraction-of-requires c κs = search needs
 
-mul-result-2 : tie.Need-mul-result-2 Inv-loop μ-loop
-mul-result-2 c = omega (arith, count-small (c .before .loop .inv))
+add-result : tie.Need-add-result
+add-result c = omega (arith, whole-small (read (c .before .before .before .before)) (c .before .before .number-of .ensures))
 
-returns-3 : tie.Need-returns-3 Inv-loop μ-loop
-returns-3 c = sym (count-end (c .before .loop .inv) (c .loop-test .left))
+returns-2 : tie.Need-returns-2
+returns-2 c = kopecks-by (read (c .before .before .before .before)) (c .before .before .number-of .ensures) (c .fraction-of .ensures .0)
 
 pub kopecks-of-spec : {M : Type 1} → statement M
 kopecks-of-spec =
     tie.close
     (tie.spec
-    Inv-loop
-    μ-loop
+    payment-requires
+    enum-known-whole
+    enum-told
     returns
-    loop-holds
-    shared-slice-read-if2
+    add-comma
+    add-behind
+    sub-number-of
+    part-number-of-start
+    part-number-of-end
+    number-of-requires
     mul-result
-    add-decimals-at
-    decimals-at-requires
+    add-fraction-of
+    sub-fraction-of
+    part-fraction-of-start
+    part-fraction-of-end
+    fraction-of-requires
     add-result
-    returns-2
-    mul-n
-    shared-slice-read-long-worth
-    long-worth-requires
-    add-n
-    add-i
-    loop-less
-    loop-again
-    mul-result-2
-    returns-3)
+    returns-2)

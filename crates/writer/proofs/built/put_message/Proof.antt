@@ -20,14 +20,14 @@ use Rattle.writer.proofs.built.put_message.Statement.{statement}
 use Rattle.writer.proofs.built.put_message.Tie as tie
 
 abbrev Inv-loop : tie.InvT-loop
-Inv-loop s kind sign out₀ fit₀ n₀ i₀ end₀ out fit n i = (length out ≡ length out₀) × (i ≤ length s) × (n ≤ 5 + 400 * i) × (badLine kind sign i (piecesAt 10 s i) ≡ Fine)
-    × Onward (rule15 kind sign 7 (recordsAt s 7)) (someCrowded kind sign (recordsAt s 7)) (bodyOf kind sign (recordsAt s 7)) out₀ 5 (rule15 kind sign i (recordsAt s i)) (not fit || someCrowded kind sign (recordsAt s i)) (bodyOf kind sign (recordsAt s i)) out n
+Inv-loop s form sign out₀ fit₀ n₀ i₀ end₀ out fit n i = (length out ≡ length out₀) × (i ≤ length s) × (n ≤ 5 + 400 * i) × (badLine form sign i (piecesAt 10 s i) ≡ Fine)
+    × Onward (rule15 form sign 7 (recordsAt s 7)) (someCrowded form sign (recordsAt s 7)) (bodyOf form sign (recordsAt s 7)) out₀ 5 (rule15 form sign i (recordsAt s i)) (not fit || someCrowded form sign (recordsAt s i)) (bodyOf form sign (recordsAt s i)) out n
 
 abbrev μ-loop : tie.MeasureT-loop
-μ-loop s kind sign out₀ fit₀ n₀ i₀ end₀ out fit n i = length s - i
+μ-loop s form sign out₀ fit₀ n₀ i₀ end₀ out fit n i = length s - i
 
 within : (c : tie.After-mark-at Inv-loop μ-loop) → (c .before .before .loop .i ≤ c .mark-at .result) × (c .mark-at .result + 1 ≤ length (c .before .before .before .before .before .before .before .before .before .before .args .s .now))
-within c = let l = c .before .before in let a = l .before .before .before .before .before .before .before .before .args in (omega (arith, c .mark-at .ensures), omega (arith, ended (a .kind) (a .sign) (a .s .now) (l .loop .i) (c .mark-at .result) (l .loop .inv .1) (c .mark-at .ensures) (c .before .loop-test .taken) (l .loop .inv .3)))
+within c = let l = c .before .before in let a = l .before .before .before .before .before .before .before .before .args in (omega (arith, c .mark-at .ensures), omega (arith, ended (a .form) (a .sign) (a .s .now) (l .loop .i) (c .mark-at .result) (l .loop .inv .1) (c .mark-at .ensures) (c .before .loop-test .taken) (l .loop .inv .3)))
 
 sized : (c : tie.After-mark-at Inv-loop μ-loop) → length (take (c .mark-at .result - c .before .before .loop .i) (drop (c .before .before .loop .i) (c .before .before .before .before .before .before .before .before .before .before .args .s .now))) ≡ c .mark-at .result - c .before .before .loop .i
 sized c = piece-length (c .before .before .before .before .before .before .before .before .before .before .args .s .now) (c .before .before .loop .i) (c .mark-at .result) (within c .0) (omega (arith, within c))
@@ -57,7 +57,7 @@ part-put-record-end : tie.Need-part-put-record-end Inv-loop μ-loop
 part-put-record-end c = omega (arith, within c)
 
 put-record-requires : tie.Need-put-record-requires Inv-loop μ-loop
-put-record-requires c κs = let a = (c .before .before .before .before .before .before .before .before .before .before .before .before .args) in (omega (arith, sized (c .before .before), within (c .before .before), (c .before .before .before .before .before .before .before .before .before .before .before .before .pre)), omega (arith, (c .before .before .before .before .loop .inv), (c .before .before .before .before .before .before .before .before .before .before .before .before .pre)), good-here (a .kind) (a .sign) (a .s .now) (c .before .before .before .before .loop .i) (c .before .before .mark-at .result) (c .before .before .before .before .loop .inv .1) (c .before .before .mark-at .ensures) (c .before .before .before .loop-test .taken) (c .before .before .before .before .loop .inv .3))
+put-record-requires c κs = let a = (c .before .before .before .before .before .before .before .before .before .before .before .before .args) in (omega (arith, sized (c .before .before), within (c .before .before), (c .before .before .before .before .before .before .before .before .before .before .before .before .pre)), omega (arith, (c .before .before .before .before .loop .inv), (c .before .before .before .before .before .before .before .before .before .before .before .before .pre)), good-here (a .form) (a .sign) (a .s .now) (c .before .before .before .before .loop .i) (c .before .before .mark-at .result) (c .before .before .before .before .loop .inv .1) (c .before .before .mark-at .ensures) (c .before .before .before .loop-test .taken) (c .before .before .before .before .loop .inv .3))
 
 enum-known-k : tie.Need-enum-known-k Inv-loop μ-loop
 enum-known-k c = search needs
@@ -70,7 +70,7 @@ same-length c = search needs
 
 returns : tie.Need-returns Inv-loop μ-loop
 returns c = let a = (c .before .before .before .before .before .before .before .before .before .before .before .before .before .before .before .before .before .before .args) in let l = (c .before .before .before .before .before .before .before .before .before .before) in
-    message-put (a .kind) (a .sign) (recordsAt (a .s .now) 7) (l .before .before .before .put .ensures) (l .loop .inv .4 _ _ (records-stop (a .kind) (a .sign) (a .s .now) (l .loop .i) (c .before .before .before .before .before .before .before .before .mark-at .result) (l .loop .inv .1) (c .before .before .before .before .before .before .before .before .mark-at .ensures) (c .before .before .before .before .before .before .before .before .before .loop-test .taken) (l .loop .inv .3) (l .loop .fit) (c .before .k .given .1) (c .before .before .before .before .before .put-record .ensures .0)))
+    message-put (a .form) (a .sign) (recordsAt (a .s .now) 7) (l .before .before .before .put .ensures) (l .loop .inv .4 _ _ (records-stop (a .form) (a .sign) (a .s .now) (l .loop .i) (c .before .before .before .before .before .before .before .before .mark-at .result) (l .loop .inv .1) (c .before .before .before .before .before .before .before .before .mark-at .ensures) (c .before .before .before .before .before .before .before .before .before .loop-test .taken) (l .loop .inv .3) (l .loop .fit) (c .before .k .given .1) (c .before .before .before .before .before .put-record .ensures .0)))
 
 enum-told : tie.Need-enum-told Inv-loop μ-loop
 enum-told c = search needs
@@ -95,8 +95,8 @@ loop-again c =
       search needs,
       within m .1,
       within-next (5 + 400 * (e + 1)) (went c) (p .1) (omega (arith, within m, l .loop .inv)) (omega (arith, within m, sized m, l .loop .inv)),
-      good-on (a .kind) (a .sign) (a .s .now) (l .loop .i) e (l .loop .inv .1) (m .mark-at .ensures) t (l .loop .inv .3),
-      λ r after d. l .loop .inv .4 r after (records-on (a .kind) (a .sign) (a .s .now) (l .loop .i) e (l .loop .inv .1) (m .mark-at .ensures) t (l .loop .inv .3) (went c) (p .0) d),
+      good-on (a .form) (a .sign) (a .s .now) (l .loop .i) e (l .loop .inv .1) (m .mark-at .ensures) t (l .loop .inv .3),
+      λ r after d. l .loop .inv .4 r after (records-on (a .form) (a .sign) (a .s .now) (l .loop .i) e (l .loop .inv .1) (m .mark-at .ensures) t (l .loop .inv .3) (went c) (p .0) d),
     )
 
 slice-aggregate-put-2 : tie.Need-slice-aggregate-put-2 Inv-loop μ-loop
@@ -112,7 +112,7 @@ returns-2 : tie.Need-returns-2 Inv-loop μ-loop
 returns-2 c =
     let l = c .before .before .before .before .before .before .before in
     let a = l .before .before .before .before .before .before .before .before .args in
-    message-put (a .kind) (a .sign) (recordsAt (a .s .now) 7) (l .before .before .before .put .ensures) (l .loop .inv .4 _ _ (records-end (a .kind) (a .sign) (a .s .now) (l .loop .i) (l .loop .inv .1) (c .before .before .before .before .before .before .loop-test .left) (l .loop .fit) (adds-unfit refl (c .if1 .taken))))
+    message-put (a .form) (a .sign) (recordsAt (a .s .now) 7) (l .before .before .before .put .ensures) (l .loop .inv .4 _ _ (records-end (a .form) (a .sign) (a .s .now) (l .loop .i) (l .loop .inv .1) (c .before .before .before .before .before .before .loop-test .left) (l .loop .fit) (adds-unfit refl (c .if1 .taken))))
 
 add-t32 : tie.Need-add-t32 Inv-loop μ-loop
 add-t32 c = let l = c .before .before .before .before .before .before .before in omega (arith, l .loop .inv, l .before .before .before .before .before .before .before .before .pre)
@@ -124,7 +124,7 @@ returns-3 : tie.Need-returns-3 Inv-loop μ-loop
 returns-3 c =
     let l = c .before .before .before .before .before .before .before in
     let a = l .before .before .before .before .before .before .before .before .args in
-    message-put (a .kind) (a .sign) (recordsAt (a .s .now) 7) (l .before .before .before .put .ensures) (l .loop .inv .4 _ _ (records-end (a .kind) (a .sign) (a .s .now) (l .loop .i) (l .loop .inv .1) (c .before .before .before .before .before .before .loop-test .left) (l .loop .fit) (adds-put refl (c .if1 .left) (puts-put {u = closing} refl (c .before .before .before .put2 .ensures)))))
+    message-put (a .form) (a .sign) (recordsAt (a .s .now) 7) (l .before .before .before .put .ensures) (l .loop .inv .4 _ _ (records-end (a .form) (a .sign) (a .s .now) (l .loop .i) (l .loop .inv .1) (c .before .before .before .before .before .before .loop-test .left) (l .loop .fit) (adds-put refl (c .if1 .left) (puts-put {u = closing} refl (c .before .before .before .put2 .ensures)))))
 
 pub put-message-spec : {M : Type 1} → statement M
 put-message-spec =

@@ -29,14 +29,14 @@ add-put-content c = let a = (c .before .before .before .before .before .before .
 
 put-content-requires : tie.Need-put-content-requires
 put-content-requires c κs = let a = (c .before .before .before .before .before .before .before .before .before .before .before .args) in let q = (c .before .before .before .before .before .before .before .before .mark-at .ensures) in let w = tag-within (a .l .now) (c .before .before .before .before .before .before .before .before .mark-at .result) q in let z = tag-size (a .l .now) (c .before .before .before .before .before .before .before .before .mark-at .result) q in
-    ((c .before .before .before .before .before .before .before .before .before .before .before .pre .0), omega (arith, w), omega (arith, w, z, tag-behind (take (c .before .before .before .before .before .before .before .before .mark-at .result) (a .l .now)) (c .before .before .before .put-tag .ensures), (c .before .before .before .before .before .before .before .before .before .before .before .pre)), shape-sound (a .kind) (a .sign) (a .l .now) (c .before .before .before .before .before .before .before .before .mark-at .result) q (c .before .before .before .before .before .before .before .before .before .before .before .pre .2) (shape-is (a .kind) (a .sign) (a .l .now) (c .before .before .before .before .before .before .before .before .mark-at .result) q (c .before .before .before .before .before .before .before .before .before .before .before .pre .2) (c .before .before .before .before .before .before .tag-number .ensures) (c .before .before .before .before .before .shape-of .ensures)))
+    ((c .before .before .before .before .before .before .before .before .before .before .before .pre .0), omega (arith, w), omega (arith, w, z, tag-behind (take (c .before .before .before .before .before .before .before .before .mark-at .result) (a .l .now)) (c .before .before .before .put-tag .ensures), (c .before .before .before .before .before .before .before .before .before .before .before .pre)), shape-sound (a .form) (a .sign) (a .l .now) (c .before .before .before .before .before .before .before .before .mark-at .result) q (c .before .before .before .before .before .before .before .before .before .before .before .pre .2) (shape-is (a .form) (a .sign) (a .l .now) (c .before .before .before .before .before .before .before .before .mark-at .result) q (c .before .before .before .before .before .before .before .before .before .before .before .pre .2) (c .before .before .before .before .before .before .tag-number .ensures) (c .before .before .before .before .before .shape-of .ensures)))
 
 same-length : tie.Need-same-length
 same-length c = search needs
 
 returns : tie.Need-returns
 returns c = let a = (c .before .before .before .before .before .before .before .before .before .before .before .before .before .before .args) in let t = (c .before .before .before .before .before .before .before .before .before .before .before .mark-at .result) in let q = (c .before .before .before .before .before .before .before .before .before .before .before .mark-at .ensures) in let w = tag-within (a .l .now) t q in let z = tag-size (a .l .now) t q in (
-  record-put (a .kind) (a .sign) (a .l .now) t q (c .before .before .before .before .before .before .before .before .before .before .before .before .before .before .pre .2) (shape-is (a .kind) (a .sign) (a .l .now) t q (c .before .before .before .before .before .before .before .before .before .before .before .before .before .before .pre .2) (c .before .before .before .before .before .before .before .before .before .tag-number .ensures) (c .before .before .before .before .before .before .before .before .shape-of .ensures)) (c .before .before .before .before .before .before .put-tag .ensures) (c .before .before .put-content .ensures .0),
+  record-put (a .form) (a .sign) (a .l .now) t q (c .before .before .before .before .before .before .before .before .before .before .before .before .before .before .pre .2) (shape-is (a .form) (a .sign) (a .l .now) t q (c .before .before .before .before .before .before .before .before .before .before .before .before .before .before .pre .2) (c .before .before .before .before .before .before .before .before .before .tag-number .ensures) (c .before .before .before .before .before .before .before .before .shape-of .ensures)) (c .before .before .before .before .before .before .put-tag .ensures) (c .before .before .put-content .ensures .0),
   within-more (length (a .l .now)) (a .at + 400 * (length (a .l .now) + 1)) (c .before .before .put-content .ensures .1) (omega arith) (omega (arith, w, z, tag-behind (take t (a .l .now)) (c .before .before .before .before .before .before .put-tag .ensures))),
 )
 

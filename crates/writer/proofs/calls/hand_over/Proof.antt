@@ -17,7 +17,7 @@ returns c =
     let j = c .before .before .before in
     let s = j .before .before .before in
     let a = s .args in
-    hand-refused (a .kind) (a .m .now) (a .out .now) (s .pre) (judged-by (a .kind) (a .m .now) (j .judge .ensures) refl ∙ c .before .verdict .given .1)
+    hand-refused (a .form) (a .m .now) (a .out .now) (s .pre) (judged-by (a .form) (a .m .now) (j .judge .ensures) refl ∙ c .before .verdict .given .1)
 
 enum-told : tie.Need-enum-told
 enum-told c = search needs
@@ -34,7 +34,7 @@ returns-2 c =
     let j = t .before .before in
     let s = j .before .before .before in
     let a = s .args in
-    hand-done (a .kind) (a .m .now) (a .out .now) (s .pre) (judged-by (a .kind) (a .m .now) (j .judge .ensures) refl ∙ t .enum-told .given .1) (c .before .before .put .ensures)
+    hand-done (a .form) (a .m .now) (a .out .now) (s .pre) (judged-by (a .form) (a .m .now) (j .judge .ensures) refl ∙ t .enum-told .given .1) (c .before .before .put .ensures)
 
 pub hand-over-spec : {M : Type 1} → statement M
 hand-over-spec =

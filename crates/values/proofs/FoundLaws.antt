@@ -1,0 +1,228 @@
+-- What is found in a content, from what its reader answered: the parts that it hands on are the grammar's (C32A, Crpp, Cparty, Ctax, N9, N10, N12,
+-- N13). Assumes nothing.
+use Prim.Native.Nat.{ℕ, suc, _+_, _-_}
+use mathlib.Core.Path.{_≡_, refl, sym, ap, ap₂, _∙_}
+use mathlib.Core.Bool.{Bool, true, false, not, or-false}
+use mathlib.Core.List.{List, [], _∷_}
+use mathlib.Core.Logic.{⊎-elim}
+use native.Mathlib.Omega.{arith}
+use lib.Dec.{eqb}
+use lib.ListN.{length}
+use borrow.Author.Tests.{eq-eqb, ne-eqb}
+use Rattle.base.specs.Choice.{pick}
+use Rattle.base.specs.Bytes.{begins, empty, same}
+use Rattle.base.specs.Quoted.{bytes}
+use Rattle.base.specs.Says.{Says}
+use Rattle.base.proofs.SaysLaws.{says-not, says-same}
+use Rattle.fields.specs.Places.{sizeOf}
+use Rattle.contents.specs.declared.Content.{Content}
+use Rattle.contents.specs.declared.Content.the-variants as holds
+use Rattle.contents.specs.declared.lines.Party.{Party}
+use Rattle.contents.specs.declared.whole.Held.{Held}
+use Rattle.contents.specs.declared.whole.Held.the-variants as held
+use Rattle.contents.specs.declared.whole.Bank.{Bank}
+use Rattle.contents.specs.declared.whole.Bank.the-variants as bank
+use Rattle.contents.specs.Words.{Text, Line}
+use Rattle.contents.specs.Fields.{Then, Any, In72, Right}
+use Rattle.contents.specs.Parts.{paidDate, paidCurrency}
+use Rattle.contents.specs.Answers.{cut, RppWith, BesideSaid, Behind, CustomerSaid, Bare, PayerSaid, IsA, BicSaid, NameSaid, isHeld, isBank}
+use Rattle.contents.proofs.LineTests.{begins-says}
+use Rattle.contents.proofs.RightLaws.{customer-is, payer-is, bic-is, name-is}
+use Rattle.values.specs.Day.{realDay}
+use Rattle.values.specs.Values as kinds
+use Rattle.values.specs.Values.{Kind, date, tax, Value, at, payment, rppDates, parties, ofFirst, taxes, customerTaxes, payerTaxes, noteDates, valuesOf}
+use Rattle.values.specs.Judged.{noDay, foreign, apart, hasKpp, has}
+use Rattle.values.specs.Answers.{faultOf, Finding, FoundIn}
+use Rattle.values.specs.Steps.{finds, heldFound, bankFound, LedBy}
+use Rattle.values.specs.declared.Finds.{Finds}
+use Rattle.values.specs.declared.Found.{Found}
+use Rattle.values.specs.declared.Found.the-variants.{Wrong, Has}
+use Rattle.values.proofs.ValueLaws.{Every, every-first, every-rpp, every-party}
+use Rattle.values.proofs.StepLaws.{has-none, fault-none}
+use Rattle.values.proofs.FrontLaws.{swap}
+use Rattle.values.proofs.GrammarLaws.{note-values, nzp-values, bic-values, tax-values, untaxed-values}
+
+-- ---- there is one answer
+finds-same : (f g : Finds) → f .day ≡ g .day → f .currency ≡ g .currency → f .party ≡ g .party → f .kpp ≡ g .kpp → f ≡ g
+finds-same f g a b c d = ap₂ (λ (x y : ℕ). finds x y (f .party) (f .kpp)) a b ∙ ap₂ (λ (x : ℕ) (y : Bool). finds (g .day) (g .currency) x y) c d
+
+pub found-once : (content : Content) (sign : Bool) (ls : List Line) (r q : Found) → FoundIn content sign ls r → FoundIn content sign ls q → r ≡ q
+found-once content sign ls Wrong Wrong a b = refl
+found-once content sign ls Wrong (Has g) a b = absurd (a (b .0))
+found-once content sign ls (Has f) Wrong a b = absurd (b (a .0))
+found-once content sign ls (Has f) (Has g) a b =
+    let x = a .1 in
+    let y = b .1 in
+    ap Has (finds-same f g (x .day-is [] ∙ sym (y .day-is [])) (x .currency-is [] ∙ sym (y .currency-is [])) (x .party-is [] ∙ sym (y .party-is [])) (x .kpp-is [] ∙ sym (y .kpp-is [])))
+
+-- ---- from whether the content is right, and what is found where it is
+abbrev isHas : Found → Bool
+isHas Wrong = false
+isHas (Has f) = true
+
+abbrev Good : Content → List Line → Found → Type 0
+Good content ls Wrong = Unit {0}
+Good content ls (Has f) = Finding content ls f
+
+found-by : (content : Content) (sign : Bool) (ls : List Line) (r : Found) → Says (Right content sign ls) (isHas r) → Good content ls r → FoundIn content sign ls r
+found-by content sign ls Wrong s g = s .not-so refl
+found-by content sign ls (Has f) s g = (s .so refl, g)
+
+module _ (content : Content) (ls : List Line) where
+  -- by the content's values, whatever the tag
+  finding-of : (vs : Text → List Value) → ((t : Text) → valuesOf t content ls ≡ vs t) → {d c p : ℕ} {k : Bool} → ((t : Text) → d ≡ faultOf noDay (vs t)) → ((t : Text) → c ≡ faultOf foreign (vs t))
+      → ((t : Text) → p ≡ faultOf apart (vs t)) → ((t : Text) → k ≡ has hasKpp (vs t)) → Finding content ls (finds d c p k)
+  finding-of vs e a b c d = record {
+    day-is = λ t. a t ∙ sym (ap (faultOf noDay) (e t));
+    currency-is = λ t. b t ∙ sym (ap (faultOf foreign) (e t));
+    party-is = λ t. c t ∙ sym (ap (faultOf apart) (e t));
+    kpp-is = λ t. d t ∙ sym (ap (has hasKpp) (e t));
+  }
+
+  pub finding-none : ((t : Text) → valuesOf t content ls ≡ []) → Finding content ls (finds 0 0 0 false)
+  unfolding faultOf
+  finding-none e = finding-of (λ t. []) e (λ t. refl) (λ t. refl) (λ t. refl) (λ t. refl)
+
+  finding-tax : (p : ℕ) (inn kpp : Text) → ((t : Text) → valuesOf t content ls ≡ at p (tax t inn kpp) ∷ []) → {b : Bool} → b ≡ not (empty kpp) → Finding content ls (finds 0 0 0 b)
+  unfolding faultOf
+  finding-tax p inn kpp e q = finding-of (λ t. at p (tax t inn kpp) ∷ []) e (λ t. refl) (λ t. refl) (λ t. refl) (λ t. q ∙ sym (or-false (not (empty kpp))))
+
+  -- an RPP line has dates alone, a party line parties alone
+  pub finding-rpp : ((t : Text) → valuesOf t content ls ≡ ofFirst rppDates ls) → {d : ℕ} → d ≡ faultOf noDay (ofFirst rppDates ls) → Finding content ls (finds d 0 0 false)
+  finding-rpp e q =
+      let vs = ofFirst rppDates ls in
+      finding-of (λ t. vs) e (λ t. q) (λ t. sym (fault-none foreign vs (dates foreign (λ s. refl)))) (λ t. sym (fault-none apart vs (dates apart (λ s. refl)))) (λ t. sym (has-none hasKpp vs (dates hasKpp (λ s. refl))))
+    where
+      dates : (u : Kind → Bool) → ((s : Text) → u (date s) ≡ false) → Every (λ k. u k ≡ false) (ofFirst rppDates ls)
+      dates u h = every-first (λ k. u k ≡ false) rppDates (every-rpp (λ k. u k ≡ false) h) ls
+
+  finding-party : ((t : Text) → valuesOf t content ls ≡ ofFirst parties ls) → Finding content ls (finds 0 0 (faultOf apart (ofFirst parties ls)) false)
+  finding-party e =
+      let vs = ofFirst parties ls in
+      finding-of (λ t. vs) e (λ t. sym (fault-none noDay vs (pairs noDay (λ b a. refl)))) (λ t. sym (fault-none foreign vs (pairs foreign (λ b a. refl)))) (λ t. refl) (λ t. sym (has-none hasKpp vs (pairs hasKpp (λ b a. refl))))
+    where
+      pairs : (u : Kind → Bool) → ((b a : Text) → u (kinds.party b a) ≡ false) → Every (λ k. u k ≡ false) (ofFirst parties ls)
+      pairs u h = every-first (λ k. u k ≡ false) parties (every-party (λ k. u k ≡ false) h) ls
+
+-- ---- 32A
+pub finding-paid : (l : Line) {d c : ℕ} → length (paidDate l) ≡ 6 → d ≡ pick (realDay (paidDate l)) 0 1 → c ≡ pick (same (paidCurrency l) (bytes "RUB")) 0 7
+    → Finding holds.Payment (l ∷ []) (finds d c 0 false)
+unfolding valuesOf payment faultOf
+finding-paid l z a b = record {
+  day-is = λ t. a ∙ swap (realDay (paidDate l)) 0 1;
+  currency-is = λ t. b ∙ swap (same (paidCurrency l) (bytes "RUB")) 0 7 ∙ ap (λ (n : ℕ). pick (not (same (paidCurrency l) (bytes "RUB"))) (suc n) 0) (sym z);
+  party-is = λ t. refl;
+  kpp-is = λ t. refl;
+}
+
+-- ---- Ctax: 50K, 59, 58D
+kpp-size : (kpp : Text) (n : ℕ) → length kpp ≡ n → not (eqb n 0) ≡ not (empty kpp)
+kpp-size [] n e = ap not (eq-eqb n 0 (sym e))
+kpp-size (x ∷ s) n e = ap not (ne-eqb n 0 (λ z. absurd (omega arith)))
+
+module _ (content : Content) (ls : List Line) where
+  -- the lines ms, from n on, have the tax place
+  beside-good : (ms : List Line) (n o : ℕ) (twelve : Bool) → ((t : Text) → valuesOf t content ls ≡ taxes t n ms) → (h : Held) → BesideSaid twelve o ms h → Good content ls (heldFound h)
+  unfolding taxes
+  beside-good ms n o twelve e held.Wrong b = tt
+  beside-good [] n o twelve e held.Plain b = finding-none content ls e
+  beside-good (m ∷ ms) n o twelve e held.Plain b = finding-none content ls (λ t. e t ∙ untaxed-values t n m ms (λ x. b .0 (x, tt)))
+  beside-good [] n o twelve e (held.Taxed p inn kpp) b = absurd (b .1)
+  beside-good (m ∷ ms) n o twelve e (held.Taxed p inn kpp) b =
+      let w = b .1 .0 in
+      finding-tax content ls n (cut 3 inn m) (cut (4 + (inn + 3)) kpp m) (λ t. e t ∙ tax-values t n m ms (w .0)) (kpp-size (cut (4 + (inn + 3)) kpp m) kpp (w .2))
+
+behind-good : (content : Content) (ls : List Line) (twelve : Bool) → ((t : Text) → valuesOf t content ls ≡ customerTaxes t ls) → (h : Held) → Behind twelve ls h → Good content ls (heldFound h)
+unfolding customerTaxes
+behind-good content [] twelve e h b = absurd b
+behind-good content (l ∷ ls) twelve e h b = beside-good content (l ∷ ls) ls (sizeOf (l ∷ [])) (length l + 2) twelve e h (b .1)
+
+held-has : (h : Held) → isHas (heldFound h) ≡ isHeld h
+held-has held.Wrong = refl
+held-has held.Plain = refl
+held-has (held.Taxed p inn kpp) = refl
+
+customer-good : (content : Content) (ls : List Line) (twelve : Bool) → ((t : Text) → valuesOf t content ls ≡ customerTaxes t ls) → (h : Held) → CustomerSaid twelve ls h → Good content ls (heldFound h)
+customer-good content ls twelve e held.Wrong s = tt
+customer-good content ls twelve e held.Plain s = behind-good content ls twelve e held.Plain s
+customer-good content ls twelve e (held.Taxed p inn kpp) s = behind-good content ls twelve e (held.Taxed p inn kpp) s
+
+module _ (sign : Bool) (ls : List Line) (h : Held) where
+  pub bank-held : CustomerSaid false ls h → FoundIn holds.BeneficiaryBank sign ls (heldFound h)
+  unfolding valuesOf
+  bank-held s = found-by holds.BeneficiaryBank sign ls (heldFound h) (customer-is false ls h (isHas (heldFound h)) (held-has h) s) (customer-good holds.BeneficiaryBank ls false (λ t. refl) h s)
+
+  pub customer-held : CustomerSaid true ls h → FoundIn holds.Beneficiary sign ls (heldFound h)
+  unfolding valuesOf
+  customer-held s = found-by holds.Beneficiary sign ls (heldFound h) (customer-is true ls h (isHas (heldFound h)) (held-has h) s) (customer-good holds.Beneficiary ls true (λ t. refl) h s)
+
+-- 50K by its first line
+payer-behind : (ls : List Line) (h : Held) → Behind true ls h → Good holds.Payer ls (heldFound h)
+unfolding valuesOf payerTaxes
+payer-behind [] h b = absurd b
+payer-behind (l ∷ ls) h b =
+    behind-good holds.Payer (l ∷ ls) true (λ t. ap (λ (q : Bool). pick q (customerTaxes t (l ∷ ls)) (taxes t 0 (l ∷ ls))) (ap (begins 47) (b .0 .1 .line))) h b
+
+payer-bare : (ls : List Line) (h : Held) → Bare ls h → Good holds.Payer ls (heldFound h)
+unfolding valuesOf payerTaxes taxes
+payer-bare [] h b = beside-good holds.Payer [] [] 0 0 true (λ t. refl) h (b .1)
+payer-bare (l ∷ ls) h b =
+    beside-good holds.Payer (l ∷ ls) (l ∷ ls) 0 0 true
+    (λ t. ap (λ (q : Bool). pick q (customerTaxes t (l ∷ ls)) (taxes t 0 (l ∷ ls))) (says-same (begins-says l) (says-not (λ x. b .0 (x, tt))))) h (b .1)
+
+payer-good : (ls : List Line) (h : Held) → PayerSaid ls h → Good holds.Payer ls (heldFound h)
+payer-good ls held.Wrong s = tt
+payer-good ls held.Plain s = ⊎-elim (payer-behind ls held.Plain) (payer-bare ls held.Plain) s
+payer-good ls (held.Taxed p inn kpp) s = ⊎-elim (payer-behind ls (held.Taxed p inn kpp)) (payer-bare ls (held.Taxed p inn kpp)) s
+
+pub payer-held : (sign : Bool) (ls : List Line) (h : Held) → PayerSaid ls h → FoundIn holds.Payer sign ls (heldFound h)
+payer-held sign ls h s = found-by holds.Payer sign ls (heldFound h) (payer-is ls h (isHas (heldFound h)) (held-has h) s) (payer-good ls h s)
+
+-- ---- Cparty: 52A, 56, 57
+led : (Q : List Line → Type 0) (p : Party) (ls : List Line) → Then (IsA p) Q ls → Then (IsA p) Any ls
+led Q p [] s = s
+led Q p (l ∷ ls) s = (s .0, tt)
+
+pub bic-led : (ls : List Line) (b : Bank) → BicSaid ls b → LedBy ls b
+bic-led ls bank.Wrong s = tt
+bic-led ls bank.Alone s = tt
+bic-led ls (bank.Led p) s = led _ p ls s
+
+pub name-led : (ls : List Line) (b : Bank) → NameSaid ls b → LedBy ls b
+name-led ls bank.Wrong s = tt
+name-led ls bank.Alone s = tt
+name-led ls (bank.Led p) s = led _ p ls s
+
+bank-has : (ls : List Line) (b : Bank) → isHas (bankFound ls b) ≡ isBank b
+bank-has ls bank.Wrong = refl
+bank-has ls bank.Alone = refl
+bank-has ls (bank.Led p) = refl
+
+bic-good : (ls : List Line) (b : Bank) → BicSaid ls b → Good holds.BankByBic ls (bankFound ls b)
+unfolding valuesOf
+bic-good ls bank.Wrong s = tt
+bic-good [] bank.Alone s = absurd s
+bic-good (l ∷ []) bank.Alone s = finding-none holds.BankByBic (l ∷ []) (λ t. bic-values s)
+bic-good (l ∷ k ∷ ls) bank.Alone s = absurd s
+bic-good ls (bank.Led p) s = finding-party holds.BankByBic ls (λ t. refl)
+
+name-good : (ls : List Line) (b : Bank) → NameSaid ls b → Good holds.BankByName ls (bankFound ls b)
+unfolding valuesOf
+name-good ls bank.Wrong s = tt
+name-good ls bank.Alone s = absurd s
+name-good ls (bank.Led p) s = finding-party holds.BankByName ls (λ t. refl)
+
+module _ (sign : Bool) (ls : List Line) (b : Bank) where
+  pub bank-by-bic : BicSaid ls b → FoundIn holds.BankByBic sign ls (bankFound ls b)
+  bank-by-bic s = found-by holds.BankByBic sign ls (bankFound ls b) (bic-is ls b (isHas (bankFound ls b)) (bank-has ls b) s) (bic-good ls b s)
+
+  pub bank-by-name : NameSaid ls b → FoundIn holds.BankByName sign ls (bankFound ls b)
+  bank-by-name s = found-by holds.BankByName sign ls (bankFound ls b) (name-is ls b (isHas (bankFound ls b)) (bank-has ls b) s) (name-good ls b s)
+
+-- ---- 72 of a 202
+pub note-dated : (sign : Bool) (n value : ℕ) (ls : List Line) → Then (RppWith n value) (In72 sign 5) ls → Then (RppWith n value) Any ls × (ofFirst noteDates ls ≡ ofFirst rppDates ls)
+note-dated sign n value [] w = absurd w
+note-dated sign n value (l ∷ ls) w = ((w .0, tt), note-values (w .0 .0))
+
+pub note-plain : (sign : Bool) (ls : List Line) → In72 sign 6 ls → ofFirst noteDates ls ≡ []
+note-plain sign ls d = ap (ofFirst noteDates) (d .3 .lines) ∙ nzp-values _
