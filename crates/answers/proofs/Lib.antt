@@ -3,7 +3,7 @@ pub mod LineLaws
 pub mod VerdictLaws
 pub mod PlaceLaws
 pub mod CallLaws
-pub mod Theorems
+pub mod AnswerTheorems
 pub mod TypeLaws
 pub mod SheetLaws
 pub mod Examples

@@ -21,7 +21,7 @@ use Rattle.written.specs.Sentences as why
 use Rattle.written.specs.Sentences.{Reason}
 use Rattle.writer.proofs.CallLaws.{long-verdict}
 use Rattle.writer.proofs.RuleLaws.{sheet-rules, write-by, write-rules}
-use Rattle.written.proofs.Theorems.{refusal-reason}
+use Rattle.written.proofs.ToMessageTheorems.{refusal-reason}
 use Rattle.answers.specs.Programs.{messageVerdict}
 
 -- 17 comes only with too little room

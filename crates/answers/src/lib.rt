@@ -1,4 +1,4 @@
 // Whole answers of the programs: the output, or the line of the refusal.
-pub mod calls;
+pub mod programs;
 pub mod rooms;
 mod shown;

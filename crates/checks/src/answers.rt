@@ -5,10 +5,10 @@ use listing::Span;
 use message::Amount;
 use message::Checked;
 use message::Day;
-use message::calls::check;
-use message::calls::date;
-use message::calls::kopecks;
-use message::calls::span;
+use message::check::check;
+use message::content::span;
+use message::paid::date;
+use message::paid::kopecks;
 use types::Form;
 use types::forms::form_of;
 

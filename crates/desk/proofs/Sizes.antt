@@ -41,7 +41,7 @@ use Rattle.contents.specs.Parts.{paidDate}
 use Rattle.values.specs.Answers.{kopecksOf, dateOf}
 use Rattle.values.proofs.MoneyLaws.{kopecks-of-small}
 use Rattle.judge.specs.Message.{messageRules, verdictOf}
-use Rattle.judge.proofs.Theorems.{frame-clean}
+use Rattle.judge.proofs.VerdictTheorems.{frame-clean}
 use Rattle.judge.proofs.SmallLaws.{verdict-small}
 use Rattle.message.specs.declared.Checked.{Checked}
 use Rattle.message.specs.Calls.{checkedBy, Checks, spanBy, spanOf, partOf, contentOf, paid, amountBy, amountOf, dayBy, dayOf, Inside}
@@ -50,7 +50,7 @@ use Rattle.writer.specs.Sheet.{MessageTo}
 use Rattle.written.proofs.SizeLaws.{refused-small, written-small}
 use Rattle.sheets.specs.Gather.{sheetOf}
 use Rattle.sheets.specs.Calls.{SheetTo}
-use Rattle.trips.proofs.Theorems.{sheet-size}
+use Rattle.trips.proofs.AgainTheorems.{sheet-size}
 use Rattle.desk.specs.Sizes.{Fits, SmallOutcome, SmallCheck, SmallSpan, SmallAmount, SmallDay}
 
 -- ---- refusals of messages and texts

@@ -20,9 +20,9 @@ use Rattle.judge.specs.Message.{verdictOf}
 use Rattle.message.specs.declared.Checked.{Checked}
 use Rattle.message.specs.declared.Checked.the-variants as checked
 use Rattle.message.specs.Calls.{paid, amountBy, amountOf, daySplit, dayBy, dayOf}
-use Rattle.message.proofs.Theorems.{checks-one}
-use Rattle.written.proofs.Theorems.{message-one}
-use Rattle.sheets.proofs.Theorems.{sheet-one}
+use Rattle.message.proofs.CheckTheorems.{checks-one}
+use Rattle.written.proofs.ToMessageTheorems.{message-one}
+use Rattle.sheets.proofs.ToSheetTheorems.{sheet-one}
 use Rattle.desk.specs.Answer.{word, checkedWord, amountWord, dayWord, isOn}
 use Rattle.desk.specs.Exports.{WordOf, ReadWord, WrittenWord, CheckWord, MessageWord, SheetWord}
 use Rattle.desk.specs.Sizes.{SmallOutcome, SmallCheck}

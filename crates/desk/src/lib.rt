@@ -97,7 +97,7 @@ pub extern "C" fn desk_write_text(sign: u32, text: &[u8], out: &mut [u8]) -> u64
 pub extern "C" fn desk_check(kind: u32, message: &[u8], list: &mut [u32]) -> u64
     ensures { λ r. ⌜ CheckWord (formOf kind) (now (message .entry)) (now (list .entry)) r (now (list .exit)) ⌝ }
 {
-    let c = message::calls::check(form_of(kind), message, list);
+    let c = message::check::check(form_of(kind), message, list);
     checked_of(c)
 }
 
@@ -106,7 +106,7 @@ pub extern "C" fn desk_check(kind: u32, message: &[u8], list: &mut [u32]) -> u64
 pub extern "C" fn desk_content(kind: u32, message: &[u8], place: u32) -> u64
     ensures { λ r. ⌜ r ≡ spanWord (spanOf (formOf kind) (now (message .entry)) place) ⌝ }
 {
-    let s = message::calls::span(form_of(kind), message, place as usize);
+    let s = message::content::span(form_of(kind), message, place as usize);
     span_of(s)
 }
 
@@ -114,7 +114,7 @@ pub extern "C" fn desk_content(kind: u32, message: &[u8], place: u32) -> u64
 pub extern "C" fn desk_kopecks(kind: u32, message: &[u8]) -> u64
     ensures { λ r. ⌜ r ≡ amountWord (amountOf (formOf kind) (now (message .entry))) ⌝ }
 {
-    let a = message::calls::kopecks(form_of(kind), message);
+    let a = message::paid::kopecks(form_of(kind), message);
     amount_of(a)
 }
 
@@ -122,7 +122,7 @@ pub extern "C" fn desk_kopecks(kind: u32, message: &[u8]) -> u64
 pub extern "C" fn desk_date(kind: u32, message: &[u8]) -> u64
     ensures { λ r. ⌜ r ≡ dayWord (dayOf (formOf kind) (now (message .entry))) ⌝ }
 {
-    let d = message::calls::date(form_of(kind), message);
+    let d = message::paid::date(form_of(kind), message);
     day_of(d)
 }
 
@@ -131,7 +131,7 @@ pub extern "C" fn desk_date(kind: u32, message: &[u8]) -> u64
 pub extern "C" fn desk_to_message(sheet: &[u8], out: &mut [u8]) -> u64
     ensures { λ r. ⌜ MessageWord (now (sheet .entry)) (now (out .entry)) r (now (out .exit)) ⌝ }
 {
-    let o = writer::calls::to_message(sheet, out);
+    let o = writer::to_message::to_message(sheet, out);
     word_of(o)
 }
 
@@ -140,6 +140,6 @@ pub extern "C" fn desk_to_message(sheet: &[u8], out: &mut [u8]) -> u64
 pub extern "C" fn desk_to_sheet(kind: u32, message: &[u8], out: &mut [u8]) -> u64
     ensures { λ r. ⌜ SheetWord (formOf kind) (now (message .entry)) (now (out .entry)) r (now (out .exit)) ⌝ }
 {
-    let o = sheets::calls::to_sheet(form_of(kind), message, out);
+    let o = sheets::to_sheet::to_sheet(form_of(kind), message, out);
     word_of(o)
 }

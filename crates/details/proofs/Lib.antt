@@ -3,5 +3,5 @@ pub mod LineLaws
 pub mod StepLaws
 pub mod LayLaws
 pub mod PlaceLaws
-pub mod Theorems
+pub mod DivisionTheorems
 pub mod Examples

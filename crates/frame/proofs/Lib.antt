@@ -3,6 +3,6 @@ pub mod PassLaws
 pub mod RuleLaws
 pub mod LateLaws
 pub mod CallLaws
-pub mod Theorems
+pub mod PassTheorems
 pub mod Examples
 pub mod SmallLaws

@@ -1,8 +1,8 @@
 // The quick pass over a message: 18 and 1 to 7, where its fields stand, and which places they have.
-pub mod calls;
 mod late;
 mod lines;
 pub mod pass;
+pub mod quick;
 
 use base::Verdict;
 

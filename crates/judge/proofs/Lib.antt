@@ -3,5 +3,5 @@ pub mod FactLaws
 pub mod LoopLaws
 pub mod CallLaws
 pub mod RuleLaws
-pub mod Theorems
+pub mod VerdictTheorems
 pub mod SmallLaws

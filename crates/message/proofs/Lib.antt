@@ -1,5 +1,5 @@
 pub mod CallLaws
 pub mod PartLaws
-pub mod Theorems
+pub mod CheckTheorems
 pub mod PaidLaws
 pub mod Examples

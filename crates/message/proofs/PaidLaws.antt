@@ -55,7 +55,7 @@ use Rattle.listing.proofs.SpanLaws.{part-listed}
 use Rattle.frame.proofs.CallLaws.{taken}
 use Rattle.judge.specs.Message.{verdictOf}
 use Rattle.judge.proofs.RuleLaws.{accepted-rules}
-use Rattle.judge.proofs.Theorems.{frame-clean, contents-right, days-right, roubles-only}
+use Rattle.judge.proofs.VerdictTheorems.{frame-clean, contents-right, days-right, roubles-only}
 
 -- ---- a mandatory place is present
 must-present : (ps : List Place) (next : ℕ) (fs : List Field) (i : ℕ) → Accepted ps next fs → next ≤ i → i < length ps → optional (placeAt ps i) ≡ false → Present ps fs i

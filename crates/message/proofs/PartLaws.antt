@@ -31,7 +31,7 @@ use Rattle.listing.proofs.SpanLaws.{part-is}
 use Rattle.frame.specs.declared.Frame.{Frame}
 use Rattle.values.specs.Answers.{kopecksOf, dateOf}
 use Rattle.judge.specs.Message.{verdictOf, judgedOf}
-use Rattle.judge.proofs.Theorems.{frame-clean, contents-right, judged-by, judged-found}
+use Rattle.judge.proofs.VerdictTheorems.{frame-clean, contents-right, judged-by, judged-found}
 use Rattle.message.specs.declared.Amount.the-variants as amount
 use Rattle.message.specs.declared.Day.{Day}
 use Rattle.message.specs.declared.Day.the-variants as day

@@ -1,5 +1,7 @@
 // The calls on a message: its check, the part of one place, the kopecks and the date of 32A.
-pub mod calls;
+pub mod check;
+pub mod content;
+pub mod paid;
 
 // The answer of the check.
 pub enum Checked {

@@ -21,9 +21,9 @@ use Rattle.frame.specs.declared.Frame.{Frame}
 use Rattle.frame.specs.Frame.{wordOf, frameBy}
 use Rattle.frame.proofs.CallLaws.{taken}
 use Rattle.judge.specs.Message.{verdictOf, judgedOf}
-use Rattle.judge.proofs.Theorems.{frame-clean}
+use Rattle.judge.proofs.VerdictTheorems.{frame-clean}
 use Rattle.message.specs.Calls.{contentOf}
-use Rattle.message.proofs.Theorems.{Without, refused, absent, content-empty}
+use Rattle.message.proofs.CheckTheorems.{Without, refused, absent, content-empty}
 use Rattle.reader.specs.Reading.{firstFrom, filled, placeBehind, isSet, nextBit}
 
 -- ---- the first that passes

@@ -4,8 +4,8 @@ ghost use Rattle.types.specs.Form.{formOf};
 ghost use Rattle.message.specs.Calls.{contentOf};
 ghost use Rattle.reader.specs.Reading.{nextBit, placeBehind};
 use base::bits::bit_at;
-use judge::calls::judge;
-use message::calls::content;
+use judge::verdict::judge;
+use message::content::content;
 use types::forms::form_of;
 
 pub struct Reader<'a> {

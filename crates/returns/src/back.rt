@@ -3,9 +3,9 @@ use base::Outcome;
 use base::bytes::front;
 use base::bytes::is_same;
 use libc::STDOUT_FILENO;
-use sheets::calls::to_sheet;
+use sheets::to_sheet::to_sheet;
 use types::forms::form_of;
-use writer::calls::to_message;
+use writer::to_message::to_message;
 
 // No sheet that is read and no message that is written is longer.
 const LONGEST: usize = 10000;

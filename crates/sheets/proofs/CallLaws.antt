@@ -27,7 +27,7 @@ use Rattle.judge.specs.Message.{messageRules, verdictOf, judgedOf}
 use Rattle.judge.proofs.CallLaws.{sign-is}
 use Rattle.judge.proofs.PartLaws.{settled}
 use Rattle.judge.proofs.RuleLaws.{accepted-rules}
-use Rattle.judge.proofs.Theorems.{frame-clean, judged-by, judged-found}
+use Rattle.judge.proofs.VerdictTheorems.{frame-clean, judged-by, judged-found}
 use Rattle.records.specs.Record.{line}
 use Rattle.sheets.specs.Gather.{typeRecord, sheetOf}
 use Rattle.sheets.specs.Calls.{readRules, SheetTo}

@@ -4,4 +4,4 @@ pub mod ContentLaws
 pub mod FieldLaws
 pub mod ReadLaws
 pub mod CallLaws
-pub mod Theorems
+pub mod ToSheetTheorems

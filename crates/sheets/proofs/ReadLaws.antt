@@ -43,7 +43,7 @@ use Rattle.roles.proofs.PartLaws.{firstPart, cast-none, cast-cons}
 use Rattle.roles.proofs.BreachLaws.{first-clause, same-lines, rule14-fine}
 use Rattle.judge.specs.Message.{verdictOf}
 use Rattle.judge.proofs.RuleLaws.{accepted-rules}
-use Rattle.judge.proofs.Theorems.{frame-clean}
+use Rattle.judge.proofs.VerdictTheorems.{frame-clean}
 use Rattle.records.specs.Record.{Record, line, sheet}
 use Rattle.sheets.specs.Gather.{partFor, codeDigits, toldParts, noteParts, contentParts, recordFor, gather, typeRecord, recordsOf, sheetOf}
 use Rattle.sheets.specs.Steps.{saidBy, sideOf, sideBy, partsBy, cutBy, overBy, toldBy, noteBy, contentBy, recordBy, sheetBy}

@@ -1,5 +1,5 @@
 // A message read into its sheet.
 mod built;
-pub mod calls;
 mod parts;
 mod texts;
+pub mod to_sheet;

@@ -1,5 +1,5 @@
 // Writes the message for the sheet on standard input, or the line of its refusal.
-use answers::calls::message_answer;
+use answers::programs::message_answer;
 use answers::rooms::sheet_room;
 use base::Outcome;
 use libc::STDIN_FILENO;

@@ -1,5 +1,5 @@
 // Writes the sheet for the type and the message on standard input, or the line of the refusal.
-use answers::calls::sheet_answer;
+use answers::programs::sheet_answer;
 use answers::rooms::input_room;
 use base::Outcome;
 use libc::STDIN_FILENO;

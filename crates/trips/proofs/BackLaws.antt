@@ -55,7 +55,7 @@ use Rattle.written.proofs.SpeltLaws.{said-is}
 use Rattle.written.proofs.ReadyLaws.{speaks, Laid, laid, Ready}
 use Rattle.written.proofs.CastLaws.{turned, cast-again, frontOf, nextOf, told-again}
 use Rattle.written.proofs.BuiltLaws.{AllPass, records-pass, built-fields, built-sign}
-use Rattle.written.proofs.Theorems as writer
+use Rattle.written.proofs.ToMessageTheorems as writer
 use Rattle.sheets.specs.Gather.{partFor, codeDigits, toldParts, noteParts, contentParts, gather, typeName, typeRecord, recordsOf, sheetOf}
 use Rattle.sheets.specs.Calls.{readRules, SheetTo}
 

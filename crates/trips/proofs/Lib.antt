@@ -13,5 +13,5 @@ pub mod NamedLaws
 pub mod ShortLaws
 pub mod RightLaws
 pub mod VerdictLaws
-pub mod Theorems
+pub mod AgainTheorems
 pub mod Examples

@@ -23,7 +23,7 @@ use Rattle.details.specs.declared.Place.{Place}
 use Rattle.details.specs.declared.Place.the-variants.{In70}
 use Rattle.details.specs.declared.Size.{Size}
 use Rattle.details.specs.declared.Size.the-variants.{Bytes, Unfit}
-use Rattle.details.proofs.Theorems.{Fitted, fitted}
+use Rattle.details.proofs.DivisionTheorems.{Fitted, fitted}
 use Rattle.writer.specs.Spread.{castParts, code, told, rppLine, notePlace, contentLines}
 use Rattle.writer.specs.Sheet.{isUnfit, crowded}
 use Rattle.written.proofs.SpeltLaws.{said-is, spelt-empty}

@@ -39,7 +39,7 @@ use Rattle.details.specs.declared.Place.{Place}
 use Rattle.details.specs.declared.Place.the-variants.{In70, In72, BehindRpp}
 use Rattle.details.specs.declared.Size.{Size}
 use Rattle.details.specs.declared.Size.the-variants.{Bytes, Unfit}
-use Rattle.details.proofs.Theorems.{less-divided, unfit-none}
+use Rattle.details.proofs.DivisionTheorems.{less-divided, unfit-none}
 use Rattle.writer.specs.Spread.{castParts, coded, code, told, rppLine, notePlace}
 use Rattle.writer.specs.Sheet.{isUnfit, crowded}
 use Rattle.written.proofs.SpeltLaws.{said-is}

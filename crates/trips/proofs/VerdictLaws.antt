@@ -30,7 +30,7 @@ use Rattle.roles.specs.Role.{shapeOf}
 use Rattle.roles.specs.Rule14.{rule14}
 use Rattle.judge.specs.Message.{NoneBroken, verdictOf}
 use Rattle.judge.proofs.RuleLaws.{accepted-rules, rules-accepted}
-use Rattle.judge.proofs.Theorems.{frame-clean}
+use Rattle.judge.proofs.VerdictTheorems.{frame-clean}
 use Rattle.records.specs.Record.{records}
 use Rattle.records.specs.Rule19.{sheetForm, sheetSign}
 use Rattle.written.specs.Sentences.{Every}

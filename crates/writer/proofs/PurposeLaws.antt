@@ -36,7 +36,7 @@ use Rattle.details.specs.declared.Place.{Place}
 use Rattle.details.specs.declared.Place.the-variants.{In70, In72, BehindRpp}
 use Rattle.details.specs.declared.Size.the-variants as size
 use Rattle.details.proofs.PlaceLaws.{bytes-not}
-use Rattle.details.proofs.Theorems.{Fitted, fitted, none-unfit, laid-lines}
+use Rattle.details.proofs.DivisionTheorems.{Fitted, fitted, none-unfit, laid-lines}
 use Rattle.writer.specs.Spread.{coded, code, told}
 use Rattle.writer.specs.Sheet.{stoppedAt, unsaid, isUnfit}
 use Rattle.writer.specs.declared.Step.{Step}

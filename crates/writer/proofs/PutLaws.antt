@@ -48,7 +48,7 @@ use Rattle.details.specs.declared.Place.{Place}
 use Rattle.details.specs.declared.Place.the-variants.{In70}
 use Rattle.details.specs.declared.Size.{Size}
 use Rattle.details.specs.declared.Size.the-variants as size
-use Rattle.details.proofs.Theorems.{fitted}
+use Rattle.details.proofs.DivisionTheorems.{fitted}
 use Rattle.writer.specs.Spread.{saidPart, castParts, lineFor, told, rppLine, notePlace, noteLines, contentLines, fieldFor, spread}
 use Rattle.writer.specs.Sheet.{stoppedAt, unsaid, rule15, isUnfit, crowdedNote, crowded, someCrowded}
 use Rattle.writer.specs.declared.Step.{Step}

@@ -6,9 +6,9 @@ use base::bytes::front;
 use base::bytes::is_same;
 use base::bytes::past;
 use libc::STDOUT_FILENO;
-use sheets::calls::to_sheet;
+use sheets::to_sheet::to_sheet;
 use types::Form;
-use writer::calls::to_message;
+use writer::to_message::to_message;
 
 // The longest room that is lent.
 pub(crate) const ROOM: usize = 16384;

@@ -34,7 +34,7 @@ use Rattle.details.specs.declared.Place.{Place}
 use Rattle.details.specs.declared.Place.the-variants.{In70, In72, BehindRpp}
 use Rattle.details.specs.declared.Size.{Size}
 use Rattle.details.specs.declared.Size.the-variants.{Bytes, Unfit}
-use Rattle.details.proofs.Theorems.{unfit-none, none-unfit}
+use Rattle.details.proofs.DivisionTheorems.{unfit-none, none-unfit}
 use Rattle.writer.specs.Spread.{saidPart, castParts, told}
 use Rattle.writer.specs.Sheet.{stoppedAt, unsaid, rule15, isUnfit, crowded, someCrowded, rule16}
 use Rattle.written.specs.Sentences.{Every, Writable, Unwritable, canWrite, partsSize, StuckPart, WritableRecord, StuckAt, Undivided, NoWay, in70, in72, pastRpp, CrowdedIn}

@@ -6,6 +6,6 @@ pub mod TextLaws
 pub mod OwnLaws
 pub mod MadeLaws
 pub mod ExactLaws
-pub mod Theorems
+pub mod ToMessageTheorems
 pub mod SizeLaws
 pub mod Examples

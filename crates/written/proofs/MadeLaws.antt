@@ -26,7 +26,7 @@ use Rattle.details.specs.declared.Place.{Place}
 use Rattle.details.specs.declared.Place.the-variants.{In70, In72, BehindRpp}
 use Rattle.details.specs.declared.Size.{Size}
 use Rattle.details.specs.declared.Size.the-variants.{Bytes, Unfit}
-use Rattle.details.proofs.Theorems.{Fitted, fitted}
+use Rattle.details.proofs.DivisionTheorems.{Fitted, fitted}
 use Rattle.writer.specs.Spread.{castParts, lineFor, told, rppLine, contentLines, fieldFor, spread}
 use Rattle.writer.specs.Sheet.{isUnfit, crowded, fieldsOf, messageFor, sheetRules}
 use Rattle.written.specs.Sentences.{OneByOne, Line, Told, Content, plain, payer, payee, agent, details, note103, note202, behindRpp, Made}

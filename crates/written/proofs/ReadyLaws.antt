@@ -36,7 +36,7 @@ use Rattle.details.specs.declared.Place.{Place}
 use Rattle.details.specs.declared.Place.the-variants.{In70, In72, BehindRpp}
 use Rattle.details.specs.declared.Size.{Size}
 use Rattle.details.specs.declared.Size.the-variants.{Bytes, Unfit}
-use Rattle.details.proofs.Theorems.{Fitted, fitted}
+use Rattle.details.proofs.DivisionTheorems.{Fitted, fitted}
 use Rattle.writer.specs.Spread.{saidPart, castParts, lineFor, code, told, rppLine, contentLines}
 use Rattle.writer.specs.Sheet.{stoppedAt, unsaid, rule15, isUnfit, crowded, someCrowded, rule16}
 use Rattle.written.proofs.SpeltLaws.{isSaid, said-is, plain-set, spelt-set, spelt-on}

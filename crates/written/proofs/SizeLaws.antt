@@ -46,7 +46,7 @@ use Rattle.writer.proofs.RuleLaws.{sheet-rules}
 use Rattle.written.specs.Sentences as why
 use Rattle.written.specs.Sentences.{partsSize, StuckPart, StuckAt, Own, Reason}
 use Rattle.writer.proofs.PurposeLaws.{lines-few, unfit-lines}
-use Rattle.written.proofs.Theorems.{refused-why, written}
+use Rattle.written.proofs.ToMessageTheorems.{refused-why, written}
 
 -- ---- the lines of parts: no text is written longer than four times its length
 text-size : (s : Bool) (d : List ℕ) → length (textOf (writing s d)) ≤ 4 * length d

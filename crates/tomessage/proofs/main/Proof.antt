@@ -1,7 +1,7 @@
 -- `tomessage::main` is safe: what the call reports lies within its room. Assumes nothing.
 use mathlib.Core.Path.{sym}
 use lib.Seq.{length-take-le}
-use Rattle.answers.proofs.Theorems.{answer-front}
+use Rattle.answers.proofs.AnswerTheorems.{answer-front}
 use borrow.Author.Needs.{needs}
 use Rattle.tomessage.proofs.main.Statement.{statement}
 use Rattle.tomessage.proofs.main.Tie as tie

@@ -1,0 +1,43 @@
+// The content of a place, by itself and as where it stands.
+ghost use mathlib.Core.Path.{_≡_};
+ghost use Rattle.message.specs.Calls.{spanOf, partOf, contentOf, Inside};
+use base::Verdict;
+use judge::verdict::judge;
+use listing::Span;
+use listing::spots::part_of;
+use types::Form;
+
+// Where the content of a place stands.
+pub fn span(form: Form, m: &[u8], place: usize) -> Span
+    ensures { λ r. ⌜ r ≡ spanOf form (now (m .entry)) place ⌝ }
+{
+    let f = judge(form, m);
+    let verdict = f.verdict;
+    let word = f.present;
+    let spots = f.spots;
+    match verdict {
+        Verdict::Broken {
+            number: _,
+            place: _,
+        } => Span::Nothing,
+        Verdict::Fine => part_of(m, &spots, word, place),
+    }
+}
+
+// That part of the message; empty where there is none.
+pub(crate) fn cut(m: &[u8], s: Span) -> &[u8]
+    requires { ⌜ Inside (now m) s ⌝ }
+    ensures { λ r. ⌜ now r ≡ partOf (now (m .entry)) s ⌝ }
+{
+    match s {
+        Span::Part { start, end } => &m[start..end],
+        Span::Nothing => &m[..0],
+    }
+}
+
+// The content of a place as the caller's own part of the message; empty where there is none.
+pub fn content(form: Form, m: &[u8], place: usize) -> &[u8]
+    ensures { λ r. ⌜ now r ≡ contentOf form (now (m .entry)) place ⌝ }
+{
+    cut(m, span(form, m, place))
+}

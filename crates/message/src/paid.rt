@@ -1,0 +1,74 @@
+// The amount and the date of 32A.
+ghost use mathlib.Core.Path.{_≡_};
+ghost use Rattle.base.specs.Quoted.{bytes};
+ghost use Rattle.types.specs.Form.{placesOf};
+ghost use Rattle.types.specs.Walk.{find};
+ghost use Rattle.message.specs.Calls.{amountOf, dayOf, daySplit};
+use super::Amount;
+use super::Day;
+use super::content::cut;
+use base::Verdict;
+use judge::verdict::judge;
+use listing::spots::part_of;
+use types::Form;
+use values::amounts::date_of;
+use values::amounts::kopecks_of;
+
+// The places of 32A.
+const PAID_103: usize = 3;
+
+const PAID_202: usize = 2;
+
+fn paid_place(form: Form) -> usize
+    ensures { λ r. ⌜ r ≡ find (placesOf form) (bytes "32A") ⌝ }
+{
+    match form {
+        Form::Other => 0,
+        Form::Mt103 => PAID_103,
+        Form::Mt202 => PAID_202,
+    }
+}
+
+fn split_day(date: u32) -> Day
+    ensures { λ r. ⌜ r ≡ daySplit date ⌝ }
+{
+    Day::On {
+        year: date / 10000,
+        month: date / 100 % 100,
+        day: date % 100,
+    }
+}
+
+// The kopecks of 32A, or the refusal.
+pub fn kopecks(form: Form, m: &[u8]) -> Amount
+    ensures { λ r. ⌜ r ≡ amountOf form (now (m .entry)) ⌝ }
+{
+    let f = judge(form, m);
+    let verdict = f.verdict;
+    let word = f.present;
+    let spots = f.spots;
+    match verdict {
+        Verdict::Broken { number, place } => Amount::Refused { number, place },
+        Verdict::Fine => {
+            let s = part_of(m, &spots, word, paid_place(form));
+            Amount::Is(kopecks_of(cut(m, s)))
+        }
+    }
+}
+
+// The date of 32A, or the refusal.
+pub fn date(form: Form, m: &[u8]) -> Day
+    ensures { λ r. ⌜ r ≡ dayOf form (now (m .entry)) ⌝ }
+{
+    let f = judge(form, m);
+    let verdict = f.verdict;
+    let word = f.present;
+    let spots = f.spots;
+    match verdict {
+        Verdict::Broken { number, place } => Day::Refused { number, place },
+        Verdict::Fine => {
+            let s = part_of(m, &spots, word, paid_place(form));
+            split_day(date_of(cut(m, s)))
+        }
+    }
+}
