@@ -13,12 +13,8 @@ use lib.Seq.{take-all}
 use Rattle.base.specs.Bytes.{upTo}
 use Rattle.fields.specs.Lines.{linesIn}
 use Rattle.contents.specs.Words.{Text, Line}
-use Rattle.contents.specs.Fields.{IsParty, IsBic, IsPayment, IsRpp, One, Then, Names, Beside, Customer, Payer, BankByBic, BankByName, In72, RppAndDetails}
-use Rattle.contents.specs.Answers.{PaidSaid, RppSaid, BesideSaid, Behind, CustomerSaid, PayerSaid, IsA, BicSaid, NameSaid, RppWith, NoteSaid, isHeld, isBank, isNote, isPaid, isRpp}
-use Rattle.contents.specs.declared.lines.Paid.{Paid}
-use Rattle.contents.specs.declared.lines.Paid.the-variants as paid
-use Rattle.contents.specs.declared.lines.Rpp.{Rpp}
-use Rattle.contents.specs.declared.lines.Rpp.the-variants as rpp
+use Rattle.contents.specs.Fields.{IsParty, IsBic, IsRpp, One, Then, Names, Beside, Customer, Payer, BankByBic, BankByName, In72, RppAndDetails}
+use Rattle.contents.specs.Answers.{BesideSaid, Behind, CustomerSaid, PayerSaid, IsA, BicSaid, NameSaid, RppWith, NoteSaid, isHeld, isBank, isNote}
 use Rattle.contents.specs.declared.lines.Party.{Party}
 use Rattle.contents.specs.declared.lines.Party.the-variants as party
 use Rattle.contents.specs.declared.whole.Held.{Held}
@@ -28,14 +24,6 @@ use Rattle.contents.specs.declared.whole.Bank.the-variants as bank
 use Rattle.contents.specs.declared.whole.Note.{Note}
 use Rattle.contents.specs.declared.whole.Note.the-variants as note
 use Rattle.contents.proofs.FieldLaws.{last-0, on-0}
-
-pub paid-is : (l : Line) (r : Paid) (b : Bool) → b ≡ isPaid r → PaidSaid l r → Says (IsPayment l) b
-paid-is l paid.Wrong b e s = rw e (says-not (λ x. s (x .0) (x .1) (x .2) (x .3) (x .4)))
-paid-is l (paid.Is n d) b e s = rw e (says-so (_, _, _, _, s .0))
-
-pub rpp-is : (l : Line) (r : Rpp) (b : Bool) → b ≡ isRpp r → RppSaid l r → Says (IsRpp l) b
-rpp-is l rpp.Wrong b e s = rw e (says-not (λ x. s (x .0) (x .1) (x .2) (x .3) (x .4) (x .5)))
-rpp-is l (rpp.Is n v) b e s = rw e (says-so (_, _, _, _, _, s .0))
 
 beside-is : (twelve : Bool) (at : ℕ) (ls : List Line) (r : Held) → isHeld r ≡ true → BesideSaid twelve at ls r → Beside twelve ls
 beside-is twelve at ls held.Wrong e s = absurd (false≢true e)

@@ -9,7 +9,7 @@ use Rattle.base.specs.Choice.{all}
 use Rattle.base.specs.Bytes.{byte, digit}
 use Rattle.base.specs.Quoted.{bytes}
 use Rattle.contents.specs.Words.{Text, Line, Digits, Size, join, BeginsWith}
-use Rattle.contents.specs.Lines.{Reference, PartyByBik, PartyByAccount, TaxLine, Payment, RppLine, Way, opening, closing}
+use Rattle.contents.specs.Lines.{Reference, PartyByBik, PartyByAccount, TaxLine, Payment, RppLine, Way, opening, closing, Name}
 use Rattle.contents.specs.Fields.{Is, IsPurpose, IsPayment, IsOwnAccount, IsRpp, In72, RppAndDetails, IsParty, IsBic, BankByBic, BankByName, One, IsAccount, LooksTax, Then, Any, Names, Beside, Customer, Payer}
 use Rattle.contents.specs.declared.whole.Held.{Held}
 use Rattle.contents.specs.declared.whole.Held.the-variants as held
@@ -153,6 +153,11 @@ pub record HasPair (l : Line) : Type 0 where
 abbrev pub IsMarked : Line → Type 0
 IsMarked l = (s : Text) × (l ≡ bytes "//" ++ s) × Size 1 33 s
 
+-- a later line of 72's details, or a name
+abbrev pub Later : Bool → Line → Type 0
+Later true = IsMarked
+Later false = Name
+
 pub record NzpFirst (sign : Bool) (l : Line) : Type 0 where
   pub rest : Text
   pub line : l ≡ bytes "/NZP/" ++ rest
@@ -183,14 +188,6 @@ abbrev pub isNote : Note → Bool
 isNote note.Wrong = false
 isNote note.Plain = true
 isNote (note.Dated n v) = true
-
-abbrev pub isPaid : Paid → Bool
-isPaid paid.Wrong = false
-isPaid (paid.Is n d) = true
-
-abbrev pub isRpp : Rpp → Bool
-isRpp rpp.Wrong = false
-isRpp (rpp.Is n v) = true
 
 -- ---- the contents of one line
 abbrev pub LineOf : Content → Line → Type 0

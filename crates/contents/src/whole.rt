@@ -4,11 +4,9 @@ ghost use Prim.Native.Nat.{_+_, _≤_, _<_};
 ghost use mathlib.Core.List.{[], _∷_};
 ghost use lib.ListN.{length, drop};
 ghost use Rattle.fields.specs.Lines.{linesIn};
-ghost use Rattle.contents.specs.Fields.{One, IsBic, IsAccount, Then, Names, Several, In70, In72, Regulatory, Right};
+ghost use Rattle.contents.specs.Fields.{One, IsBic, IsAccount, Then, Several, In70, In72, Regulatory};
 ghost use Rattle.base.specs.Says.{Says};
-ghost use Rattle.contents.specs.Answers.{VoFirst, BesideSaid, CustomerSaid, PayerSaid, noParty, BicSaid, NameSaid, IsMarked, NzpFirst, textAt, NoteSaid, isHeld, isBank, isNote, isPaid, isRpp, LineOf};
-use super::Content;
-use super::lines::Paid;
+ghost use Rattle.contents.specs.Answers.{VoFirst, BesideSaid, CustomerSaid, PayerSaid, noParty, BicSaid, NameSaid, IsMarked, NzpFirst, textAt, NoteSaid, Later};
 use super::lines::Party;
 use super::lines::Rpp;
 use super::lines::Tax;
@@ -16,17 +14,12 @@ use super::lines::WIDTH;
 use super::lines::is_account;
 use super::lines::is_bic;
 use super::lines::is_name;
-use super::lines::is_own_account;
-use super::lines::is_purpose;
-use super::lines::is_reference;
 use super::lines::looks_tax;
 use super::lines::party_line;
-use super::lines::payment;
 use super::lines::rpp_line;
 use super::lines::tax_line;
 use super::pieces::are_digits;
 use super::pieces::has_word;
-use super::pieces::is_just;
 use base::marks::mark_at;
 use fields::lines::next_line;
 
@@ -85,10 +78,32 @@ pub enum Bank {
     Led(Party),
 }
 
-// Whether the lines from there on are names, at least one and no more than that many.
-fn are_names(c: &[u8], from: usize, most: usize) -> bool
+fn is_marked(l: &[u8]) -> bool
+    ensures { λ r. ⌜ Says (IsMarked (now (l .entry))) r ⌝ }
+{
+    if l.len() < SHORTEST_MARKED {
+        return false;
+    }
+    if WIDTH < l.len() {
+        return false;
+    }
+    has_word(l, 0, b"//")
+}
+
+// Whether a line is a name; or marked, a later line of 72's details.
+fn is_later(marked: bool, l: &[u8]) -> bool
+    ensures { λ r. ⌜ Says (Later marked (now (l .entry))) r ⌝ }
+{
+    if marked {
+        return is_marked(l);
+    }
+    is_name(l)
+}
+
+// Whether the lines from there on are such lines, at least one and no more than that many.
+fn are_lines(marked: bool, c: &[u8], from: usize, most: usize) -> bool
     requires { ⌜ from ≤ length (now c) ⌝ }
-    ensures { λ r. ⌜ Says (Names most (linesIn (drop from (now (c .entry))))) r ⌝ }
+    ensures { λ r. ⌜ Says (Several (Later marked) most (linesIn (drop from (now (c .entry))))) r ⌝ }
 {
     let mut at = from;
     let mut left = most;
@@ -97,7 +112,7 @@ fn are_names(c: &[u8], from: usize, most: usize) -> bool
             return false;
         }
         let e = mark_at(b'\r', c, at);
-        if !is_name(&c[at..e]) {
+        if !is_later(marked, &c[at..e]) {
             return false;
         }
         if c.len() <= e {
@@ -115,7 +130,7 @@ fn beside(twelve: bool, c: &[u8], at: usize) -> Held
 {
     let e = mark_at(b'\r', c, at);
     if !looks_tax(&c[at..e]) {
-        if are_names(c, at, BESIDE) {
+        if are_lines(false, c, at, BESIDE) {
             return Held::Plain;
         }
         return Held::Wrong;
@@ -126,7 +141,7 @@ fn beside(twelve: bool, c: &[u8], at: usize) -> Held
     if c.len() <= e {
         return Held::Wrong;
     }
-    if are_names(c, next_line(e, c.len()), BEHIND_TAX) {
+    if are_lines(false, c, next_line(e, c.len()), BEHIND_TAX) {
         return Held::Taxed(at, inn, kpp);
     }
     Held::Wrong
@@ -199,7 +214,7 @@ pub fn details(sign: bool, c: &[u8]) -> bool
         return false;
     }
     if e < c.len() {
-        return are_names(c, next_line(e, c.len()), BEHIND_CODE);
+        return are_lines(false, c, next_line(e, c.len()), BEHIND_CODE);
     }
     if sign {
         return SIGNED_CODE < e;
@@ -262,7 +277,7 @@ pub fn bank_by_name(c: &[u8]) -> Bank
     if c.len() <= e {
         return Bank::Wrong;
     }
-    if are_names(c, next_line(e, c.len()), BANK_NAMES) {
+    if are_lines(false, c, next_line(e, c.len()), BANK_NAMES) {
         return Bank::Led(p);
     }
     Bank::Wrong
@@ -292,7 +307,7 @@ pub fn regulatory(c: &[u8]) -> bool
     if c[0] != b'/' {
         return false;
     }
-    are_names(c, 0, LINES_77B)
+    are_lines(false, c, 0, LINES_77B)
 }
 
 // Whether a content is one line.
@@ -300,41 +315,6 @@ pub fn is_one_line(c: &[u8]) -> bool
     ensures { λ r. ⌜ Says (linesIn (now (c .entry)) ≡ now (c .entry) ∷ []) r ⌝ }
 {
     c.len() <= mark_at(b'\r', c, 0)
-}
-
-fn is_marked(l: &[u8]) -> bool
-    ensures { λ r. ⌜ Says (IsMarked (now (l .entry))) r ⌝ }
-{
-    if l.len() < SHORTEST_MARKED {
-        return false;
-    }
-    if WIDTH < l.len() {
-        return false;
-    }
-    has_word(l, 0, b"//")
-}
-
-// Whether the lines from there on are later lines of 72's details, at least one and no more than that many.
-fn are_marked(c: &[u8], from: usize, most: usize) -> bool
-    requires { ⌜ from ≤ length (now c) ⌝ }
-    ensures { λ r. ⌜ Says (Several IsMarked most (linesIn (drop from (now (c .entry))))) r ⌝ }
-{
-    let mut at = from;
-    let mut left = most;
-    loop {
-        if left == 0 {
-            return false;
-        }
-        let e = mark_at(b'\r', c, at);
-        if !is_marked(&c[at..e]) {
-            return false;
-        }
-        if c.len() <= e {
-            return true;
-        }
-        left -= 1;
-        at = next_line(e, c.len());
-    }
 }
 
 // Whether a line begins with /NZP/ and the VO code, within its room.
@@ -372,7 +352,7 @@ fn details_72(sign: bool, c: &[u8], at: usize, most: usize) -> bool
         return false;
     }
     if e < c.len() {
-        return are_marked(c, next_line(e, c.len()), most - 1);
+        return are_lines(true, c, next_line(e, c.len()), most - 1);
     }
     has_text(sign, e - at)
 }
@@ -405,114 +385,5 @@ pub fn rpp_and_details(sign: bool, c: &[u8]) -> Note
             }
             Note::Wrong
         }
-    }
-}
-
-fn is_held(h: Held) -> bool
-    ensures { λ r. ⌜ r ≡ isHeld h ⌝ }
-{
-    match h {
-        Held::Wrong => false,
-        Held::Plain => true,
-        Held::Taxed(_, _, _) => true,
-    }
-}
-
-fn is_bank(b: Bank) -> bool
-    ensures { λ r. ⌜ r ≡ isBank b ⌝ }
-{
-    match b {
-        Bank::Wrong => false,
-        Bank::Alone => true,
-        Bank::Led(_) => true,
-    }
-}
-
-fn is_note(n: Note) -> bool
-    ensures { λ r. ⌜ r ≡ isNote n ⌝ }
-{
-    match n {
-        Note::Wrong => false,
-        Note::Plain => true,
-        Note::Dated(_, _) => true,
-    }
-}
-
-fn is_paid(p: Paid) -> bool
-    ensures { λ r. ⌜ r ≡ isPaid p ⌝ }
-{
-    match p {
-        Paid::Wrong => false,
-        Paid::Is(_, _) => true,
-    }
-}
-
-fn is_rpp(p: Rpp) -> bool
-    ensures { λ r. ⌜ r ≡ isRpp p ⌝ }
-{
-    match p {
-        Rpp::Wrong => false,
-        Rpp::Is(_, _) => true,
-    }
-}
-
-// Whether one line is as such a content asks; false for a content of several lines.
-fn is_line(content: Content, l: &[u8]) -> bool
-    ensures { λ r. ⌜ Says (LineOf content (now (l .entry))) r ⌝ }
-{
-    match content {
-        Content::Reference => is_reference(l),
-        Content::Related => is_just(l, b"NONREF"),
-        Content::Operation => is_just(l, b"CRED"),
-        Content::Purpose => is_purpose(l),
-        Content::Payment => is_paid(payment(l)),
-        Content::OwnAccount => is_own_account(l),
-        Content::Charges => is_just(l, b"OUR"),
-        Content::Document => is_rpp(rpp_line(l)),
-        Content::Unknown => false,
-        Content::Payer => false,
-        Content::BankByBic => false,
-        Content::BankByName => false,
-        Content::AccountAndBic => false,
-        Content::BeneficiaryBank => false,
-        Content::Beneficiary => false,
-        Content::Details => false,
-        Content::DocumentAndDetails => false,
-        Content::Regulatory => false,
-    }
-}
-
-fn is_one(content: Content, c: &[u8]) -> bool
-    ensures { λ r. ⌜ Says (One (LineOf content) (linesIn (now (c .entry)))) r ⌝ }
-{
-    if !is_one_line(c) {
-        return false;
-    }
-    is_line(content, c)
-}
-
-// 8: whether a content is right.
-pub fn is_right(content: Content, sign: bool, c: &[u8]) -> bool
-    ensures { λ r. ⌜ Says (Right content sign (linesIn (now (c .entry)))) r ⌝ }
-{
-    match content {
-        Content::Unknown => false,
-        Content::Payer => is_held(payer(c)),
-        Content::BankByBic => is_bank(bank_by_bic(c)),
-        Content::BankByName => is_bank(bank_by_name(c)),
-        Content::AccountAndBic => account_and_bic(c),
-        Content::BeneficiaryBank => is_held(customer(false, c)),
-        Content::Beneficiary => is_held(customer(true, c)),
-        Content::Details => details(sign, c),
-        Content::DocumentAndDetails => is_note(rpp_and_details(sign, c)),
-        Content::Regulatory => regulatory(c),
-        Content::Reference => is_one(content, c),
-        Content::Related => is_one(content, c),
-        Content::Operation => is_one(content, c),
-        Content::Purpose => is_one(content, c),
-        Content::Payment => is_one(content, c),
-        Content::OwnAccount => is_one(content, c),
-        Content::Charges => is_one(content, c),
-        Content::Document => is_one(content, c),
     }
 }

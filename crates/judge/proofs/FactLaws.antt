@@ -120,12 +120,6 @@ unmarked n h26 h56a h56d h57a h57d h77 f o =
     (no-mark (f .purpose) o (other n (pack (bytes "26T")) h26)) (no-mark (f .budget) o (other n (pack (bytes "77B")) h77))
 
 -- where nothing is found
-pub found-nothing : (x : Finds) → x .day ≡ 0 → x .currency ≡ 0 → x .party ≡ 0 → not (x .kpp) ≡ true → x ≡ finds 0 0 0 false
-found-nothing x d c p k = go
-  where
-    go : finds (x .day) (x .currency) (x .party) (x .kpp) ≡ finds 0 0 0 false
-    go = rw (d, c, p, not-true (x .kpp) k) refl
-
 pub nothing-noted : (f : Facts) (s : ℕ) (t : List ℕ) {x : Finds} → x ≡ finds 0 0 0 false → f ≡ notedBy f s t x
 unfolding notedBy within
 nothing-noted f s t e = go ∙ ap (notedBy f s t) (sym e)

@@ -30,9 +30,9 @@ use Rattle.contents.proofs.FieldTests.{right-says}
 use Rattle.values.specs.declared.Finds.{Finds}
 use Rattle.values.specs.Values.{Kind, Value, valuesOf}
 use Rattle.values.specs.Judged.{has, noDay, foreign, apart, hasKpp}
-use Rattle.values.specs.Answers.{faultOf, Finding, FoundIn}
+use Rattle.values.specs.Answers.{faultOf, nothing, Finding, FoundIn}
 use Rattle.values.specs.declared.Found.{Found}
-use Rattle.values.specs.declared.Found.the-variants.{Wrong, Has}
+use Rattle.values.specs.declared.Found.the-variants.{Wrong, Plain, Has}
 use Rattle.values.specs.Steps.{finds}
 use Rattle.roles.specs.declared.Spot.{Spot}
 use Rattle.roles.specs.declared.Spot.the-variants.{Nowhere, At}
@@ -51,8 +51,11 @@ use Rattle.judge.proofs.PartLaws.{fieldOf, at-field, next-field}
 pub none-found : (c : Content) (sign : Bool) (ls : List (List ℕ)) {r : Found} → FoundIn c sign ls r → r ≡ Wrong → Not (Right c sign ls)
 none-found c sign ls f e = subst (FoundIn c sign ls) e f
 
+pub plain-found : (c : Content) (sign : Bool) (ls : List (List ℕ)) {r : Found} → FoundIn c sign ls r → r ≡ Plain → Right c sign ls × Finding c ls nothing
+plain-found c sign ls f e = subst (FoundIn c sign ls) e f
+
 pub some-found : (c : Content) (sign : Bool) (ls : List (List ℕ)) {r : Found} {x : Finds} → FoundIn c sign ls r → r ≡ Has x → Right c sign ls × Finding c ls x
-some-found c sign ls f e = subst (FoundIn c sign ls) e f
+some-found c sign ls f e = let w = subst (FoundIn c sign ls) e f in (w .0, w .1)
 
 module _ {m spots : List ℕ} {k : ℕ} {p : Part} (h : Here m spots k p) where
   abbrev content : List ℕ

@@ -6,7 +6,6 @@ ghost use Prim.Native.Nat.{_+_, _≤_};
 ghost use lib.ListN.{length};
 ghost use Rattle.fields.specs.Field.{fields};
 ghost use Rattle.fields.specs.Shapes.{unpack};
-ghost use Rattle.values.specs.Steps.{finds};
 ghost use Rattle.judge.specs.Parts.{Settled};
 ghost use Rattle.judge.specs.Facts.{orElse, within, marked, nothingYet, markedBy, notedBy, kppAt, Unmarked, ReadOf};
 use super::parts::field_at;
@@ -136,22 +135,6 @@ fn mark(f: Facts, o: usize, tag: u32) -> Facts
     }
 }
 
-// Nothing is found in most contents.
-fn is_nothing(x: Finds) -> bool
-    ensures { λ r. ⌜ (r ≡ true → x ≡ finds 0 0 0 false) ⌝ }
-{
-    if x.day != 0 {
-        return false;
-    }
-    if x.currency != 0 {
-        return false;
-    }
-    if x.party != 0 {
-        return false;
-    }
-    !x.kpp
-}
-
 // A KPP, in a field with the tag that is wanted.
 fn is_kpp(kpp: bool, tag: u32, want: u32) -> bool
     ensures { λ r. ⌜ r ≡ kppAt kpp (unpack tag) (unpack want) ⌝ }
@@ -167,9 +150,6 @@ fn note(f: Facts, s: usize, tag: u32, x: Finds) -> Facts
     requires { ⌜ (s + x .day ≤ 100000) × (s + x .currency ≤ 100000) × (s + x .party ≤ 100000) ⌝ }
     ensures { λ r. ⌜ r ≡ notedBy f s (unpack tag) x ⌝ }
 {
-    if is_nothing(x) {
-        return f;
-    }
     Facts {
         day: fault_of(f.day, s, x.day),
         currency: fault_of(f.currency, s, x.currency),
@@ -194,10 +174,12 @@ pub(crate) fn read_fields(form: Form, sign: bool, m: &[u8], spots: &[u32; SPOTS]
         let tag = p.tag;
         let start = p.start;
         let end = p.end;
-        let Found::Has(x) = found_in(held_by(form, tag), sign, &m[start..end]) else {
-            return Read::Wrong(start);
-        };
-        f = note(mark(f, p.colon, tag), start, tag, x);
+        let g = mark(f, p.colon, tag);
+        match found_in(held_by(form, tag), sign, &m[start..end]) {
+            Found::Wrong => return Read::Wrong(start),
+            Found::Plain => f = g,
+            Found::Has(x) => f = note(g, start, tag, x),
+        }
         k += 1;
     }
     Read::Right(f)

@@ -1,19 +1,21 @@
 -- What is found in a content, from what its reader answered: the parts that it hands on are the grammar's (C32A, Crpp, Cparty, Ctax, N9, N10, N12,
 -- N13). Assumes nothing.
 use Prim.Native.Nat.{ℕ, suc, _+_, _-_}
-use mathlib.Core.Path.{_≡_, refl, sym, ap, ap₂, _∙_}
-use mathlib.Core.Bool.{Bool, true, false, not, or-false}
+use mathlib.Core.Path.{_≡_, refl, sym, ap, ap₂, _∙_, subst}
+use mathlib.Core.Bool.{Bool, true, false, not, or-false, false≢true, _&&_}
 use mathlib.Core.List.{List, [], _∷_}
 use mathlib.Core.Logic.{⊎-elim}
 use native.Mathlib.Omega.{arith}
 use lib.Dec.{eqb}
 use lib.ListN.{length}
-use borrow.Author.Tests.{eq-eqb, ne-eqb}
+use borrow.Author.Tests.{eq-eqb, ne-eqb, eqb-true}
+use Rattle.fields.specs.Lines.{linesIn}
+use Rattle.base.proofs.Bools.{left, right, isnt}
 use Rattle.base.specs.Choice.{pick}
 use Rattle.base.specs.Bytes.{begins, empty, same}
 use Rattle.base.specs.Quoted.{bytes}
-use Rattle.base.specs.Says.{Says}
-use Rattle.base.proofs.SaysLaws.{says-not, says-same}
+use Rattle.base.specs.Says.{Says, Not}
+use Rattle.base.proofs.SaysLaws.{says-not, says-same, says-so}
 use Rattle.fields.specs.Places.{sizeOf}
 use Rattle.contents.specs.declared.Content.{Content}
 use Rattle.contents.specs.declared.Content.the-variants as holds
@@ -23,20 +25,20 @@ use Rattle.contents.specs.declared.whole.Held.the-variants as held
 use Rattle.contents.specs.declared.whole.Bank.{Bank}
 use Rattle.contents.specs.declared.whole.Bank.the-variants as bank
 use Rattle.contents.specs.Words.{Text, Line}
-use Rattle.contents.specs.Fields.{Then, Any, In72, Right}
+use Rattle.contents.specs.Fields.{Then, Any, In72, Right, One}
 use Rattle.contents.specs.Parts.{paidDate, paidCurrency}
-use Rattle.contents.specs.Answers.{cut, RppWith, BesideSaid, Behind, CustomerSaid, Bare, PayerSaid, IsA, BicSaid, NameSaid, isHeld, isBank}
+use Rattle.contents.specs.Answers.{cut, RppWith, BesideSaid, Behind, CustomerSaid, Bare, PayerSaid, IsA, BicSaid, NameSaid, isHeld, isBank, LineOf}
 use Rattle.contents.proofs.LineTests.{begins-says}
-use Rattle.contents.proofs.RightLaws.{customer-is, payer-is, bic-is, name-is}
+use Rattle.contents.proofs.RightLaws.{customer-is, payer-is, bic-is, name-is, not-one}
 use Rattle.values.specs.Day.{realDay}
 use Rattle.values.specs.Values as kinds
 use Rattle.values.specs.Values.{Kind, date, tax, Value, at, payment, rppDates, parties, ofFirst, taxes, customerTaxes, payerTaxes, noteDates, valuesOf}
 use Rattle.values.specs.Judged.{noDay, foreign, apart, hasKpp, has}
-use Rattle.values.specs.Answers.{faultOf, Finding, FoundIn}
-use Rattle.values.specs.Steps.{finds, heldFound, bankFound, LedBy}
+use Rattle.values.specs.Answers.{faultOf, Finding, FoundIn, nothing}
+use Rattle.values.specs.Steps.{finds, heldFound, bankFound, LedBy, isNothing, madeOf, OneLine, NoValues}
 use Rattle.values.specs.declared.Finds.{Finds}
 use Rattle.values.specs.declared.Found.{Found}
-use Rattle.values.specs.declared.Found.the-variants.{Wrong, Has}
+use Rattle.values.specs.declared.Found.the-variants.{Wrong, Has, Plain}
 use Rattle.values.proofs.ValueLaws.{Every, every-first, every-rpp, every-party}
 use Rattle.values.proofs.StepLaws.{has-none, fault-none}
 use Rattle.values.proofs.FrontLaws.{swap}
@@ -46,27 +48,77 @@ use Rattle.values.proofs.GrammarLaws.{note-values, nzp-values, bic-valu
 finds-same : (f g : Finds) → f .day ≡ g .day → f .currency ≡ g .currency → f .party ≡ g .party → f .kpp ≡ g .kpp → f ≡ g
 finds-same f g a b c d = ap₂ (λ (x y : ℕ). finds x y (f .party) (f .kpp)) a b ∙ ap₂ (λ (x : ℕ) (y : Bool). finds (g .day) (g .currency) x y) c d
 
+same-finds : (content : Content) (ls : List Line) (f g : Finds) → Finding content ls f → Finding content ls g → f ≡ g
+same-finds content ls f g x y =
+    finds-same f g (x .day-is [] ∙ sym (y .day-is [])) (x .currency-is [] ∙ sym (y .currency-is [])) (x .party-is [] ∙ sym (y .party-is [])) (x .kpp-is [] ∙ sym (y .kpp-is []))
+
 pub found-once : (content : Content) (sign : Bool) (ls : List Line) (r q : Found) → FoundIn content sign ls r → FoundIn content sign ls q → r ≡ q
 found-once content sign ls Wrong Wrong a b = refl
+found-once content sign ls Wrong Plain a b = absurd (a (b .0))
 found-once content sign ls Wrong (Has g) a b = absurd (a (b .0))
+found-once content sign ls Plain Wrong a b = absurd (b (a .0))
+found-once content sign ls Plain Plain a b = refl
+found-once content sign ls Plain (Has g) a b = absurd (b .2 (same-finds content ls g nothing (b .1) (a .1)))
 found-once content sign ls (Has f) Wrong a b = absurd (b (a .0))
-found-once content sign ls (Has f) (Has g) a b =
-    let x = a .1 in
-    let y = b .1 in
-    ap Has (finds-same f g (x .day-is [] ∙ sym (y .day-is [])) (x .currency-is [] ∙ sym (y .currency-is [])) (x .party-is [] ∙ sym (y .party-is [])) (x .kpp-is [] ∙ sym (y .kpp-is [])))
+found-once content sign ls (Has f) Plain a b = absurd (a .2 (same-finds content ls f nothing (a .1) (b .1)))
+found-once content sign ls (Has f) (Has g) a b = ap Has (same-finds content ls f g (a .1) (b .1))
 
 -- ---- from whether the content is right, and what is found where it is
 abbrev isHas : Found → Bool
 isHas Wrong = false
+isHas Plain = true
 isHas (Has f) = true
 
 abbrev Good : Content → List Line → Found → Type 0
 Good content ls Wrong = Unit {0}
-Good content ls (Has f) = Finding content ls f
+Good content ls Plain = Finding content ls nothing
+Good content ls (Has f) = Finding content ls f × Not (f ≡ nothing)
 
 found-by : (content : Content) (sign : Bool) (ls : List Line) (r : Found) → Says (Right content sign ls) (isHas r) → Good content ls r → FoundIn content sign ls r
 found-by content sign ls Wrong s g = s .not-so refl
-found-by content sign ls (Has f) s g = (s .so refl, g)
+found-by content sign ls Plain s g = (s .so refl, g)
+found-by content sign ls (Has f) s g = (s .so refl, g .0, g .1)
+
+-- what is made of the four
+nothing-is : (x : Finds) → isNothing x ≡ true → x ≡ nothing
+nothing-is x e =
+    let p = right (eqb (x .day) 0) _ e in
+    let q = right (eqb (x .currency) 0) _ p in
+    finds-same x nothing (eqb-true (x .day) 0 (left (eqb (x .day) 0) _ e)) (eqb-true (x .currency) 0 (left (eqb (x .currency) 0) _ p)) (eqb-true (x .party) 0 (left (eqb (x .party) 0) _ q))
+    (isnt (x .kpp) (right (eqb (x .party) 0) _ q))
+
+module _ (x : Finds) where
+  pub some-day : (x .day ≡ 0 → ⊥) → isNothing x ≡ false
+  some-day h = ap (λ (b : Bool). b && (eqb (x .currency) 0 && (eqb (x .party) 0 && not (x .kpp)))) (ne-eqb (x .day) 0 h)
+
+  module _ (d : x .day ≡ 0) where
+    pub some-currency : (x .currency ≡ 0 → ⊥) → isNothing x ≡ false
+    some-currency h = ap₂ (λ (a b : Bool). a && (b && (eqb (x .party) 0 && not (x .kpp)))) (eq-eqb (x .day) 0 d) (ne-eqb (x .currency) 0 h)
+
+    module _ (c : x .currency ≡ 0) where
+      pub some-party : (x .party ≡ 0 → ⊥) → isNothing x ≡ false
+      some-party h = ap₂ (λ (a b : Bool). a && (b && (eqb (x .party) 0 && not (x .kpp)))) (eq-eqb (x .day) 0 d) (eq-eqb (x .currency) 0 c) ∙ ap (λ (b : Bool). b && not (x .kpp)) (ne-eqb (x .party) 0 h)
+
+      pub some-kpp : x .party ≡ 0 → isNothing x ≡ not (x .kpp)
+      some-kpp p = ap₂ (λ (a b : Bool). a && (b && (eqb (x .party) 0 && not (x .kpp)))) (eq-eqb (x .day) 0 d) (eq-eqb (x .currency) 0 c) ∙ ap (λ (b : Bool). b && not (x .kpp)) (eq-eqb (x .party) 0 p)
+
+has-made : (x : Finds) → isHas (madeOf x) ≡ true
+has-made x = go (isNothing x)
+  where
+    go : (b : Bool) → isHas (pick b Plain (Has x)) ≡ true
+    go true = refl
+    go false = refl
+
+good-made : (content : Content) (ls : List Line) (x : Finds) → Finding content ls x → Good content ls (madeOf x)
+good-made content ls x w = go (isNothing x) refl
+  where
+    go : (b : Bool) → isNothing x ≡ b → Good content ls (pick b Plain (Has x))
+    go true e = subst (Finding content ls) (nothing-is x e) w
+    go false e = (w, λ q. false≢true (sym e ∙ ap isNothing q))
+
+pub made-found : (content : Content) (sign : Bool) (ls : List Line) {x : Finds} {r : Found} → r ≡ madeOf x → Right content sign ls → Finding content ls x → FoundIn content sign ls r
+made-found content sign ls {x} {r} e y w =
+    subst (FoundIn content sign ls) (sym e) (found-by content sign ls (madeOf x) (subst (Says (Right content sign ls)) (sym (has-made x)) (says-so y)) (good-made content ls x w))
 
 module _ (content : Content) (ls : List Line) where
   -- by the content's values, whatever the tag
@@ -130,7 +182,7 @@ module _ (content : Content) (ls : List Line) where
   beside-good [] n o twelve e (held.Taxed p inn kpp) b = absurd (b .1)
   beside-good (m ∷ ms) n o twelve e (held.Taxed p inn kpp) b =
       let w = b .1 .0 in
-      finding-tax content ls n (cut 3 inn m) (cut (4 + (inn + 3)) kpp m) (λ t. e t ∙ tax-values t n m ms (w .0)) (kpp-size (cut (4 + (inn + 3)) kpp m) kpp (w .2))
+      good-made content ls _ (finding-tax content ls n (cut 3 inn m) (cut (4 + (inn + 3)) kpp m) (λ t. e t ∙ tax-values t n m ms (w .0)) (kpp-size (cut (4 + (inn + 3)) kpp m) kpp (w .2)))
 
 behind-good : (content : Content) (ls : List Line) (twelve : Bool) → ((t : Text) → valuesOf t content ls ≡ customerTaxes t ls) → (h : Held) → Behind twelve ls h → Good content ls (heldFound h)
 unfolding customerTaxes
@@ -140,7 +192,7 @@ behind-good content (l ∷ ls) twelve e h b = beside-good content (l ∷ ls) ls 
 held-has : (h : Held) → isHas (heldFound h) ≡ isHeld h
 held-has held.Wrong = refl
 held-has held.Plain = refl
-held-has (held.Taxed p inn kpp) = refl
+held-has (held.Taxed p inn kpp) = has-made (finds 0 0 0 (not (eqb kpp 0)))
 
 customer-good : (content : Content) (ls : List Line) (twelve : Bool) → ((t : Text) → valuesOf t content ls ≡ customerTaxes t ls) → (h : Held) → CustomerSaid twelve ls h → Good content ls (heldFound h)
 customer-good content ls twelve e held.Wrong s = tt
@@ -196,7 +248,7 @@ name-led ls (bank.Led p) s = led _ p ls s
 bank-has : (ls : List Line) (b : Bank) → isHas (bankFound ls b) ≡ isBank b
 bank-has ls bank.Wrong = refl
 bank-has ls bank.Alone = refl
-bank-has ls (bank.Led p) = refl
+bank-has ls (bank.Led p) = has-made (finds 0 0 (faultOf apart (ofFirst parties ls)) false)
 
 bic-good : (ls : List Line) (b : Bank) → BicSaid ls b → Good holds.BankByBic ls (bankFound ls b)
 unfolding valuesOf
@@ -204,13 +256,13 @@ bic-good ls bank.Wrong s = tt
 bic-good [] bank.Alone s = absurd s
 bic-good (l ∷ []) bank.Alone s = finding-none holds.BankByBic (l ∷ []) (λ t. bic-values s)
 bic-good (l ∷ k ∷ ls) bank.Alone s = absurd s
-bic-good ls (bank.Led p) s = finding-party holds.BankByBic ls (λ t. refl)
+bic-good ls (bank.Led p) s = good-made holds.BankByBic ls _ (finding-party holds.BankByBic ls (λ t. refl))
 
 name-good : (ls : List Line) (b : Bank) → NameSaid ls b → Good holds.BankByName ls (bankFound ls b)
 unfolding valuesOf
 name-good ls bank.Wrong s = tt
 name-good ls bank.Alone s = absurd s
-name-good ls (bank.Led p) s = finding-party holds.BankByName ls (λ t. refl)
+name-good ls (bank.Led p) s = good-made holds.BankByName ls _ (finding-party holds.BankByName ls (λ t. refl))
 
 module _ (sign : Bool) (ls : List Line) (b : Bank) where
   pub bank-by-bic : BicSaid ls b → FoundIn holds.BankByBic sign ls (bankFound ls b)
@@ -218,6 +270,21 @@ module _ (sign : Bool) (ls : List Line) (b : Bank) where
 
   pub bank-by-name : NameSaid ls b → FoundIn holds.BankByName sign ls (bankFound ls b)
   bank-by-name s = found-by holds.BankByName sign ls (bankFound ls b) (name-is ls b (isHas (bankFound ls b)) (bank-has ls b) s) (name-good ls b s)
+
+-- ---- a content of one line
+module _ (content : Content) (o : OneLine content) (sign : Bool) (s : Text) where
+  pub is-line : linesIn s ≡ s ∷ [] → LineOf content s → Right content sign (linesIn s)
+  is-line e p = o sign (linesIn s) .1 (rw e p)
+
+  pub not-line : linesIn s ≡ s ∷ [] → Not (LineOf content s) → Not (Right content sign (linesIn s))
+  not-line e n x = n (rw e at (o sign (linesIn s) .0 x))
+
+-- by the content's name
+pub line-asks : (k : Content) (s : Text) {content : Content} {r : Bool} → content ≡ k → NoValues k → OneLine k → Says (LineOf k s) r → NoValues content × OneLine content × Says (LineOf content s) r
+line-asks k s {r = r} e n o h = subst (λ (x : Content). NoValues x × OneLine x × Says (LineOf x s) r) (sym e) (n, o, h)
+
+pub plain-asks : (k : Content) (sign : Bool) (ls : List Line) {content : Content} {r : Bool} → content ≡ k → NoValues k → Says (Right k sign ls) r → NoValues content × Says (Right content sign ls) r
+plain-asks k sign ls {r = r} e n h = subst (λ (x : Content). NoValues x × Says (Right x sign ls) r) (sym e) (n, h)
 
 -- ---- 72 of a 202
 pub note-dated : (sign : Bool) (n value : ℕ) (ls : List Line) → Then (RppWith n value) (In72 sign 5) ls → Then (RppWith n value) Any ls × (ofFirst noteDates ls ≡ ofFirst rppDates ls)

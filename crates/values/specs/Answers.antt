@@ -1,7 +1,7 @@
 -- What the functions answer that look at the content of one field (K3). Assumes nothing.
 use Prim.Native.Nat.{ℕ, zero, suc, _+_}
 use mathlib.Core.Path.{_≡_}
-use mathlib.Core.Bool.{Bool}
+use mathlib.Core.Bool.{Bool, false}
 use mathlib.Core.List.{List, [], _∷_}
 use Rattle.base.specs.Choice.{pick}
 use Rattle.base.specs.Says.{Not}
@@ -18,7 +18,7 @@ use Rattle.values.specs.Values.{Kind, Value, placeOf, kindOf, valuesOf}
 use Rattle.values.specs.Judged.{noDay, foreign, apart, hasKpp, has}
 use Rattle.values.specs.declared.Finds.{Finds}
 use Rattle.values.specs.declared.Found.{Found}
-use Rattle.values.specs.declared.Found.the-variants.{Wrong, Has}
+use Rattle.values.specs.declared.Found.the-variants.{Wrong, Plain, Has}
 
 -- ---- of a content of 32A; 0 for any other
 -- its date as one number
@@ -40,6 +40,10 @@ abbrev pub answered : ℕ → ℕ → ℕ → Verdict
 answered number s zero = Fine
 answered number s (suc k) = Broken number (s + k)
 
+-- nothing
+abbrev pub nothing : Finds
+nothing = record { day = 0; currency = 0; party = 0; kpp = false }
+
 -- what 9, 10, 12 and 13 ask of a right content, whatever its tag
 pub record Finding (content : Content) (ls : List Line) (f : Finds) : Type 0 where
   pub day-is : (t : Text) → f .day ≡ faultOf noDay (valuesOf t content ls)
@@ -49,4 +53,5 @@ pub record Finding (content : Content) (ls : List Line) (f : Finds) : Type 0 whe
 
 abbrev pub FoundIn : Content → Bool → List Line → Found → Type 0
 FoundIn content sign ls Wrong = Not (Right content sign ls)
-FoundIn content sign ls (Has f) = Right content sign ls × Finding content ls f
+FoundIn content sign ls Plain = Right content sign ls × Finding content ls nothing
+FoundIn content sign ls (Has f) = Right content sign ls × Finding content ls f × Not (f ≡ nothing)

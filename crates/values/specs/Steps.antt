@@ -2,17 +2,18 @@
 -- Ctax). Assumes nothing.
 use Prim.Native.Nat.{ℕ, _<_}
 use mathlib.Core.Path.{_≡_}
-use mathlib.Core.Bool.{Bool, false, not}
+use mathlib.Core.Bool.{Bool, false, not, _&&_}
 use mathlib.Core.List.{List, []}
 use lib.Dec.{eqb}
+use Rattle.base.specs.Choice.{pick}
 use Rattle.contents.specs.declared.Content.{Content}
 use Rattle.contents.specs.declared.whole.Held.{Held}
 use Rattle.contents.specs.declared.whole.Held.the-variants as held
 use Rattle.contents.specs.declared.whole.Bank.{Bank}
 use Rattle.contents.specs.declared.whole.Bank.the-variants as bank
 use Rattle.contents.specs.Words.{Text, Line}
-use Rattle.contents.specs.Fields.{Then, Any}
-use Rattle.contents.specs.Answers.{IsA}
+use Rattle.contents.specs.Fields.{One, Then, Any, Right}
+use Rattle.contents.specs.Answers.{IsA, LineOf}
 use Rattle.values.specs.Day.{year, month, day}
 use Rattle.values.specs.Values.{ofFirst, parties, valuesOf}
 use Rattle.values.specs.Judged.{apart}
@@ -20,7 +21,7 @@ use Rattle.values.specs.Answers.{faultOf}
 use Rattle.values.specs.declared.days.Day.{Day}
 use Rattle.values.specs.declared.Finds.{Finds}
 use Rattle.values.specs.declared.Found.{Found}
-use Rattle.values.specs.declared.Found.the-variants.{Wrong, Has}
+use Rattle.values.specs.declared.Found.the-variants.{Wrong, Plain, Has}
 
 -- ---- a date of six digits: its year, its month and its day, none of them large
 pub record DayRead (s : Text) (d : Day) : Type 0 where
@@ -35,21 +36,24 @@ pub record DayRead (s : Text) (d : Day) : Type 0 where
 abbrev pub finds : ℕ → ℕ → ℕ → Bool → Finds
 finds day currency party kpp = record { day = day; currency = currency; party = party; kpp = kpp }
 
--- a right content in which nothing is asked for
-abbrev pub nothing : Found
-nothing = Has (finds 0 0 0 false)
+abbrev pub isNothing : Finds → Bool
+isNothing x = eqb (x .day) 0 && (eqb (x .currency) 0 && (eqb (x .party) 0 && not (x .kpp)))
+
+-- what is found in a right content
+abbrev pub madeOf : Finds → Found
+madeOf x = pick (isNothing x) Plain (Has x)
 
 -- 50K, 59, 58D
 abbrev pub heldFound : Held → Found
 heldFound held.Wrong = Wrong
-heldFound held.Plain = nothing
-heldFound (held.Taxed p inn kpp) = Has (finds 0 0 0 (not (eqb kpp 0)))
+heldFound held.Plain = Plain
+heldFound (held.Taxed p inn kpp) = madeOf (finds 0 0 0 (not (eqb kpp 0)))
 
 -- 52A, 56, 57: the party line, where there is one, is the first
 abbrev pub bankFound : List Line → Bank → Found
 bankFound ls bank.Wrong = Wrong
-bankFound ls bank.Alone = nothing
-bankFound ls (bank.Led p) = Has (finds 0 0 (faultOf apart (ofFirst parties ls)) false)
+bankFound ls bank.Alone = Plain
+bankFound ls (bank.Led p) = madeOf (finds 0 0 (faultOf apart (ofFirst parties ls)) false)
 
 abbrev pub LedBy : List Line → Bank → Type 0
 LedBy ls bank.Wrong = Unit {0}
@@ -59,3 +63,7 @@ LedBy ls (bank.Led p) = Then (IsA p) Any ls
 -- a content in which nothing is ever asked for
 abbrev pub NoValues : Content → Type 0
 NoValues content = (t : Text) (ls : List Line) → valuesOf t content ls ≡ []
+
+-- a content of one line
+abbrev pub OneLine : Content → Type 0
+OneLine content = (sign : Bool) (ls : List Line) → (Right content sign ls → One (LineOf content) ls) × (One (LineOf content) ls → Right content sign ls)

@@ -4,15 +4,16 @@ ghost use mathlib.Core.Bool.{Bool};
 ghost use Prim.Native.Nat.{_+_, _≤_};
 ghost use lib.ListN.{length};
 ghost use Rattle.base.specs.Choice.{pick};
+ghost use Rattle.base.specs.Says.{Says};
 ghost use Rattle.fields.specs.Lines.{linesIn};
-ghost use Rattle.contents.specs.Fields.{Then, Any};
-ghost use Rattle.contents.specs.Answers.{cut, IsA, RppWith};
+ghost use Rattle.contents.specs.Fields.{Then, Any, Right};
+ghost use Rattle.contents.specs.Answers.{cut, IsA, RppWith, LineOf};
 ghost use Rattle.contents.specs.declared.Content.the-variants.{Payment, Document, DocumentAndDetails};
 ghost use Rattle.values.specs.Day.{realDay};
 ghost use Rattle.values.specs.Values.{ofFirst, parties, rppDates};
 ghost use Rattle.values.specs.Judged.{noDay, apart};
 ghost use Rattle.values.specs.Answers.{faultOf, FoundIn};
-ghost use Rattle.values.specs.Steps.{heldFound, bankFound, LedBy, NoValues};
+ghost use Rattle.values.specs.Steps.{isNothing, madeOf, heldFound, bankFound, LedBy, NoValues, OneLine};
 use super::Finds;
 use super::Found;
 use super::days::is_day;
@@ -27,18 +28,23 @@ use contents::lines::RPP_DATE;
 use contents::lines::RPP_MARK;
 use contents::lines::RPP_VALUE;
 use contents::lines::Rpp;
+use contents::lines::is_own_account;
+use contents::lines::is_purpose;
+use contents::lines::is_reference;
 use contents::lines::payment;
 use contents::lines::rpp_line;
 use contents::pieces::is_just;
 use contents::whole::Bank;
 use contents::whole::Held;
 use contents::whole::Note;
+use contents::whole::account_and_bic;
 use contents::whole::bank_by_bic;
 use contents::whole::bank_by_name;
 use contents::whole::customer;
+use contents::whole::details;
 use contents::whole::is_one_line;
-use contents::whole::is_right;
 use contents::whole::payer;
+use contents::whole::regulatory;
 use contents::whole::rpp_and_details;
 
 // 12 compares the last digits of a BIK and of an account, so many.
@@ -59,6 +65,31 @@ fn fault(fine: bool, at: usize) -> usize
     at + 1
 }
 
+fn is_nothing(x: Finds) -> bool
+    ensures { λ r. ⌜ r ≡ isNothing x ⌝ }
+{
+    if x.day != 0 {
+        return false;
+    }
+    if x.currency != 0 {
+        return false;
+    }
+    if x.party != 0 {
+        return false;
+    }
+    !x.kpp
+}
+
+// What is found in a right content.
+fn made(x: Finds) -> Found
+    ensures { λ r. ⌜ r ≡ madeOf x ⌝ }
+{
+    if is_nothing(x) {
+        return Found::Plain;
+    }
+    Found::Has(x)
+}
+
 // Whether the six digits from there on are a day.
 fn is_day_at(c: &[u8], at: usize) -> bool
     requires { ⌜ at + 6 ≤ length (now c) ⌝ }
@@ -77,7 +108,7 @@ fn paid_found(c: &[u8]) -> Found
     let Paid::Is(_, _) = payment(c) else {
         return Found::Wrong;
     };
-    Found::Has(Finds {
+    made(Finds {
         day: fault(is_day_at(c, 0), 0),
         currency: fault(is_just(&c[DATE..MONEY], b"RUB"), DATE),
         party: 0,
@@ -91,13 +122,8 @@ fn held_found(h: Held) -> Found
 {
     match h {
         Held::Wrong => Found::Wrong,
-        Held::Plain => Found::Has(Finds {
-            day: 0,
-            currency: 0,
-            party: 0,
-            kpp: false,
-        }),
-        Held::Taxed(_, _, kpp) => Found::Has(Finds {
+        Held::Plain => Found::Plain,
+        Held::Taxed(_, _, kpp) => made(Finds {
             day: 0,
             currency: 0,
             party: 0,
@@ -130,13 +156,8 @@ fn bank_found(c: &[u8], b: Bank) -> Found
 {
     match b {
         Bank::Wrong => Found::Wrong,
-        Bank::Alone => Found::Has(Finds {
-            day: 0,
-            currency: 0,
-            party: 0,
-            kpp: false,
-        }),
-        Bank::Led(p) => Found::Has(Finds {
+        Bank::Alone => Found::Plain,
+        Bank::Led(p) => made(Finds {
             day: 0,
             currency: 0,
             party: party_fault(c, p),
@@ -172,7 +193,7 @@ fn rpp_found(c: &[u8]) -> Found
     let Rpp::Is(number, value) = rpp_line(c) else {
         return Found::Wrong;
     };
-    Found::Has(Finds {
+    made(Finds {
         day: rpp_fault(c, number, value),
         currency: 0,
         party: 0,
@@ -186,13 +207,8 @@ fn note_found(sign: bool, c: &[u8]) -> Found
 {
     match rpp_and_details(sign, c) {
         Note::Wrong => Found::Wrong,
-        Note::Plain => Found::Has(Finds {
-            day: 0,
-            currency: 0,
-            party: 0,
-            kpp: false,
-        }),
-        Note::Dated(number, value) => Found::Has(Finds {
+        Note::Plain => Found::Plain,
+        Note::Dated(number, value) => made(Finds {
             day: rpp_fault(c, number, value),
             currency: 0,
             party: 0,
@@ -201,20 +217,29 @@ fn note_found(sign: bool, c: &[u8]) -> Found
     }
 }
 
-// A content in which 9 to 13 ask for nothing.
-fn plain_found(content: Content, sign: bool, c: &[u8]) -> Found
-    requires { ⌜ NoValues content ⌝ }
-    ensures { λ r. ⌜ FoundIn content sign (linesIn (now (c .entry))) r ⌝ }
+// A content of one line in which 9 to 13 ask for nothing; right: whether it would be such a line.
+fn line_found(content: Content, right: bool, c: &[u8]) -> Found
+    requires { ⌜ NoValues content × OneLine content × Says (LineOf content (now c)) right ⌝ }
+    ensures { λ r. ⌜ ((sign : Bool) → FoundIn content sign (linesIn (now (c .entry))) r) ⌝ }
 {
-    if !is_right(content, sign, c) {
+    if !is_one_line(c) {
         return Found::Wrong;
     }
-    Found::Has(Finds {
-        day: 0,
-        currency: 0,
-        party: 0,
-        kpp: false,
-    })
+    if !right {
+        return Found::Wrong;
+    }
+    Found::Plain
+}
+
+// Any other content in which they ask for nothing.
+fn plain_found(content: Content, sign: bool, right: bool, c: &[u8]) -> Found
+    requires { ⌜ NoValues content × Says (Right content sign (linesIn (now c))) right ⌝ }
+    ensures { λ r. ⌜ FoundIn content sign (linesIn (now (c .entry))) r ⌝ }
+{
+    if !right {
+        return Found::Wrong;
+    }
+    Found::Plain
 }
 
 // 8, and what 9, 10, 12 and 13 ask of a right content.
@@ -222,6 +247,7 @@ pub fn found_in(content: Content, sign: bool, c: &[u8]) -> Found
     ensures { λ r. ⌜ FoundIn content sign (linesIn (now (c .entry))) r ⌝ }
 {
     match content {
+        Content::Unknown => Found::Wrong,
         Content::Payment => paid_found(c),
         Content::Payer => held_found(payer(c)),
         Content::BankByBic => bank_found(c, bank_by_bic(c)),
@@ -230,15 +256,14 @@ pub fn found_in(content: Content, sign: bool, c: &[u8]) -> Found
         Content::Beneficiary => held_found(customer(true, c)),
         Content::Document => rpp_found(c),
         Content::DocumentAndDetails => note_found(sign, c),
-        Content::Unknown => plain_found(content, sign, c),
-        Content::Reference => plain_found(content, sign, c),
-        Content::Related => plain_found(content, sign, c),
-        Content::Operation => plain_found(content, sign, c),
-        Content::Purpose => plain_found(content, sign, c),
-        Content::OwnAccount => plain_found(content, sign, c),
-        Content::AccountAndBic => plain_found(content, sign, c),
-        Content::Details => plain_found(content, sign, c),
-        Content::Charges => plain_found(content, sign, c),
-        Content::Regulatory => plain_found(content, sign, c),
+        Content::Reference => line_found(content, is_reference(c), c),
+        Content::Related => line_found(content, is_just(c, b"NONREF"), c),
+        Content::Operation => line_found(content, is_just(c, b"CRED"), c),
+        Content::Purpose => line_found(content, is_purpose(c), c),
+        Content::OwnAccount => line_found(content, is_own_account(c), c),
+        Content::Charges => line_found(content, is_just(c, b"OUR"), c),
+        Content::AccountAndBic => plain_found(content, sign, account_and_bic(c), c),
+        Content::Details => plain_found(content, sign, details(sign, c), c),
+        Content::Regulatory => plain_found(content, sign, regulatory(c), c),
     }
 }

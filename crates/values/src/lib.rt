@@ -13,8 +13,9 @@ pub struct Finds {
     pub kpp: bool,
 }
 
-// A content that isn't right, or what is found in it.
+// A content that isn't right; a right one in which nothing is found; or what is found in it.
 pub enum Found {
     Wrong,
+    Plain,
     Has(Finds),
 }

@@ -29,16 +29,16 @@ returns-2 c = rw (last-0 (c .before .before .before .before .before .before .bef
 next-line-requires : tie.Need-next-line-requires
 next-line-requires c κs = search needs
 
-are-names-requires : tie.Need-are-names-requires
-are-names-requires c κs = search needs
+are-lines-requires : tie.Need-are-lines-requires
+are-lines-requires c κs = search needs
 
 returns-3 : tie.Need-returns-3
 returns-3 c = let g = on-0 (c .before .before .before .before .before .before .before .before .before .before .args .c .now) (c .before .before .before .before .before .before .before .before .mark-at .result) (c .before .before .before .before .before .before .before .before .mark-at .ensures) (c .before .before .next-line .result) (c .before .before .before .if2 .left) (c .before .before .next-line .ensures) in
-    rw (g .0) (read-some _ (c .before .before .before .before .before .before .party-line .result) (c .before .before .before .before .before .before .party-line .ensures) (sym (c .before .before .before .before .before .is-no-party .ensures) ∙ c .before .before .before .before .if1 .left), c .before .are-names .ensures .so (c .if3 .taken))
+    rw (g .0) (read-some _ (c .before .before .before .before .before .before .party-line .result) (c .before .before .before .before .before .before .party-line .ensures) (sym (c .before .before .before .before .before .is-no-party .ensures) ∙ c .before .before .before .before .if1 .left), c .before .are-lines .ensures .so (c .if3 .taken))
 
 returns-4 : tie.Need-returns-4
 returns-4 c = let g = on-0 (c .before .before .before .before .before .before .before .before .before .before .args .c .now) (c .before .before .before .before .before .before .before .before .mark-at .result) (c .before .before .before .before .before .before .before .before .mark-at .ensures) (c .before .before .next-line .result) (c .before .before .before .if2 .left) (c .before .before .next-line .ensures) in
-    rw (g .0) (λ k. c .before .are-names .ensures .not-so (c .if3 .left) (k .1))
+    rw (g .0) (λ k. c .before .are-lines .ensures .not-so (c .if3 .left) (k .1))
 
 pub bank-by-name-spec : {M : Type 1} → statement M
 bank-by-name-spec =
@@ -51,6 +51,6 @@ bank-by-name-spec =
     returns
     returns-2
     next-line-requires
-    are-names-requires
+    are-lines-requires
     returns-3
     returns-4)

@@ -25,16 +25,16 @@ part-looks-tax-end c = omega (arith, up-rest 13 (c .before .before .args .c .now
 looks-tax-requires : tie.Need-looks-tax-requires
 looks-tax-requires c κs = search needs
 
-are-names-requires : tie.Need-are-names-requires
-are-names-requires c κs = search needs
+are-lines-requires : tie.Need-are-lines-requires
+are-lines-requires c κs = search needs
 
 returns : tie.Need-returns
 returns c = let f = front (c .before .before .before .before .before .before .before .args .c .now) (c .before .before .before .before .before .before .before .args .at) (c .before .before .before .before .before .mark-at .result) (c .before .before .before .before .before .before .before .pre) (c .before .before .before .before .before .mark-at .ensures) in
-    (rw (f .1) (plain (c .before .before .before .before .before .before .before .args .twelve) _ (f .0) (denied (looks-by (c .before .before .before .looks-tax .ensures)) (c .before .before .if1 .taken))), c .before .are-names .ensures .so (c .if2 .taken))
+    (rw (f .1) (plain (c .before .before .before .before .before .before .before .args .twelve) _ (f .0) (denied (looks-by (c .before .before .before .looks-tax .ensures)) (c .before .before .if1 .taken))), c .before .are-lines .ensures .so (c .if2 .taken))
 
 returns-2 : tie.Need-returns-2
 returns-2 c = let f = front (c .before .before .before .before .before .before .before .args .c .now) (c .before .before .before .before .before .before .before .args .at) (c .before .before .before .before .before .mark-at .result) (c .before .before .before .before .before .before .before .pre) (c .before .before .before .before .before .mark-at .ensures) in
-    rw (f .1) (plain-wrong (c .before .before .before .before .before .before .before .args .twelve) _ (f .0) (denied (looks-by (c .before .before .before .looks-tax .ensures)) (c .before .before .if1 .taken)) (rw (f .1) at (c .before .are-names .ensures .not-so (c .if2 .left))))
+    rw (f .1) (plain-wrong (c .before .before .before .before .before .before .before .args .twelve) _ (f .0) (denied (looks-by (c .before .before .before .looks-tax .ensures)) (c .before .before .if1 .taken)) (rw (f .1) at (c .before .are-lines .ensures .not-so (c .if2 .left))))
 
 sub-tax-line : tie.Need-sub-tax-line
 sub-tax-line c = search needs
@@ -64,16 +64,16 @@ returns-4 c = rw (lines-last (c .before .before .before .before .before .before 
 next-line-requires : tie.Need-next-line-requires
 next-line-requires c κs = search needs
 
-are-names-requires-2 : tie.Need-are-names-requires-2
-are-names-requires-2 c κs = search needs
+are-lines-requires-2 : tie.Need-are-lines-requires-2
+are-lines-requires-2 c κs = search needs
 
 returns-5 : tie.Need-returns-5
 returns-5 c = let g = lines-on (c .before .before .before .before .before .before .before .before .before .before .before .before .before .before .args .c .now) (c .before .before .before .before .before .before .before .before .before .before .before .before .before .before .args .at) (c .before .before .before .before .before .before .before .before .before .before .before .before .mark-at .result) (c .before .before .next-line .result) (c .before .before .before .before .before .before .before .before .before .before .before .before .before .before .pre) (c .before .before .before .before .before .before .before .before .before .before .before .before .mark-at .ensures) (c .before .before .before .if3 .left) (c .before .before .next-line .ensures) in
-    (refl, rw (g .0) (rw (c .before .before .before .before .before .inn .given .1) at (c .before .before .before .before .before .before .before .tax-line .ensures), c .before .are-names2 .ensures .so (c .if4 .taken)))
+    (refl, rw (g .0) (rw (c .before .before .before .before .before .inn .given .1) at (c .before .before .before .before .before .before .before .tax-line .ensures), c .before .are-lines2 .ensures .so (c .if4 .taken)))
 
 returns-6 : tie.Need-returns-6
 returns-6 c = let g = lines-on (c .before .before .before .before .before .before .before .before .before .before .before .before .before .before .args .c .now) (c .before .before .before .before .before .before .before .before .before .before .before .before .before .before .args .at) (c .before .before .before .before .before .before .before .before .before .before .before .before .mark-at .result) (c .before .before .next-line .result) (c .before .before .before .before .before .before .before .before .before .before .before .before .before .before .pre) (c .before .before .before .before .before .before .before .before .before .before .before .before .mark-at .ensures) (c .before .before .before .if3 .left) (c .before .before .next-line .ensures) in
-    rw (g .0) (looks-rest (c .before .before .before .before .before .before .before .before .before .before .before .before .before .before .args .twelve) _ _ (said (looks-by (c .before .before .before .before .before .before .before .before .before .before .looks-tax .ensures)) (c .before .before .before .before .before .before .before .before .before .if1 .left)) (c .before .are-names2 .ensures .not-so (c .if4 .left)))
+    rw (g .0) (looks-rest (c .before .before .before .before .before .before .before .before .before .before .before .before .before .before .args .twelve) _ _ (said (looks-by (c .before .before .before .before .before .before .before .before .before .before .looks-tax .ensures)) (c .before .before .before .before .before .before .before .before .before .if1 .left)) (c .before .are-lines2 .ensures .not-so (c .if4 .left)))
 
 pub beside-spec : {M : Type 1} → statement M
 beside-spec =
@@ -84,7 +84,7 @@ beside-spec =
     part-looks-tax-start
     part-looks-tax-end
     looks-tax-requires
-    are-names-requires
+    are-lines-requires
     returns
     returns-2
     sub-tax-line
@@ -96,6 +96,6 @@ beside-spec =
     returns-3
     returns-4
     next-line-requires
-    are-names-requires-2
+    are-lines-requires-2
     returns-5
     returns-6)

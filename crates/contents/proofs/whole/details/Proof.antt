@@ -30,15 +30,15 @@ returns-2 c = let s = c .before .before .before .before .before .before .args .c
 next-line-requires : tie.Need-next-line-requires
 next-line-requires c κs = search needs
 
-are-names-requires : tie.Need-are-names-requires
-are-names-requires c κs = search needs
+are-lines-requires : tie.Need-are-lines-requires
+are-lines-requires c κs = search needs
 
 returns-3 : tie.Need-returns-3
 returns-3 c = let s = c .before .before .before .before .before .before .before .before .before .args .c .now in let g = on-0 s (c .before .before .before .before .before .before .before .mark-at .result) (c .before .before .before .before .before .before .before .mark-at .ensures) (c .before .next-line .result) (c .before .before .if3 .taken) (c .before .next-line .ensures) in
     let w = taken-0 s (c .before .before .before .before .before .before .before .mark-at .result) (c .before .before .before .before .before .before .before .mark-at .ensures) in
     record {
-      so = λ e. rw (g .0) (in70-more (c .before .before .before .before .before .before .before .before .before .args .sign) _ _ (said (c .before .before .before .before .is-vo .ensures) (c .before .before .before .if2 .left)) (omega (arith, w, c .before .before .before .before .before .before .if1 .left)) (c .are-names .ensures .so e));
-      not-so = λ e d. c .are-names .ensures .not-so e (in70-names (c .before .before .before .before .before .before .before .before .before .args .sign) _ _ (rw (g .0) at d) (g .2));
+      so = λ e. rw (g .0) (in70-more (c .before .before .before .before .before .before .before .before .before .args .sign) _ _ (said (c .before .before .before .before .is-vo .ensures) (c .before .before .before .if2 .left)) (omega (arith, w, c .before .before .before .before .before .before .if1 .left)) (c .are-lines .ensures .so e));
+      not-so = λ e d. c .are-lines .ensures .not-so e (in70-names (c .before .before .before .before .before .before .before .before .before .args .sign) _ _ (rw (g .0) at d) (g .2));
     }
 
 returns-4 : tie.Need-returns-4
@@ -67,7 +67,7 @@ details-spec =
     is-vo-requires
     returns-2
     next-line-requires
-    are-names-requires
+    are-lines-requires
     returns-3
     returns-4
     returns-5)

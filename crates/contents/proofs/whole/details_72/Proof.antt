@@ -35,17 +35,17 @@ returns c = let f = front (c .before .before .before .before .before .args .c .n
 next-line-requires : tie.Need-next-line-requires
 next-line-requires c κs = search needs
 
-sub-are-marked : tie.Need-sub-are-marked
-sub-are-marked c = search needs
+sub-are-lines : tie.Need-sub-are-lines
+sub-are-lines c = search needs
 
-are-marked-requires : tie.Need-are-marked-requires
-are-marked-requires c κs = search needs
+are-lines-requires : tie.Need-are-lines-requires
+are-lines-requires c κs = search needs
 
 returns-2 : tie.Need-returns-2
 returns-2 c = let g = lines-on (c .before .before .before .before .before .before .before .before .args .c .now) (c .before .before .before .before .before .before .before .before .args .at) (c .before .before .before .before .before .before .mark-at .result) (c .before .next-line .result) (c .before .before .before .before .before .before .before .before .pre .0) (c .before .before .before .before .before .before .mark-at .ensures) (c .before .before .if2 .taken) (c .before .next-line .ensures) in
     record {
-      so = λ e. rw (g .0) (in72-more (c .before .before .before .before .before .before .before .before .args .sign) (c .before .before .before .before .before .before .before .before .args .most) _ _ (c .before .before .before .before .before .before .before .before .pre .1) (said (c .before .before .before .before .is-nzp .ensures) (c .before .before .before .if1 .left)) (c .are-marked .ensures .so e));
-      not-so = λ e d. c .are-marked .ensures .not-so e (in72-marked (c .before .before .before .before .before .before .before .before .args .sign) (c .before .before .before .before .before .before .before .before .args .most) _ _ (rw (g .0) at d) (g .2));
+      so = λ e. rw (g .0) (in72-more (c .before .before .before .before .before .before .before .before .args .sign) (c .before .before .before .before .before .before .before .before .args .most) _ _ (c .before .before .before .before .before .before .before .before .pre .1) (said (c .before .before .before .before .is-nzp .ensures) (c .before .before .before .if1 .left)) (c .are-lines .ensures .so e));
+      not-so = λ e d. c .are-lines .ensures .not-so e (in72-marked (c .before .before .before .before .before .before .before .before .args .sign) (c .before .before .before .before .before .before .before .before .args .most) _ _ (rw (g .0) at d) (g .2));
     }
 
 sub-has-text : tie.Need-sub-has-text
@@ -73,8 +73,8 @@ details-72-spec =
     is-nzp-requires
     returns
     next-line-requires
-    sub-are-marked
-    are-marked-requires
+    sub-are-lines
+    are-lines-requires
     returns-2
     sub-has-text
     has-text-requires

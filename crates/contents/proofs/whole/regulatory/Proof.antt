@@ -20,13 +20,13 @@ shared-slice-read-if2 c = search needs
 returns-2 : tie.Need-returns-2
 returns-2 c = let s = c .before .before .before .before .args .c .now in let f = front-0 s (0 + upTo 13 s) refl in says-not (λ r. c .if2 .taken (slash-first s (0 + upTo 13 s) refl (f .0) (rw (f .1) at (r .first))))
 
-are-names-requires : tie.Need-are-names-requires
-are-names-requires c κs = search needs
+are-lines-requires : tie.Need-are-lines-requires
+are-lines-requires c κs = search needs
 
 returns-3 : tie.Need-returns-3
 returns-3 c = let s = c .before .before .before .before .before .args .c .now in let f = front-0 s (0 + upTo 13 s) refl in
-    record { so = λ e. record { first = rw (f .1) (first-slash s (0 + upTo 13 s) refl (f .0) (omega arith) (c .before .if2 .left)); lines = c .are-names .ensures .so e }; not-so = λ e r. c .are-names .ensures .not-so e (r .lines) }
+    record { so = λ e. record { first = rw (f .1) (first-slash s (0 + upTo 13 s) refl (f .0) (omega arith) (c .before .if2 .left)); lines = c .are-lines .ensures .so e }; not-so = λ e r. c .are-lines .ensures .not-so e (r .lines) }
 
 pub regulatory-spec : {M : Type 1} → statement M
 regulatory-spec =
-    tie.close (tie.spec returns shared-slice-read-if2 returns-2 are-names-requires returns-3)
+    tie.close (tie.spec returns shared-slice-read-if2 returns-2 are-lines-requires returns-3)

@@ -2,16 +2,10 @@
 use mathlib.Core.Path.{ap, _∙_}
 use mathlib.Core.Bool.{Bool, _||_}
 use Rattle.fields.specs.Shapes.{unpack}
-use Rattle.judge.proofs.FactLaws.{nothing-noted, made-noted}
+use Rattle.judge.proofs.FactLaws.{made-noted}
 use borrow.Author.Needs.{needs}
 use Rattle.judge.proofs.facts.note.Statement.{statement}
 use Rattle.judge.proofs.facts.note.Tie as tie
-
-is-nothing-requires : tie.Need-is-nothing-requires
-is-nothing-requires c κs = search needs
-
-returns : tie.Need-returns
-returns c = let a = c .before .before .args in nothing-noted (a .f) (a .s) (unpack (a .tag)) (c .before .is-nothing .ensures (c .if1 .taken))
 
 fault-of-requires : tie.Need-fault-of-requires
 fault-of-requires c κs = search needs
@@ -34,9 +28,9 @@ is-kpp-requires-2 c κs = search needs
 either-requires-2 : tie.Need-either-requires-2
 either-requires-2 c κs = search needs
 
-returns-2 : tie.Need-returns-2
-returns-2 c =
-    let a = c .before .before .before .before .before .before .before .before .before .args in
+returns : tie.Need-returns
+returns c =
+    let a = c .before .before .before .before .before .before .before .args in
     let f = a .f in
     made-noted f (a .s) (unpack (a .tag)) (a .x) (c .before .before .before .before .before .before .fault-of .ensures) (c .before .before .before .before .before .fault-of2 .ensures) (c .before .before .before .before .fault-of3 .ensures)
     (c .before .before .either .ensures ∙ ap (λ (b : Bool). f .payer || b) (c .before .before .before .is-kpp .ensures))
@@ -46,8 +40,6 @@ pub note-spec : {M : Type 1} → statement M
 note-spec =
     tie.close
     (tie.spec
-    is-nothing-requires
-    returns
     fault-of-requires
     fault-of-requires-2
     fault-of-requires-3
@@ -55,4 +47,4 @@ note-spec =
     either-requires
     is-kpp-requires-2
     either-requires-2
-    returns-2)
+    returns)

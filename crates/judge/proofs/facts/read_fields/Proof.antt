@@ -1,6 +1,7 @@
 -- `judge::facts::read_fields` meets its contract: from spot to spot. Assumes nothing.
 use Prim.Native.Nat.{_-_, _≤_}
-use mathlib.Core.Path.{_≡_, sym, ap, _∙_}
+use mathlib.Core.Path.{_≡_, refl, sym, ap, _∙_}
+use mathlib.Core.Logic.{⊎-elim}
 use native.Mathlib.Omega.{arith}
 use lib.ListN.{drop}
 use borrow.Author.Needs.{needs}
@@ -10,7 +11,8 @@ use Rattle.fields.specs.Places.{startOf}
 use Rattle.contents.specs.Rule8.{firstWrong, rightField}
 use Rattle.judge.specs.declared.facts.Facts.{Facts}
 use Rattle.judge.specs.Facts.{nothingYet, factsFrom}
-use Rattle.judge.proofs.LoopLaws.{none-found, some-found, not-right, is-right, found-small, finds-are, wrong-here, right-on, noted-on}
+use Rattle.judge.proofs.FactLaws.{nothing-noted}
+use Rattle.judge.proofs.LoopLaws.{none-found, plain-found, some-found, not-right, is-right, found-small, finds-are, wrong-here, right-on, noted-on}
 use Rattle.judge.proofs.PartLaws.{walk-start, walk-end}
 use Rattle.judge.proofs.facts.read_fields.Statement.{statement}
 use Rattle.judge.proofs.facts.read_fields.Tie as tie
@@ -38,23 +40,23 @@ loop-holds c =
 field-at-requires : tie.Need-field-at-requires Inv-loop μ-loop
 field-at-requires c κs = let s = c .before .before .before .before in (s .pre .0, omega (arith, c .loop-test .taken, s .pre .1))
 
+mark-requires : tie.Need-mark-requires Inv-loop μ-loop
+mark-requires c κs = search needs
+
 held-by-requires : tie.Need-held-by-requires Inv-loop μ-loop
 held-by-requires c κs = search needs
 
 sub-found-in : tie.Need-sub-found-in Inv-loop μ-loop
-sub-found-in c = let h = c .before .field-at .ensures in omega (arith, h .low, h .high)
+sub-found-in c = let h = c .before .before .field-at .ensures in omega (arith, h .low, h .high)
 
 part-found-in-start : tie.Need-part-found-in-start Inv-loop μ-loop
-part-found-in-start c = let h = c .before .field-at .ensures in omega (arith, h .low, h .high)
+part-found-in-start c = let h = c .before .before .field-at .ensures in omega (arith, h .low, h .high)
 
 part-found-in-end : tie.Need-part-found-in-end Inv-loop μ-loop
-part-found-in-end c = let h = c .before .field-at .ensures in omega (arith, h .low, h .high)
+part-found-in-end c = let h = c .before .before .field-at .ensures in omega (arith, h .low, h .high)
 
 found-in-requires : tie.Need-found-in-requires Inv-loop μ-loop
 found-in-requires c κs = search needs
-
-enum-known-x : tie.Need-enum-known-x Inv-loop μ-loop
-enum-known-x c = search needs
 
 enum-told : tie.Need-enum-told Inv-loop μ-loop
 enum-told c = search needs
@@ -62,39 +64,47 @@ enum-told c = search needs
 returns : tie.Need-returns Inv-loop μ-loop
 returns c =
     let y = c .before .before .before .before in
-    let h = y .before .field-at .ensures in
-    let l = y .before .before .before in
+    let h = y .before .before .field-at .ensures in
+    let l = y .before .before .before .before in
     let a = l .before .before .before .args in
     l .loop .inv .1 ∙ sym (wrong-here h (a .form) (a .sign) (not-right h (a .form) (a .sign) (y .held-by .ensures) (none-found _ _ _ (c .before .before .found-in .ensures) (c .enum-told .given .1))))
 
-mark-requires : tie.Need-mark-requires Inv-loop μ-loop
-mark-requires c κs = search needs
+enum-told-2 : tie.Need-enum-told-2 Inv-loop μ-loop
+enum-told-2 c = search needs
+
+enum-known-x : tie.Need-enum-known-x Inv-loop μ-loop
+enum-known-x c = search needs
 
 note-requires : tie.Need-note-requires Inv-loop μ-loop
 note-requires c κs =
-    let x = c .before .before in
+    let x = c .before in
     let y = x .before .before .before .before in
-    let a = y .before .before .before .before .before .before .args in
+    let s = y .before .before .before .before .before .before .before in
+    let a = s .args in
     let w = some-found _ _ _ (x .before .before .found-in .ensures) (x .x .given .1) in
-    found-small (y .before .field-at .ensures) (a .form) (a .sign) (y .held-by .ensures) (w .1) (y .before .before .before .before .before .before .pre .0 .within)
+    found-small (y .before .before .field-at .ensures) (a .form) (a .sign) (y .held-by .ensures) (w .1) (s .pre .0 .within)
 
 add-k : tie.Need-add-k Inv-loop μ-loop
-add-k c = omega (arith, c .before .before .before .before .before .before .before .before .before .loop-test .taken, c .before .before .before .before .before .before .before .before .before .before .before .before .before .pre .1, c .before .before .before .before .before .before .before .before .before .before .before .before .before .pre .0 .few)
+add-k c = omega (arith, c .before .before .before .before .before .before .loop-test .taken, c .before .before .before .before .before .before .before .before .before .before .pre .1, c .before .before .before .before .before .before .before .before .before .before .pre .0 .few)
 
 loop-less : tie.Need-loop-less Inv-loop μ-loop
-loop-less c = omega (arith, c .before .before .before .before .before .before .before .before .before .loop-test .taken)
+loop-less c = omega (arith, c .before .before .before .before .before .before .loop-test .taken)
 
 loop-again : tie.Need-loop-again Inv-loop μ-loop
 loop-again c =
-    let x = c .before .before .before in
-    let y = x .before .before .before .before in
-    let h = y .before .field-at .ensures in
-    let l = y .before .before .before in
+    let r = c .before in
+    let y = r .before .before in
+    let h = y .before .before .field-at .ensures in
+    let g = y .before .mark .ensures in
+    let l = y .before .before .before .before in
     let a = l .before .before .before .args in
-    let w = some-found _ _ _ (x .before .before .found-in .ensures) (x .x .given .1) in (
-      omega (arith, y .before .before .loop-test .taken),
-      l .loop .inv .1 ∙ right-on h (a .form) (a .sign) (is-right h (a .form) (a .sign) (y .held-by .ensures) (w .0)),
-      l .loop .inv .2 ∙ noted-on h (a .form) _ (finds-are h (a .form) (a .sign) (y .held-by .ensures) (w .1)) (c .before .mark .ensures) (c .note .ensures),
+    let i = y .held-by .ensures in (
+      omega (arith, y .before .before .before .loop-test .taken),
+      l .loop .inv .1 ∙ right-on h (a .form) (a .sign) (is-right h (a .form) (a .sign) i
+          (⊎-elim (λ w. plain-found _ _ _ (r .found-in .ensures) (w .1 .given .1) .0) (λ w. some-found _ _ _ (r .found-in .ensures) (w .1 .given .1) .0) (c .match .came))),
+      l .loop .inv .2
+          ∙ ⊎-elim (λ w. noted-on h (a .form) _ (finds-are h (a .form) (a .sign) i (plain-found _ _ _ (r .found-in .ensures) (w .1 .given .1) .1)) g (w .2 ∙ nothing-noted _ _ _ refl))
+          (λ w. noted-on h (a .form) _ (finds-are h (a .form) (a .sign) i (some-found _ _ _ (r .found-in .ensures) (w .1 .given .1) .1)) g (w .4 ∙ w .3 .ensures)) (c .match .came),
     )
 
 returns-2 : tie.Need-returns-2 Inv-loop μ-loop
@@ -116,15 +126,16 @@ read-fields-spec =
     nothing-requires
     loop-holds
     field-at-requires
+    mark-requires
     held-by-requires
     sub-found-in
     part-found-in-start
     part-found-in-end
     found-in-requires
-    enum-known-x
     enum-told
     returns
-    mark-requires
+    enum-told-2
+    enum-known-x
     note-requires
     add-k
     loop-less

@@ -8,7 +8,7 @@ use Rattle.contents.specs.Fields.{Then, Any}
 use Rattle.contents.specs.Answers.{RppWith, isNote}
 use Rattle.contents.proofs.RightLaws.{note-is}
 use Rattle.values.specs.Values.{ofFirst, rppDates, noteDates, valuesOf}
-use Rattle.values.proofs.FoundLaws.{finding-none, finding-rpp, note-plain, note-dated}
+use Rattle.values.proofs.FoundLaws.{finding-none, finding-rpp, note-plain, note-dated, made-found}
 use borrow.Author.Needs.{needs}
 use Rattle.values.proofs.findings.note_found.Statement.{statement}
 use Rattle.values.proofs.findings.note_found.Tie as tie
@@ -34,6 +34,9 @@ enum-known-number c = search needs
 rpp-fault-requires : tie.Need-rpp-fault-requires
 rpp-fault-requires c κs = dated c .0
 
+made-requires : tie.Need-made-requires
+made-requires c κs = search needs
+
 returns : tie.Need-returns
 returns c = rw (c .enum-told .given .1) at (c .before .before .rpp-and-details .ensures)
 
@@ -44,10 +47,10 @@ returns-2 c = let a = c .before .before .before .before .args in let s = rw (c .
 
 returns-3 : tie.Need-returns-3
 unfolding valuesOf
-returns-3 c = let a = c .before .before .before .before .before .before .args in let ls = linesIn (a .c .now) in (
-  note-is (a .sign) ls (c .before .before .before .before .rpp-and-details .result) true (sym (ap isNote (c .before .before .number .given .1))) (c .before .before .before .before .rpp-and-details .ensures) .so refl,
-  finding-rpp DocumentAndDetails ls (λ t. dated (c .before) .1) (c .rpp-fault .ensures),
-)
+returns-3 c = let d = c .before in let a = d .before .before .before .before .before .before .args in let ls = linesIn (a .c .now) in
+    made-found DocumentAndDetails (a .sign) ls (c .made .ensures)
+    (note-is (a .sign) ls (d .before .before .before .before .rpp-and-details .result) true (sym (ap isNote (d .before .before .number .given .1))) (d .before .before .before .before .rpp-and-details .ensures) .so refl)
+    (finding-rpp DocumentAndDetails ls (λ t. dated (d .before) .1) (d .rpp-fault .ensures))
 
 pub note-found-spec : {M : Type 1} → statement M
 note-found-spec =
@@ -58,6 +61,7 @@ note-found-spec =
     enum-told-2
     enum-known-number
     rpp-fault-requires
+    made-requires
     returns
     returns-2
     returns-3)

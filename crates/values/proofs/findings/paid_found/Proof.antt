@@ -2,13 +2,15 @@
 use mathlib.Core.Path.{ap, _∙_}
 use mathlib.Core.Bool.{Bool}
 use native.Mathlib.Omega.{arith}
+use mathlib.Core.List.{[], _∷_}
+use Rattle.contents.specs.declared.Content.the-variants.{Payment}
 use Rattle.base.specs.Choice.{pick}
 use Rattle.base.specs.Quoted.{bytes}
 use Rattle.base.proofs.SaysLaws.{said, denied, says-same, says-text}
 use Rattle.contents.specs.Answers.{cut, PaidWith}
 use Rattle.contents.proofs.RightLaws.{not-one}
 use Rattle.values.proofs.MoneyLaws.{paid-size}
-use Rattle.values.proofs.FoundLaws.{finding-paid}
+use Rattle.values.proofs.FoundLaws.{finding-paid, made-found}
 use borrow.Author.Needs.{needs}
 use Rattle.values.proofs.findings.paid_found.Statement.{statement}
 use Rattle.values.proofs.findings.paid_found.Tie as tie
@@ -59,13 +61,15 @@ is-just-requires c κs = search needs
 fault-requires-2 : tie.Need-fault-requires-2
 fault-requires-2 c κs = search needs
 
+made-requires : tie.Need-made-requires
+made-requires c κs = search needs
+
 returns-3 : tie.Need-returns-3
-returns-3 c = λ sign. let l = c .before .before .before .before .before .before .before .before .before .before .before .before .args .c .now in let w = read (c .before .before .before .before .before .before) in
-    rw (said (c .before .before .before .before .before .before .before .before .before .before .is-one-line .ensures) (c .before .before .before .before .before .before .before .before .before .if1 .left)) (
-      (cut 0 6 l, cut 6 3 l, _, _, w .0),
-      finding-paid l (w .0 .day .size) (c .before .before .before .before .fault .ensures ∙ ap (λ (b : Bool). pick b 0 1) (c .before .before .before .before .before .is-day-at .ensures))
-          (c .fault2 .ensures ∙ ap (λ (b : Bool). pick b 0 7) (says-same (c .before .is-just .ensures) (says-text (cut 6 3 l) (bytes "RUB")))),
-    )
+returns-3 c = λ sign. let d = c .before in let l = d .before .before .before .before .before .before .before .before .before .before .before .before .args .c .now in let w = read (d .before .before .before .before .before .before) in
+    rw (said (d .before .before .before .before .before .before .before .before .before .before .is-one-line .ensures) (d .before .before .before .before .before .before .before .before .before .if1 .left))
+    (made-found Payment sign (l ∷ []) (c .made .ensures) (cut 0 6 l, cut 6 3 l, _, _, w .0)
+    (finding-paid l (w .0 .day .size) (d .before .before .before .before .fault .ensures ∙ ap (λ (b : Bool). pick b 0 1) (d .before .before .before .before .before .is-day-at .ensures))
+    (d .fault2 .ensures ∙ ap (λ (b : Bool). pick b 0 7) (says-same (d .before .is-just .ensures) (says-text (cut 6 3 l) (bytes "RUB"))))))
 
 pub paid-found-spec : {M : Type 1} → statement M
 paid-found-spec =
@@ -85,4 +89,5 @@ paid-found-spec =
     slice-aggregate-is-just
     is-just-requires
     fault-requires-2
+    made-requires
     returns-3)

@@ -6,7 +6,7 @@ use Rattle.contents.specs.declared.Content.the-variants.{Document}
 use Rattle.contents.specs.Answers.{RppWith}
 use Rattle.contents.proofs.RightLaws.{not-one}
 use Rattle.values.specs.Values.{valuesOf}
-use Rattle.values.proofs.FoundLaws.{finding-rpp}
+use Rattle.values.proofs.FoundLaws.{finding-rpp, made-found}
 use borrow.Author.Needs.{needs}
 use Rattle.values.proofs.findings.rpp_found.Statement.{statement}
 use Rattle.values.proofs.findings.rpp_found.Tie as tie
@@ -36,9 +36,14 @@ returns-2 c = λ sign x. let s = rw (c .enum-told .given .1) at (c .before .befo
 rpp-fault-requires : tie.Need-rpp-fault-requires
 rpp-fault-requires c κs = rw (said (c .before .before .before .before .before .is-one-line .ensures) (c .before .before .before .before .if1 .left)) (read c, tt)
 
+made-requires : tie.Need-made-requires
+made-requires c κs = search needs
+
 returns-3 : tie.Need-returns-3
 unfolding valuesOf
-returns-3 c = λ sign. (rw (said (c .before .before .before .before .before .before .is-one-line .ensures) (c .before .before .before .before .before .if1 .left)) (_, _, _, _, _, read (c .before) .0), finding-rpp Document (linesIn (c .before .before .before .before .before .before .before .before .args .c .now)) (λ t. refl) (c .rpp-fault .ensures))
+returns-3 c = λ sign. let d = c .before in let ls = linesIn (d .before .before .before .before .before .before .before .before .args .c .now) in
+    made-found Document sign ls (c .made .ensures) (rw (said (d .before .before .before .before .before .before .is-one-line .ensures) (d .before .before .before .before .before .if1 .left)) (_, _, _, _, _, read (d .before) .0))
+    (finding-rpp Document ls (λ t. refl) (d .rpp-fault .ensures))
 
 pub rpp-found-spec : {M : Type 1} → statement M
 rpp-found-spec =
@@ -51,4 +56,5 @@ rpp-found-spec =
     enum-told
     returns-2
     rpp-fault-requires
+    made-requires
     returns-3)
