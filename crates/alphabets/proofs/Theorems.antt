@@ -1,4 +1,5 @@
--- What is promised of a text (D3, T4-T11), over the definitions that the contracts cite. Assumes nothing.
+-- What is promised of a text, over the definitions that the contracts cite: what is written is exactly the text of D3 (`shortest-iff`), and there
+-- is none exactly if no text reads so (`unwritable-iff`); without the sign a text is its own bytes (D3, T4-T11). Assumes nothing.
 use Prim.Native.Nat.{ℕ, zero, suc, _≤_}
 use mathlib.Core.Path.{_≡_, refl, sym, ap, _∙_}
 use mathlib.Core.List.{List, [], _∷_}
@@ -11,8 +12,9 @@ use Rattle.base.specs.Bytes.{xset}
 use Rattle.base.specs.Calls.{Answer, said, stuck}
 use Rattle.base.proofs.CallLaws.{not-said}
 use Rattle.alphabets.specs.Grid.{Kind, unwritable, russian, latin, common, kind, allowed}
-use Rattle.alphabets.specs.Bank.{after, reads, plainly, reading, inner}
+use Rattle.alphabets.specs.Bank.{after, reads, plainly, reading, inner, quoted}
 use Rattle.alphabets.specs.Best.{best, Spot, nowhere, at, spotAfter, bad, orStuck, writes, writing}
+use Rattle.alphabets.specs.Sentences.{Shortest, Unwritable}
 use Rattle.alphabets.proofs.Back.{reads-best}
 use Rattle.alphabets.proofs.Shortest.{Beats, shorter, fewer, same, beats, Came, turned, signed, came}
 
@@ -101,7 +103,7 @@ fewest-by (shorter h) l = absurd (omega arith)
 fewest-by (fewer e h) l = omega arith
 fewest-by (same e) l = omega (arith, ap (inner false) e)
 
-pub fewest : (s : Bool) (d t b : List ℕ) → writing s d ≡ said t → reading s b ≡ said d → length b ≡ length t → inner false t ≤ inner false b
+pub fewest : (s : Bool) (d t b : List ℕ) → writing s d ≡ said t → reading s b ≡ said d → length b ≡ length t → quoted t ≤ quoted b
 fewest true d t b e r l = fewest-by (beaten d t b e r) l
 fewest false d t b e r l = let f : t ≡ b = sym (plain-self b d r ∙ plain-self d t e) in omega (arith, ap (inner false) f)
 
@@ -111,7 +113,7 @@ alone-by (shorter h) l i = absurd (omega arith)
 alone-by (fewer e h) l i = absurd (omega arith)
 alone-by (same e) l i = sym e
 
-pub alone : (s : Bool) (d t b : List ℕ) → writing s d ≡ said t → reading s b ≡ said d → length b ≡ length t → inner false b ≤ inner false t → b ≡ t
+pub alone : (s : Bool) (d t b : List ℕ) → writing s d ≡ said t → reading s b ≡ said d → length b ≡ length t → quoted b ≤ quoted t → b ≡ t
 alone true d t b e r l i = alone-by (beaten d t b e r) l i
 alone false d t b e r l i = plain-self b d r ∙ plain-self d t e
 
@@ -141,7 +143,7 @@ plain-unread : (d : List ℕ) (a : Answer) → plainly d ≡ a → ((b : List �
 plain-unread d (stuck k) e h = (k, refl)
 plain-unread d (said t) e h = absurd (h d (e ∙ ap said (sym (plain-self d t e))))
 
-pub unwritable-iff : (s : Bool) (d : List ℕ) → ((k : ℕ) × (writing s d ≡ stuck k)) ↔ ((b : List ℕ) → reading s b ≡ said d → ⊥)
+pub unwritable-iff : (s : Bool) (d : List ℕ) → ((k : ℕ) × (writing s d ≡ stuck k)) ↔ Unwritable s d
 unfolding writes
 unwritable-iff true d = (
   (λ h b r. let g = good false b d r in not-said (h .0) (best false d) (sym (h .1) ∙ rw g)),
@@ -151,3 +153,26 @@ unwritable-iff false d = (
   (λ h b r. not-said (h .0) d (sym (h .1) ∙ ap plainly (sym (plain-self b d r)) ∙ r)),
   (λ h. plain-unread d (plainly d) refl h),
 )
+
+-- ---- and what is written is the shortest text, and nothing else is
+is-shortest : (s : Bool) (d t : List ℕ) → writing s d ≡ said t → Shortest s d t
+is-shortest s d t e = record {
+  reads-as = reads-back s d t e;
+  none-shorter = λ b r. no-shorter s d t b e r;
+  none-fewer = λ b r l. fewest s d t b e r l;
+  only = λ b r l i. alone s d t b e r l (omega arith);
+}
+
+shortest-is : (s : Bool) (d t : List ℕ) → Shortest s d t → writing s d ≡ said t
+shortest-is s d t w = go (writing s d) refl
+  where
+    go : (a : Answer) → writing s d ≡ a → writing s d ≡ said t
+    go (stuck k) e = absurd (unwritable-iff s d .0 (k, e) t (w .reads-as))
+    go (said u) e =
+        let r : reading s u ≡ said d = reads-back s d u e in
+        let l : length u ≡ length t = omega (arith, no-shorter s d u t e (w .reads-as), w .none-shorter u r) in
+        let i : quoted u ≡ quoted t = omega (arith, fewest s d u t e (w .reads-as) (sym l), w .none-fewer u r l) in
+        e ∙ ap said (w .only u r l i)
+
+pub shortest-iff : (s : Bool) (d t : List ℕ) → (writing s d ≡ said t) ↔ Shortest s d t
+shortest-iff s d t = (is-shortest s d t, shortest-is s d t)

@@ -35,7 +35,7 @@ abbrev pub reading : Bool → List ℕ → Answer
 reading true b = reads false b
 reading false b = plainly b
 
--- how many characters of a bank text stand between apostrophes
+-- how many characters of a bank text stand between apostrophes, from a side; the apostrophes don't count
 abbrev pub onSide : Bool → ℕ → ℕ
 onSide true n = suc n
 onSide false n = n
@@ -43,3 +43,7 @@ onSide false n = n
 unfoldable pub inner : Bool → List ℕ → ℕ
 inner s [] = 0
 inner s (x ∷ xs) = pick (eqb x 39) (inner (not s) xs) (onSide s (inner s xs))
+
+-- of a whole text, which starts on the Russian side
+abbrev pub quoted : List ℕ → ℕ
+quoted b = inner false b

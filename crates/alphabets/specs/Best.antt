@@ -1,4 +1,5 @@
--- The bank text that is written for a desk text (T10). That it is the one that D3 asks for is proved in proofs/Theorems.antt. Assumes nothing.
+-- How the bank text for a desk text is found (T10). It is just the one that D3 asks for: `Shortest` in Sentences.antt, by `shortest-iff` in
+-- proofs/Theorems.antt. Assumes nothing.
 use Prim.Native.Nat.{ℕ, suc}
 use mathlib.Core.List.{List, [], _∷_}
 use mathlib.Core.Bool.{Bool, true, false}
