@@ -3,7 +3,10 @@ pub mod Back
 pub mod Shortest
 pub mod CodeLaws
 pub mod Theorems
-pub mod Outcomes
+pub mod StopLaws
+pub mod AnswerLaws
+pub mod SizeLaws
+pub mod CallTheorems
 pub mod RunLaws
 pub mod PieceLaws
 pub mod PartLaws

@@ -13,18 +13,18 @@ use Rattle.base.specs.Choice.{pick}
 use Rattle.base.specs.Calls.{Answer, said, stuck, textOf, placed}
 use Rattle.base.proofs.CallLaws.{not-said, one-answer}
 use Rattle.base.proofs.Room.{sets-append, placed-fits, placed-not}
-use Rattle.alphabets.specs.Bank.{reads, reading}
+use Rattle.alphabets.specs.Bank.{reads}
 use Rattle.alphabets.specs.Best.{writing}
 use Rattle.alphabets.specs.Steps.{codes}
 use Rattle.alphabets.specs.Runs.{floorOf, heardOf}
 use Rattle.alphabets.specs.Pieces.{pieceAfter, pieceIn, pieceOn, whole}
-use Rattle.alphabets.specs.Parts.{extentOf, extent, written, spoken, pieceText}
+use Rattle.alphabets.specs.Parts.{extentOf, extent, written, ToldLong, ToldHalt, spoken, pieceText}
 use Rattle.alphabets.specs.declared.parts.Extent.the-variants.{Takes, Halts, Long}
 use Rattle.alphabets.specs.declared.pieces.Piece.{Piece}
 use Rattle.alphabets.specs.declared.pieces.Piece.the-variants.{Read, Stops}
-use Rattle.alphabets.specs.Sentences.{canSay, FirstFails}
-use Rattle.alphabets.proofs.Theorems.{reads-back}
-use Rattle.alphabets.proofs.Outcomes.{unwritable-at, twice-at-most}
+use Rattle.alphabets.proofs.Theorems.{shortest-iff, unwritable-iff}
+use Rattle.alphabets.proofs.StopLaws.{unwritable-at}
+use Rattle.alphabets.proofs.SizeLaws.{twice-at-most}
 use Rattle.alphabets.proofs.PieceLaws.{reads-piece, piece-append}
 use Rattle.alphabets.proofs.PartLaws.{takes-halts, takes-long, halts-long, extent-long, written-long, extent-is, written-is}
 use Rattle.alphabets.proofs.SpokenLaws.{read-stops, text-read, text-length}
@@ -34,18 +34,10 @@ pub put-one : {A : Type 0} {r q x : A} {a b after : List ℕ} → (r ≡ x) × (
 put-one e f = (one-answer (e .0) (f .0), one-answer (e .1) (f .1))
 
 -- ---- the size
--- a size told: the bank text that is put is the one that is written, it reads back, and n is its length
-pub record Written (s : Bool) (desk : List ℕ) (n : ℕ) : Type 0 where
-  pub within : length desk ≤ 10000
-  pub is : writing s desk ≡ said (written s desk)
-  pub count : n ≡ length (written s desk)
-  pub back : reading s (written s desk) ≡ said desk
-  pub small : n ≤ 20000
-
-pub size-takes : (s : Bool) (desk : List ℕ) (n : ℕ) → extent s desk ≡ Takes n → Written s desk n
+pub size-takes : (s : Bool) (desk : List ℕ) (n : ℕ) → extent s desk ≡ Takes n → ToldLong s desk n
 size-takes s desk n e = go (decLt 10000 (length desk))
   where
-    by : (h : length desk ≤ 10000) (a : Answer) → writing s desk ≡ a → extentOf a ≡ Takes n → Written s desk n
+    by : (h : length desk ≤ 10000) (a : Answer) → writing s desk ≡ a → extentOf a ≡ Takes n → ToldLong s desk n
     by h (stuck k) p f = absurd (takes-halts n k (sym f))
     by h (said t) p f =
         let m : length t ≡ n = cc in
@@ -55,32 +47,25 @@ size-takes s desk n e = go (decLt 10000 (length desk))
           within = h;
           is = q;
           count = sym m ∙ ap length (sym w);
-          back = reads-back s desk (written s desk) q;
+          shortest = shortest-iff s desk (written s desk) .0 q;
           small = omega (arith, twice-at-most 5000 s desk t p (omega arith));
         }
 
-    go : Dec (10000 < length desk) → Written s desk n
+    go : Dec (10000 < length desk) → ToldLong s desk n
     go (yes h) = absurd (takes-long n (sym e ∙ sym (extent-long s desk h)))
     go (no h) = by (omega arith) (writing s desk) refl (sym (extent-is s desk (omega arith)) ∙ e)
 
--- a place told: the first sign that can't be written, and no text is put
-pub record Unwritten (s : Bool) (desk : List ℕ) (k : ℕ) : Type 0 where
-  pub within : length desk ≤ 10000
-  pub is : writing s desk ≡ stuck k
-  pub first : FirstFails (canSay s) desk k
-  pub none : written s desk ≡ []
-
-pub size-halts : (s : Bool) (desk : List ℕ) (k : ℕ) → extent s desk ≡ Halts k → Unwritten s desk k
+pub size-halts : (s : Bool) (desk : List ℕ) (k : ℕ) → extent s desk ≡ Halts k → ToldHalt s desk k
 size-halts s desk k e = go (decLt 10000 (length desk))
   where
-    by : (h : length desk ≤ 10000) (a : Answer) → writing s desk ≡ a → extentOf a ≡ Halts k → Unwritten s desk k
+    by : (h : length desk ≤ 10000) (a : Answer) → writing s desk ≡ a → extentOf a ≡ Halts k → ToldHalt s desk k
     by h (said t) p f = absurd (takes-halts (length t) k f)
     by h (stuck j) p f =
         let m : j ≡ k = cc in
         let q : writing s desk ≡ stuck k = p ∙ ap stuck m in
-        record { within = h; is = q; first = unwritable-at s desk k .0 q; none = written-is s desk h ∙ ap textOf p }
+        record { within = h; is = q; unsaid = unwritable-iff s desk .0 (k, q); first = unwritable-at s desk k .0 q; none = written-is s desk h ∙ ap textOf p }
 
-    go : Dec (10000 < length desk) → Unwritten s desk k
+    go : Dec (10000 < length desk) → ToldHalt s desk k
     go (yes h) = absurd (halts-long k (sym e ∙ sym (extent-long s desk h)))
     go (no h) = by (omega arith) (writing s desk) refl (sym (extent-is s desk (omega arith)) ∙ e)
 

@@ -19,7 +19,7 @@ use Rattle.base.specs.declared.Verdict.{Verdict}
 use Rattle.base.specs.declared.Verdict.the-variants.{Fine, Broken}
 use Rattle.base.proofs.ByteLaws.{Bytes}
 use Rattle.base.proofs.RuleLaws.{first-last}
-use Rattle.alphabets.proofs.Outcomes.{Small}
+use Rattle.alphabets.specs.Text.{Small}
 use Rattle.fields.specs.Field.{fields}
 use Rattle.fields.specs.Frame.{limit}
 use Rattle.fields.specs.Places.{listed}

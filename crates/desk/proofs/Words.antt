@@ -10,7 +10,8 @@ use borrow.Author.Tests.{ne-eqb}
 use Rattle.types.specs.declared.Form.{Form}
 use Rattle.base.specs.declared.Outcome.{Outcome}
 use Rattle.base.specs.declared.Outcome.the-variants.{Done, Refused}
-use Rattle.alphabets.proofs.Outcomes.{read-one, write-one, read-small, write-small}
+use Rattle.alphabets.proofs.SizeLaws.{read-small, write-small}
+use Rattle.alphabets.proofs.CallTheorems.{read-one, write-one}
 use Rattle.base.specs.declared.Verdict.{Verdict}
 use Rattle.base.specs.declared.Verdict.the-variants.{Fine, Broken}
 use Rattle.base.proofs.ByteLaws.{Bytes}

@@ -10,7 +10,7 @@ use Rattle.base.proofs.Room.{puts-put}
 use Rattle.alphabets.specs.Best.{writing}
 use Rattle.alphabets.specs.Parts.{extent, written}
 use Rattle.alphabets.specs.declared.parts.Extent.the-variants.{Takes, Halts, Long}
-use Rattle.alphabets.proofs.Outcomes.{twice-at-most}
+use Rattle.alphabets.proofs.SizeLaws.{twice-at-most}
 use Rattle.alphabets.proofs.PartTheorems.{size-takes, size-halts, size-long}
 use Rattle.writer.specs.declared.Step.the-variants.{Stuck, Put}
 use Rattle.writer.specs.Sheet.{stoppedAt}

@@ -20,7 +20,7 @@ use Rattle.base.proofs.CallLaws.{not-said}
 use Rattle.alphabets.specs.Sentences.{FirstFails}
 use Rattle.alphabets.specs.Bank.{plainly, reading}
 use Rattle.alphabets.specs.Best.{writing}
-use Rattle.alphabets.proofs.Outcomes.{unwritable-at}
+use Rattle.alphabets.proofs.StopLaws.{unwritable-at}
 use Rattle.alphabets.proofs.Theorems.{plain-iff, reads-back, unwritable-iff}
 use Rattle.fields.specs.Field.{field}
 use Rattle.roles.specs.Role.{shapeOf, Part, copy, name, taxName, lineOf}

@@ -18,7 +18,7 @@ use Rattle.base.specs.declared.Outcome.the-variants.{Done, Refused}
 use Rattle.base.proofs.RuleLaws.{same-broken}
 use Rattle.base.proofs.CallLaws.{refused, is-long, within-limit}
 use Rattle.alphabets.specs.Best.{writing}
-use Rattle.alphabets.proofs.Outcomes.{twice-at-most}
+use Rattle.alphabets.proofs.SizeLaws.{twice-at-most}
 use Rattle.fields.specs.Field.{field, closing, laid, lined, linesOf, message}
 use Rattle.fields.specs.Frame.{limit}
 use Rattle.fields.specs.Places as lines

@@ -1,7 +1,7 @@
 -- `desk::desk_read_text` meets its contract. Assumes nothing.
 use mathlib.Core.Path.{subst}
 use mathlib.Core.Bool.{Bool}
-use Rattle.alphabets.proofs.Outcomes.{read-small}
+use Rattle.alphabets.proofs.SizeLaws.{read-small}
 use Rattle.alphabets.specs.Text.{ReadTo}
 use Rattle.desk.specs.Answer.{isOn}
 use Rattle.desk.proofs.Sizes.{text-small}

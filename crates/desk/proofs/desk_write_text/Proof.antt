@@ -1,7 +1,7 @@
 -- `desk::desk_write_text` meets its contract. Assumes nothing.
 use mathlib.Core.Path.{subst}
 use mathlib.Core.Bool.{Bool}
-use Rattle.alphabets.proofs.Outcomes.{write-small}
+use Rattle.alphabets.proofs.SizeLaws.{write-small}
 use Rattle.alphabets.specs.Text.{WrittenTo}
 use Rattle.desk.specs.Answer.{isOn}
 use Rattle.desk.proofs.Sizes.{text-small}
