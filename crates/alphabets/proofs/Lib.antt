@@ -7,6 +7,7 @@ pub mod StopLaws
 pub mod AnswerLaws
 pub mod SizeLaws
 pub mod CallTheorems
+pub mod LetterExamples
 pub mod RunLaws
 pub mod PieceLaws
 pub mod PartLaws

@@ -6,4 +6,5 @@ pub mod Pieces
 pub mod Parts
 pub mod Steps
 pub mod Text
+pub mod Letters
 pub mod Sentences
