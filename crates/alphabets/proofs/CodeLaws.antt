@@ -1,4 +1,4 @@
--- The table of codes: its rule, a test computed at all 256 entries, and carried to every number. Assumes nothing.
+-- Only the code's way needs this. The table of codes: its rule, a test computed at all 256 entries, and carried to every number. Assumes nothing.
 use Prim.Native.Nat.{ℕ, _<_, _≤_}
 use mathlib.Core.Path.{_≡_, refl}
 use mathlib.Core.Bool.{Bool, true, false, not, _&&_, _||_}

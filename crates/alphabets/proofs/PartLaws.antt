@@ -1,4 +1,4 @@
--- The ways out of the calls for a text inside larger room. Assumes nothing.
+-- Only the code's way needs this. The ways out of the calls for a text inside larger room. Assumes nothing.
 use Prim.Native.Nat.{ℕ, _+_, _-_, _<_, _≤_}
 use mathlib.Core.Path.{_≡_, sym, ap, _∙_}
 use mathlib.Core.Bool.{Bool, true, false}

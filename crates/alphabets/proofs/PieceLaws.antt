@@ -1,4 +1,4 @@
--- Reading in pieces by the table of codes is reading; and the loops over a piece. Assumes nothing.
+-- Only the code's way needs this. Reading in pieces by the table of codes is reading; and the loops over a piece. Assumes nothing.
 use Prim.Native.Nat.{ℕ, zero, suc, _+_, _-_, _<_, _≤_}
 use mathlib.Core.Path.{_≡_, refl, sym, ap, _∙_}
 use mathlib.Core.Bool.{Bool, true, false, not}

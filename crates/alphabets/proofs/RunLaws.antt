@@ -1,4 +1,4 @@
--- Runs of bytes by their values in a lent table, and loops that put units into lent room. Assumes nothing.
+-- Only the code's way needs this. Runs of bytes by their values in a lent table, and loops that put units into lent room. Assumes nothing.
 use Prim.Native.Nat.{ℕ, suc, _+_, _-_, _<_, _≤_}
 use mathlib.Core.Path.{_≡_, refl, sym, ap, _∙_}
 use mathlib.Core.Bool.{Bool, true, false}

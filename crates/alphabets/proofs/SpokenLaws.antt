@@ -1,4 +1,4 @@
--- What a piece of a bank text stands for: run by run, piece behind piece, and by the alphabets. Assumes nothing.
+-- Only the code's way needs this. What a piece of a bank text stands for: run by run, piece behind piece, and by the alphabets. Assumes nothing.
 use Prim.Native.Nat.{ℕ, suc, _+_, _-_, _<_, _≤_}
 use mathlib.Core.Path.{_≡_, refl, sym, ap, _∙_, subst}
 use mathlib.Core.Bool.{Bool, true, false, not}

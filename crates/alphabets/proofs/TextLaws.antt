@@ -1,4 +1,4 @@
--- The ways out of the calls for a text alone, and texts without the sign. Assumes nothing.
+-- Only the code's way needs this. The ways out of the calls for a text alone, and texts without the sign. Assumes nothing.
 use Prim.Native.Nat.{ℕ, zero, suc, _<_, _≤_}
 use mathlib.Core.Path.{_≡_, refl, sym, ap, _∙_}
 use mathlib.Core.Bool.{Bool, true, false}

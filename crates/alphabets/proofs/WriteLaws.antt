@@ -1,4 +1,4 @@
--- How a desk text is written: the size and the text of what is left, over a Russian run and a Latin group, and the loops along them. Assumes nothing.
+-- Only the code's way needs this. How a desk text is written: the size and the text of what is left, over a Russian run and a Latin group, and the loops along them. Assumes nothing.
 use Prim.Native.Nat.{ℕ, zero, suc, _+_, _-_, _*_, _<_, _≤_}
 use mathlib.Core.Path.{_≡_, refl, sym, ap, _∙_}
 use mathlib.Core.Bool.{Bool, true, false, _&&_, false≢true}

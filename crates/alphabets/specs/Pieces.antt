@@ -1,4 +1,4 @@
--- A bank text read in pieces by a lent table, and its first signs (T4-T7). Assumes nothing.
+-- Only the code's way needs this. A bank text read in pieces by a lent table, and its first signs (T4-T7). Assumes nothing.
 use Prim.Native.Nat.{ℕ, zero, suc, _+_}
 use mathlib.Core.List.{List, [], _∷_}
 use mathlib.Core.Bool.{Bool, true, false, not}

@@ -1,4 +1,4 @@
--- Runs of bytes by their values in a lent table: how far one goes, and what it stands for on a side. Assumes nothing.
+-- Only the code's way needs this. Runs of bytes by their values in a lent table: how far one goes, and what it stands for on a side. Assumes nothing.
 use Prim.Native.Nat.{ℕ, suc}
 use mathlib.Core.List.{List, [], _∷_}
 use mathlib.Core.Bool.{Bool, true, false}

@@ -1,4 +1,4 @@
--- Words of the contracts of private functions, and the tables by which a bank text is read and a desk text written. Assumes nothing.
+-- Only the code's way needs this. Words of the contracts of private functions, and the tables by which a bank text is read and a desk text written. Assumes nothing.
 use Prim.Native.Nat.{ℕ, suc, _+_, _-_, _≤_}
 use mathlib.Core.Path.{_≡_}
 use mathlib.Core.List.{List, [], _∷_}
