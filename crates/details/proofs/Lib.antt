@@ -4,4 +4,5 @@ pub mod StepLaws
 pub mod LayLaws
 pub mod PlaceLaws
 pub mod DivisionTheorems
+pub mod OnceLaws
 pub mod Examples

@@ -48,6 +48,7 @@ use Rattle.values.proofs.GrammarLaws.{paid-values, paid-kopecks, paid-date}
 use Rattle.values.proofs.StepLaws.{first-field}
 use Rattle.listing.specs.declared.Span.the-variants.{Part, Nothing}
 use Rattle.listing.specs.Lists.{partAt}
+use Rattle.message.specs.Paid.{PaidIn}
 use Rattle.message.specs.Calls.{spanBy, spanOf, partOf, contentOf, paid, amountBy, amountOf, daySplit, dayBy, dayOf}
 use Rattle.message.specs.declared.Amount.the-variants as amounts
 use Rattle.message.specs.declared.Day.the-variants as told
@@ -181,24 +182,6 @@ sits-103 =
 sits-202 : Sits places202 2
 unfolding places103 places202 find
 sits-202 = record { below = omega arith; mandatory = refl; alone = λ t e. second (same t (bytes "20")) (same t (bytes "21")) (same t (bytes "32A")) (find (drop 3 places202) t) e }
-
--- ---- in an accepted message
-pub record PaidIn (form : Form) (m : List ℕ) : Type 0 where
-  -- the content of 32A is a line with these parts
-  pub line : Line
-  pub date : Text
-  pub currency : Text
-  pub whole : Text
-  pub decimals : Text
-  pub is : paid form m ≡ line
-  pub parts : Payment date currency whole decimals line
-  -- roubles
-  pub roubles : currency ≡ bytes "RUB"
-  -- the kopecks are the value of the digits before and behind the comma
-  pub amount : amountOf form m ≡ amounts.Is (kopecks whole decimals)
-  -- the date is a day of the calendar, and is told as year, month and day
-  pub calendar : OfCalendar (days.year date) (days.month date) (days.day date)
-  pub day : dayOf form m ≡ told.On (days.year date) (days.month date) (days.day date)
 
 -- ---- what the rules say of the parts
 abbrev paidValues : Text → Text → List values.Value

@@ -27,6 +27,7 @@ use Rattle.details.specs.declared.Place.the-variants.{In70, In72, BehindRpp}
 use Rattle.details.specs.declared.Size.{Size}
 use Rattle.details.specs.declared.Size.the-variants.{Bytes, Unfit}
 use Rattle.details.proofs.DivisionTheorems.{Fitted, fitted}
+use Rattle.alphabets.proofs.Theorems.{shortest-iff}
 use Rattle.writer.specs.Spread.{castParts, lineFor, told, rppLine, contentLines, fieldFor, spread}
 use Rattle.writer.specs.Sheet.{isUnfit, crowded, fieldsOf, messageFor, sheetRules}
 use Rattle.written.specs.Sentences.{OneByOne, Line, Told, Content, plain, payer, payee, agent, details, note103, note202, behindRpp, Made}
@@ -37,8 +38,8 @@ use Rattle.written.proofs.BuiltLaws.{AllPass, records-pass, built-field
 module _ (s : Bool) where
   one-line : (x : Part) → speaks s x ≡ true → Line s x (lineFor s x)
   one-line (copy p) e = refl
-  one-line (name p) e = said-is (writing s p) e
-  one-line (taxName p) e = said-is (writing s p) e
+  one-line (name p) e = shortest-iff s p (textOf (writing s p)) .0 (said-is (writing s p) e)
+  one-line (taxName p) e = shortest-iff s p (textOf (writing s p)) .0 (said-is (writing s p) e)
 
   line-by-line : (xs : List Part) → all (speaks s) xs ≡ true → OneByOne (Line s) xs (map (lineFor s) xs)
   line-by-line [] e = tt
@@ -58,7 +59,7 @@ module _ (s : Bool) where
           let w : Fitted place (codeSize s) (told s (vo ∷ text ∷ [])) n = fitted place (codeSize s) (told s (vo ∷ text ∷ [])) n f in
           record {
             spelt = textOf (writing s text);
-            writes = said-is (writing s text) e;
+            shortest = shortest-iff s text (textOf (writing s text)) .0 (said-is (writing s text) e);
             rows = w .ls;
             marks = ap (λ (a : _). marked (layout place) (linesOf a)) (w .is);
             joined = rows-join (w .division);

@@ -228,13 +228,6 @@ module _ (s out : List ℕ) (r : Outcome) (after : List ℕ) (g : MessageTo s ou
         go Fine f e = absurd (fine-broken n p e)
         go (Broken m q) f e = let k = same-broken e in (q, f ∙ ap (λ (j : ℕ). Broken j q) (k .0), sym (k .1))
 
-    -- written exactly if the message is accepted
-    pub exact-done : verdictOf (sheetForm s) (messageFor s) ≡ Fine → (r ≡ Done (length (messageFor s))) × (after ≡ over (messageFor s) out)
-    unfolding MessageTo
-    exact-done e =
-        let f : first (writeRules s out) ≡ Fine = own-alone ∙ ap atStart e in
-        (g .answers ∙ ap (λ (v : Verdict). outcome v (length (messageFor s))) f, g .leaves ∙ ap (λ (v : Verdict). room v (messageFor s) out) f)
-
   -- ---- a sheet that is written
   pub record Written (n : ℕ) : Type 0 where
     pub clean : Clean (sheetRules s)
@@ -252,3 +245,14 @@ module _ (s out : List ℕ) (r : Outcome) (after : List ℕ) (g : MessageTo s ou
       let c = write-rules s out (a .clean) in
       let k : Clean (sheetRules s) = rules-sheet s (c .sheet) in
       record { clean = k; count = a .count; room = enough (messageFor s) out (c .room); filled = a .filled; message-fine = own-fine s k (c .own); made = built-made s k }
+
+  -- written exactly if the message is accepted, where the sheet is fine and there is room
+  pub exact-done : Clean (sheetRules s) → length (messageFor s) ≤ length out
+      → (verdictOf (sheetForm s) (messageFor s) ≡ Fine) ↔ ((r ≡ Done (length (messageFor s))) × (after ≡ over (messageFor s) out))
+  unfolding MessageTo
+  exact-done c h = (
+    (λ e.
+    let f : first (writeRules s out) ≡ Fine = own-alone c h ∙ ap atStart e in
+    (g .answers ∙ ap (λ (v : Verdict). outcome v (length (messageFor s))) f, g .leaves ∙ ap (λ (v : Verdict). room v (messageFor s) out) f)),
+    λ w. written (length (messageFor s)) (w .0) .message-fine,
+  )

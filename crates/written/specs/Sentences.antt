@@ -12,7 +12,8 @@ use Rattle.base.specs.Choice.{all}
 use Rattle.base.specs.Bytes.{empty, xset}
 use Rattle.base.specs.Calls.{said}
 use Rattle.base.specs.declared.Verdict.the-variants.{Broken}
-use Rattle.alphabets.specs.Sentences.{canSay, FirstFails}
+use Rattle.alphabets.specs.Sentences.{canSay, FirstFails, Shortest}
+use Rattle.alphabets.specs.Sentences as texts
 use Rattle.alphabets.specs.Bank.{reading}
 use Rattle.alphabets.specs.Best.{writing}
 use Rattle.fields.specs.Field.{Field, field}
@@ -47,17 +48,17 @@ OneByOne P (x ∷ xs) [] = ⊥
 OneByOne P (x ∷ xs) (y ∷ ys) = P x y × OneByOne P xs ys
 
 -- ---- the fields made of records; s: with the sign
--- the line of a part: a copied part itself; for a name the text that D3 speaks of
+-- the line of a part: a copied part itself; for a name the shortest text that reads as it (D3)
 abbrev pub Line : Bool → Part → List ℕ → Type 0
 Line s (copy p) l = l ≡ p
-Line s (name p) l = writing s p ≡ said l
-Line s (taxName p) l = writing s p ≡ said l
+Line s (name p) l = Shortest s p l
+Line s (taxName p) l = Shortest s p l
 
--- details: their lines, the marks left out, are together the code and the text that D3 speaks of; they are a division, and each has the most
+-- details: their lines, the marks left out, are together the code and the shortest text for it (D3); they are a division, and each has the most
 -- that it lawfully can
 pub record Told (s : Bool) (place : Place) (vo text : List ℕ) (ls : List (List ℕ)) : Type 0 where
   pub spelt : List ℕ
-  pub writes : writing s text ≡ said spelt
+  pub shortest : Shortest s text spelt
   pub rows : List (List ℕ)
   pub marks : ls ≡ marked (layout place) rows
   pub joined : together rows ≡ code s vo ++ spelt
@@ -88,8 +89,8 @@ Writable s (taxName p) = (b : List ℕ) × (reading s b ≡ said p)
 -- a copied part is not, no bank text of any length does
 abbrev pub Unwritable : Bool → Part → Type 0
 Unwritable s (copy p) = all xset p ≡ false
-Unwritable s (name p) = (b : List ℕ) → reading s b ≡ said p → ⊥
-Unwritable s (taxName p) = (b : List ℕ) → reading s b ≡ said p → ⊥
+Unwritable s (name p) = texts.Unwritable s p
+Unwritable s (taxName p) = texts.Unwritable s p
 
 abbrev pub canWrite : Bool → Part → ℕ → Bool
 canWrite s (copy p) x = xset x
