@@ -5,7 +5,7 @@ use mathlib.Core.List.{List, [], _∷_}
 use mathlib.Core.Bool.{Bool, true, false}
 use native.Mathlib.Omega.{arith}
 use borrow.Author.Tests.{ne-eqb}
-use Rattle.alphabets.specs.Grid.{Kind, unwritable, russian, latin, common, kind, spell, allowed, sign}
+use Rattle.alphabets.specs.Grid.{Kind, unwritable, russian, latin, common, kind, spell, allowed}
 use Rattle.base.specs.Calls.{said}
 use Rattle.alphabets.specs.Bank.{after, reads}
 use Rattle.alphabets.specs.Best.{latinNext, sideFor, cross, best, Spot, nowhere, at, behind, spotAfter, bad}

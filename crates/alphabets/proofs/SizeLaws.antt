@@ -10,7 +10,6 @@ use Rattle.base.specs.Choice.{pick}
 use Rattle.base.specs.Bytes.{xset}
 use Rattle.base.specs.Calls.{Answer, said, stuck, textOf, Gives}
 use Rattle.base.specs.declared.Outcome.{Outcome}
-use Rattle.base.specs.declared.Outcome.the-variants.{Done, Refused}
 use Rattle.base.proofs.CallLaws.{not-said}
 use Rattle.alphabets.specs.Grid.{kind, spell, sign}
 use Rattle.alphabets.specs.Bank.{past, after, reads, plainly}

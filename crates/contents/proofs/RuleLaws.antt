@@ -1,15 +1,13 @@
 -- 8 in words, over the grammar; that no right content is empty; and where the sign stands (N8, T1). Assumes nothing.
 use Prim.Native.Nat.{ℕ, suc, _+_}
-use mathlib.Core.Path.{_≡_, refl, sym, ap, _∙_, subst}
+use mathlib.Core.Path.{_≡_, refl, sym, ap, _∙_}
 use mathlib.Core.Bool.{Bool, true, false, _&&_, _||_, false≢true}
 use mathlib.Core.List.{List, [], _∷_, _++_}
 use mathlib.Core.Logic.{_↔_}
 use native.Mathlib.Omega.{arith}
-use lib.Dec.{eqb}
-use lib.ListN.{length, drop}
-use borrow.Author.Tests.{eqb-true, eqb-false}
+use lib.ListN.{drop}
 use Rattle.base.specs.Choice.{pick, all}
-use Rattle.base.specs.Bytes.{begins, empty, without, same}
+use Rattle.base.specs.Bytes.{begins, same}
 use Rattle.base.specs.Quoted.{bytes}
 use Rattle.base.specs.Says.{Not}
 use Rattle.base.specs.declared.Verdict.the-variants.{Fine, Broken}
@@ -18,9 +16,7 @@ use Rattle.base.proofs.RuleLaws.{fine-broken}
 use Rattle.base.proofs.SaysLaws.{is-so}
 use Rattle.fields.specs.Field.{Field, field, lined, linesOf, fields}
 use Rattle.fields.specs.Places.{sizeOf, startOf, nextOf}
-use Rattle.fields.specs.ByLines.{joined}
 use Rattle.fields.proofs.PlaceLaws.{size-append}
-use Rattle.fields.proofs.ContentLaws.{lines-joined}
 use Rattle.types.specs.declared.Form.{Form}
 use Rattle.types.specs.declared.Form.the-variants.{Other, Mt103, Mt202}
 use Rattle.types.specs.Form.{Place, must, placesOf, places103, places202}
@@ -28,7 +24,6 @@ use Rattle.types.specs.Walk.{find, walked}
 use Rattle.types.specs.Sign.{firstLine, signOf}
 use Rattle.types.proofs.WalkLaws.{Seated, Accepted, seated, walked-accepted}
 use Rattle.contents.specs.Tags.{heldBy, RightField}
-use Rattle.contents.specs.Tests as tests
 use Rattle.contents.specs.Rule8.{firstWrong, rightField, rule8, EachRight, FirstWrong}
 use Rattle.contents.proofs.FieldTests.{right-says}
 

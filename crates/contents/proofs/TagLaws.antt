@@ -3,8 +3,6 @@ use Prim.Native.Nat.{ℕ}
 use mathlib.Core.Path.{_≡_, refl, sym, ap, _∙_}
 use mathlib.Core.Bool.{Bool, true, false}
 use mathlib.Core.List.{List, [], _∷_, _++_}
-use lib.Dec.{eqb}
-use borrow.Author.Tests.{eqb-true, eqb-false, eq-eqb, ne-eqb}
 use Rattle.base.specs.Choice.{pick}
 use Rattle.base.specs.Bytes.{same}
 use Rattle.base.specs.Quoted.{bytes}
@@ -16,7 +14,7 @@ use Rattle.types.specs.declared.Form.the-variants.{Other, Mt103, Mt202}
 use Rattle.types.specs.Form.{Place, placesOf, places103, places202}
 use Rattle.types.specs.Tables as tables
 use Rattle.contents.specs.declared.Content.the-variants as holds
-use Rattle.contents.specs.Tags.{Tag, tag, tags103, tags202, heldIn, tagsOf, heldBy}
+use Rattle.contents.specs.Tags.{Tag, tag, tags103, tags202, heldIn, tagsOf}
 
 -- ---- a tag that is none of them
 abbrev pub NoneOf : ℕ → List Tag → Type 0

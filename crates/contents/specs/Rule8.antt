@@ -1,9 +1,9 @@
 -- 8: the first field that isn't right, by its content's start (N8, O1). Assumes nothing.
 use Prim.Native.Nat.{ℕ, _+_}
 use mathlib.Core.Path.{_≡_}
-use mathlib.Core.Bool.{Bool, true, false}
+use mathlib.Core.Bool.{Bool}
 use mathlib.Core.List.{List, [], _∷_, _++_}
-use Rattle.base.specs.Choice.{pick, all}
+use Rattle.base.specs.Choice.{pick}
 use Rattle.base.specs.Says.{Not}
 use Rattle.base.specs.declared.Verdict.{Verdict}
 use Rattle.base.specs.declared.Verdict.the-variants.{Fine, Broken}

@@ -1,12 +1,12 @@
 -- B4 fixes the lines: of one text, within one list of widths, one division gives each line the most that it can lawfully have. Assumes nothing.
-use Prim.Native.Nat.{ℕ, suc, _≤_, _<_}
+use Prim.Native.Nat.{ℕ, _≤_}
 use mathlib.Core.Path.{_≡_, refl, sym, ap, ap₂, _∙_}
-use mathlib.Core.Bool.{Bool, true, false≢true}
+use mathlib.Core.Bool.{Bool, true}
 use mathlib.Core.List.{List, [], _∷_, _++_, append-nil}
 use native.Mathlib.Omega.{arith}
 use lib.ListN.{length, length-append}
 use Rattle.base.specs.Bytes.{byte}
-use Rattle.details.specs.Lines.{together, Later, none, line, Division, lines, Most, rest, full}
+use Rattle.details.specs.Lines.{together, Later, line, Division, lines, Most, full}
 
 -- the byte behind a text
 byte-behind : (k : List ℕ) (x : ℕ) (r : List ℕ) → byte (k ++ x ∷ r) (length k) ≡ x

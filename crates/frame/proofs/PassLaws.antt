@@ -20,7 +20,7 @@ use Rattle.base.proofs.RuleLaws.{then-under, then-clean}
 use Rattle.fields.specs.Field.{Field, tagOf, body, lines, upto, fields}
 use Rattle.fields.specs.Frame.{scan, rule2, rule3, lineBad, badLine, rule4}
 use Rattle.fields.specs.Places.{nextOf, colonsOf}
-use Rattle.fields.specs.Shapes.{ended, shaped, pack, unpack, packed}
+use Rattle.fields.specs.Shapes.{ended, shaped, pack, packed}
 use Rattle.fields.specs.ByLines.{colonsAt, byFields, byLines}
 use Rattle.fields.proofs.FrameLaws.{rule2-fine, framed-long, body-ended}
 use Rattle.fields.proofs.TagLaws.{head-tag}

@@ -13,7 +13,7 @@ use Rattle.base.specs.declared.Verdict.{Verdict}
 use Rattle.base.specs.declared.Verdict.the-variants.{Broken}
 use Rattle.base.proofs.SaysLaws.{says-so, says-not, says-same}
 use Rattle.alphabets.specs.Steps.{codes}
-use Rattle.fields.specs.Field.{Field, field, fields, linesOf}
+use Rattle.fields.specs.Field.{Field, fields, linesOf}
 use Rattle.fields.specs.Frame.{limit}
 use Rattle.fields.specs.Places.{sizeOf, startOf, nextOf}
 use Rattle.fields.specs.Shapes.{unpack}

@@ -8,12 +8,12 @@ use native.Mathlib.Omega.{arith}
 use native.Mathlib.Decide.{decLt}
 use lib.Dec.{eqb}
 use lib.ListN.{length, drop}
-use borrow.Author.Tests.{eqb-true, eqb-false}
+use borrow.Author.Tests.{eqb-true}
 use Rattle.base.specs.Choice.{pick, all}
-use Rattle.base.specs.Bytes.{same, empty, isIn}
+use Rattle.base.specs.Bytes.{same, isIn}
 use Rattle.base.specs.Quoted.{bytes}
 use Rattle.base.specs.declared.Verdict.{Verdict}
-use Rattle.base.specs.declared.Verdict.the-variants.{Fine, Broken}
+use Rattle.base.specs.declared.Verdict.the-variants.{Fine}
 use Rattle.base.proofs.Bools.{left, right}
 use Rattle.base.proofs.ByteLaws.{same-is}
 use Rattle.base.proofs.RuleLaws.{fine-broken, then-clean}
@@ -33,7 +33,7 @@ use Rattle.contents.specs.declared.Content.the-variants as holds
 use Rattle.contents.specs.Words.{Text, Line}
 use Rattle.contents.specs.Lines.{Payment}
 use Rattle.contents.specs.Fields.{IsPayment, One, Right}
-use Rattle.contents.specs.Tags.{tags103, tags202, heldIn, heldBy}
+use Rattle.contents.specs.Tags.{tags103, tags202, heldBy}
 use Rattle.contents.specs.Rule8.{rightField}
 use Rattle.contents.proofs.RuleLaws.{field-says}
 use Rattle.values.specs.Values as values
@@ -41,7 +41,6 @@ use Rattle.values.specs.Values.{Kind, tag, valuesOf, valuesIn}
 use Rattle.values.specs.Judged.{firstBad, noDay, foreign}
 use Rattle.values.specs.Answers.{dateOf, kopecksOf, faultOf, answered}
 use Rattle.values.specs.Day as days
-use Rattle.values.specs.Money.{kopecks}
 use Rattle.values.specs.Sentences.{OfCalendar}
 use Rattle.values.proofs.DayLaws.{day-iff}
 use Rattle.values.proofs.GrammarLaws.{paid-values, paid-kopecks, paid-date}

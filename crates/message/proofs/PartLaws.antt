@@ -7,7 +7,7 @@ use native.Mathlib.Omega.{arith}
 use lib.Dec.{eqb}
 use lib.ListN.{length-append}
 use Rattle.base.specs.Choice.{pick, all}
-use Rattle.base.specs.Bytes.{empty, same}
+use Rattle.base.specs.Bytes.{empty}
 use Rattle.base.specs.Quoted.{bytes}
 use Rattle.base.specs.declared.Verdict.{Verdict}
 use Rattle.base.specs.declared.Verdict.the-variants.{Fine, Broken}

@@ -14,7 +14,7 @@ use Rattle.base.proofs.RuleLaws.{fine-broken}
 use Rattle.fields.specs.Field.{fields}
 use Rattle.fields.specs.Places.{listed}
 use Rattle.types.specs.declared.Form.{Form}
-use Rattle.types.specs.Form.{Place, formOf, placesOf, places103, places202}
+use Rattle.types.specs.Form.{Place, placesOf, places103, places202}
 use Rattle.types.specs.Walk.{optional}
 use Rattle.types.proofs.WalkLaws.{placeAt}
 use Rattle.types.proofs.WordLaws.{placeOfField, Present, placed, Sound}

@@ -9,7 +9,7 @@ use lib.ListN.{length, take, drop, length-append, length-drop, drop-of-length-le
 use lib.Seq.{take-append-seam, length-take-le}
 use native.Mathlib.Nat.{zero-add}
 use native.Mathlib.Numerals.{add-one}
-use borrow.Author.Tests.{eq-eqb, ne-eqb, eqb-true, eqb-false}
+use borrow.Author.Tests.{eq-eqb, ne-eqb}
 use Rattle.base.specs.Choice.{pick, all}
 use Rattle.base.specs.Bytes.{byte, capital, without}
 use Rattle.base.specs.Calls.{placed, Puts}
@@ -28,7 +28,6 @@ use Rattle.fields.proofs.PlaceLaws.{field-bytes, laid-joined}
 use Rattle.types.specs.declared.Form.{Form}
 use Rattle.types.specs.declared.Form.the-variants.{Other}
 use Rattle.types.specs.Walk.{rule18}
-use Rattle.types.proofs.TableLaws.{rule18-iff}
 use Rattle.fields.specs.Lines.{linesIn}
 use Rattle.fields.proofs.ContentLaws.{lines-joined}
 use Rattle.fields.proofs.PlaceLaws.{joined-length}

@@ -1,5 +1,5 @@
 -- What a field becomes on a sheet: its lines read, and the record that they make (S2, T7, T12, Cdetails, C72). Assumes nothing.
-use Prim.Native.Nat.{ℕ, _+_, _/_, _%_}
+use Prim.Native.Nat.{ℕ, _+_}
 use mathlib.Core.Bool.{Bool, true, false}
 use mathlib.Core.List.{List, [], _∷_, _++_, map}
 use lib.ListN.{take, drop}

@@ -9,7 +9,7 @@ use lib.Dec.{eqb}
 use lib.ListN.{length, length-append}
 use borrow.Author.Tests.{eqb-true}
 use Rattle.base.specs.Choice.{pick, all}
-use Rattle.base.specs.Bytes.{byte, begins, empty, digit, xset, same}
+use Rattle.base.specs.Bytes.{begins, empty, digit, xset, same}
 use Rattle.base.specs.Quoted.{bytes}
 use Rattle.base.proofs.Bools.{left, right, both, isnt}
 use Rattle.alphabets.proofs.Theorems.{plain-iff, no-shorter}

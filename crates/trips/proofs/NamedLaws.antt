@@ -1,31 +1,27 @@
 -- Rule 8 lets pass names that are written again: those of 50K, 59, 58D, 56D and 57D (C50K, C59, C58D, C56D, C57D). Assumes nothing.
 use Prim.Native.Nat.{ℕ, _≤_}
 use mathlib.Core.Path.{_≡_, refl, sym, ap, _∙_, subst}
-use mathlib.Core.Bool.{Bool, true, false, true≢false, false≢true}
+use mathlib.Core.Bool.{Bool, true, false, true≢false}
 use mathlib.Core.Logic.{inl, inr}
 use mathlib.Core.List.{List, [], _∷_, map}
 use native.Mathlib.Omega.{arith}
-use lib.Dec.{eqb}
 use lib.ListN.{length, length-map}
-use borrow.Author.Tests.{eqb-true}
 use Rattle.types.specs.declared.Form.{Form}
 use Rattle.base.specs.Choice.{pick}
-use Rattle.base.specs.Bytes.{begins, empty, digit}
-use Rattle.base.specs.Quoted.{bytes}
-use Rattle.base.specs.Says.{Says}
-use Rattle.base.proofs.Bools.{left, right}
-use Rattle.base.proofs.SaysLaws.{is-so, says-by}
+use Rattle.base.specs.Bytes.{begins, empty}
+use Rattle.base.proofs.Bools.{right}
+use Rattle.base.proofs.SaysLaws.{is-so}
 use Rattle.fields.specs.Field.{field}
 use Rattle.contents.specs.declared.Content.{Content}
 use Rattle.contents.specs.declared.Content.the-variants as holds
 use Rattle.contents.specs.Lines.{Name}
-use Rattle.contents.specs.Fields.{LooksTax, IsAccount, Each, Names, BankByName, Beside, Customer, Payer, Right}
+use Rattle.contents.specs.Fields.{IsAccount, Each, Names, BankByName, Beside, Customer, Payer, Right}
 use Rattle.contents.specs.Tags.{heldBy}
 use Rattle.contents.specs.Rule8.{rightField}
 use Rattle.contents.proofs.RuleLaws.{field-says}
 use Rattle.contents.proofs.LineTests.{begins-says, looks-says}
 use Rattle.contents.proofs.FieldLaws.{tax-looks}
-use Rattle.contents.specs.Tests.{looksTax, starts}
+use Rattle.contents.specs.Tests.{looksTax}
 use Rattle.roles.specs.Role.{copy, name, taxName, taxed, cast, shapeFor, shapeOf}
 use Rattle.roles.specs.declared.Shape.the-variants as shape
 use Rattle.written.specs.Sentences.{Every}

@@ -25,12 +25,11 @@ use Rattle.contents.specs.Parts.{taxInn, taxKpp}
 use Rattle.contents.proofs.RuleLaws.{field-says}
 use Rattle.values.specs.Values.{Kind, tag, tax, Value, at, placeOf, kindOf, moved, rppDates, ofFirst, taxes, customerTaxes, payerTaxes, noteDates, valuesOf, valuesIn}
 use Rattle.values.specs.Judged.{firstBad, has, noDay, foreign, apart, kppIn, is26T, is56, is57, is77B, without57, taxWhole, taxBroken, rule9, rule10, rule11, rule12, rule13}
-use Rattle.roles.specs.Role.{Part, shapeFor, shapeOf, copy, name, taxName, taxed, cast}
+use Rattle.roles.specs.Role.{shapeFor, shapeOf, copy, name, taxName, taxed, cast}
 use Rattle.roles.specs.Speech.{codeSize}
 use Rattle.roles.specs.declared.Shape.{Shape}
 use Rattle.roles.specs.declared.Shape.the-variants.{Plain, Payer, Payee, Agent, Details, Note103, Note202}
-use Rattle.details.specs.Layouts.{linesFor}
-use Rattle.details.specs.declared.Place.the-variants.{In72, BehindRpp}
+use Rattle.details.specs.declared.Place.the-variants.{In72}
 use Rattle.written.specs.Sentences.{Every}
 use Rattle.writer.specs.Spread.{told, rppLine, noteLines, contentLines}
 use Rattle.writer.specs.Sheet.{crowded}

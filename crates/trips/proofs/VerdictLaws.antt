@@ -6,7 +6,6 @@ use mathlib.Core.List.{List, [], _∷_, map, tail}
 use native.Mathlib.Omega.{arith}
 use lib.Dec.{eqb}
 use lib.ListN.{length, length-append}
-use Rattle.base.specs.Examples.{_also_}
 use Rattle.base.specs.Choice.{pick, all}
 use Rattle.base.specs.Bytes.{empty}
 use Rattle.base.specs.declared.Verdict.the-variants.{Fine, Broken}

@@ -19,7 +19,7 @@ use Rattle.types.specs.declared.Form.{Form}
 use Rattle.types.specs.declared.Form.the-variants.{Other, Mt103, Mt202}
 use Rattle.types.specs.Form.{Place, must, may, formOf, typeOf, places103, places202, placesOf}
 use Rattle.types.specs.Walk.{among, isOf, find, skips, wrong, rule18}
-use Rattle.fields.specs.Shapes.{shaped, pack, unpack}
+use Rattle.fields.specs.Shapes.{unpack}
 use Rattle.types.specs.Tables.{most, tagsOf, tagTable, mustTable, TablesOf, told, toldFrom, findFrom, stepIn, missing, StepFor}
 use Rattle.types.specs.declared.Step.{Step}
 use Rattle.base.proofs.ByteLaws.{same-is}

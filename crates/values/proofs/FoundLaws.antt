@@ -25,11 +25,11 @@ use Rattle.contents.specs.declared.whole.Held.the-variants as held
 use Rattle.contents.specs.declared.whole.Bank.{Bank}
 use Rattle.contents.specs.declared.whole.Bank.the-variants as bank
 use Rattle.contents.specs.Words.{Text, Line}
-use Rattle.contents.specs.Fields.{Then, Any, In72, Right, One}
+use Rattle.contents.specs.Fields.{Then, Any, In72, Right}
 use Rattle.contents.specs.Parts.{paidDate, paidCurrency}
 use Rattle.contents.specs.Answers.{cut, RppWith, BesideSaid, Behind, CustomerSaid, Bare, PayerSaid, IsA, BicSaid, NameSaid, isHeld, isBank, LineOf}
 use Rattle.contents.proofs.LineTests.{begins-says}
-use Rattle.contents.proofs.RightLaws.{customer-is, payer-is, bic-is, name-is, not-one}
+use Rattle.contents.proofs.RightLaws.{customer-is, payer-is, bic-is, name-is}
 use Rattle.values.specs.Day.{realDay}
 use Rattle.values.specs.Values as kinds
 use Rattle.values.specs.Values.{Kind, date, tax, Value, at, payment, rppDates, parties, ofFirst, taxes, customerTaxes, payerTaxes, noteDates, valuesOf}

@@ -11,7 +11,6 @@ use Rattle.base.specs.Bytes.{begins}
 use Rattle.fields.specs.Field.{Field, field}
 use Rattle.fields.specs.Places.{sizeOf, startOf, nextOf}
 use Rattle.fields.specs.ByLines.{joined}
-use Rattle.fields.proofs.FieldLaws.{laid-size}
 use Rattle.fields.proofs.PlaceLaws.{joined-length}
 use Rattle.types.specs.declared.Form.{Form}
 use Rattle.types.proofs.WalkLaws.{after}

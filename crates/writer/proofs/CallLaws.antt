@@ -5,7 +5,6 @@ use mathlib.Core.Bool.{Bool, true, false}
 use mathlib.Core.List.{List, [], _∷_, tail}
 use native.Mathlib.Omega.{arith}
 use native.Mathlib.Nat.{zero-add}
-use lib.Dec.{eqb}
 use lib.ListN.{length, take, drop}
 use Rattle.base.specs.Choice.{pick}
 use Rattle.base.specs.Bytes.{same, upTo}
@@ -14,8 +13,7 @@ use Rattle.base.specs.Rules.{then, first}
 use Rattle.base.specs.Calls.{Answer, said, stuck, over, placed, Gives}
 use Rattle.base.specs.declared.Verdict.{Verdict}
 use Rattle.base.specs.declared.Verdict.the-variants.{Fine, Broken}
-use Rattle.base.proofs.Bools.{pick-same}
-use Rattle.base.proofs.RuleLaws.{fine-broken, then-clean, first-append, clean-first}
+use Rattle.base.proofs.RuleLaws.{fine-broken, then-clean, first-append}
 use Rattle.base.proofs.Room.{over-sets, puts-put}
 use Rattle.base.proofs.CallLaws.{is-long, not-long, gives-refused, gives-on}
 use Rattle.fields.specs.Field.{field, opening, message}
@@ -23,8 +21,8 @@ use Rattle.fields.specs.Frame.{limit, rule1}
 use Rattle.types.specs.declared.Form.{Form}
 use Rattle.types.specs.declared.Form.the-variants.{Other, Mt103, Mt202}
 use Rattle.types.specs.Walk.{rule18}
-use Rattle.contents.specs.Tags.{tags103, tags202, heldIn, heldBy}
-use Rattle.roles.specs.Role.{Part, cast, shapeFor, shapeOf, lineOf}
+use Rattle.contents.specs.Tags.{tags103, tags202, heldBy}
+use Rattle.roles.specs.Role.{Part, cast, shapeOf, lineOf}
 use Rattle.roles.specs.declared.Shape.{Shape}
 use Rattle.roles.specs.declared.Shape.the-variants.{Plain}
 use Rattle.records.specs.Record.{Record, line, recordOf, records}

@@ -14,7 +14,6 @@ use Rattle.base.proofs.ByteLaws.{is-filled}
 use Rattle.base.proofs.Room.{puts-put}
 use Rattle.alphabets.specs.Bank.{plainly}
 use Rattle.fields.specs.Field.{laid}
-use Rattle.fields.specs.Frame.{limit}
 use Rattle.roles.specs.Speech.{codeSize}
 use Rattle.roles.specs.declared.Shape.the-variants.{Note202}
 use Rattle.records.specs.Found.{piecesAt}

@@ -4,12 +4,11 @@ use Prim.Native.Nat.{ℕ}
 use mathlib.Core.Path.{_≡_, refl, sym, ap, _∙_}
 use mathlib.Core.Bool.{Bool, true, false}
 use mathlib.Core.List.{List, [], _∷_, map, tail}
-use lib.Dec.{eqb}
 use Rattle.base.specs.Choice.{pick, all}
 use Rattle.base.specs.Bytes.{begins, same, isIn, digit, capital, letter, marks, shared, xset}
 use Rattle.base.specs.Quoted.{bytes}
 use Rattle.base.specs.declared.Verdict.the-variants.{Fine}
-use Rattle.base.proofs.Bools.{left, right, both, isnt, pick-same, all-append}
+use Rattle.base.proofs.Bools.{left, right, both, isnt, all-append}
 use Rattle.base.proofs.ByteLaws.{digit-set, capital-set, same-is}
 use Rattle.base.proofs.RuleLaws.{Clean}
 use Rattle.fields.specs.Field.{Field, field, linesOf, fields}
@@ -21,8 +20,8 @@ use Rattle.fields.proofs.TagLaws.{Shape as TagShape, plain, lettered, shape-of}
 use Rattle.types.specs.declared.Form.{Form}
 use Rattle.types.specs.declared.Form.the-variants.{Other, Mt103, Mt202}
 use Rattle.types.specs.Sign.{firstLine, signOf}
-use Rattle.contents.specs.Tags.{tags103, tags202, heldIn, heldBy}
-use Rattle.roles.specs.Role.{shapeFor, shapeOf, copy, cast}
+use Rattle.contents.specs.Tags.{tags103, tags202, heldBy}
+use Rattle.roles.specs.Role.{shapeOf, copy, cast}
 use Rattle.roles.specs.declared.Shape.{Shape}
 use Rattle.roles.specs.declared.Shape.the-variants.{Plain}
 use Rattle.records.specs.Record.{Record, records}

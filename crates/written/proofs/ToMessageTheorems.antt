@@ -8,9 +8,8 @@ use mathlib.Core.Logic.{_↔_, inl, inr}
 use native.Mathlib.Omega.{arith}
 use lib.Dec.{eqb, ltb}
 use lib.ListN.{length}
-use borrow.Author.Tests.{ltb-true, eqb-false, ne-eqb}
+use borrow.Author.Tests.{ltb-true, ne-eqb}
 use Rattle.base.specs.Choice.{pick}
-use Rattle.base.specs.Bytes.{empty}
 use Rattle.base.specs.Rules.{then, first}
 use Rattle.base.specs.Calls.{long, short, outcome, over, room, Gives}
 use Rattle.base.specs.declared.Verdict.{Verdict}
@@ -252,7 +251,7 @@ module _ (s out : List ℕ) (r : Outcome) (after : List ℕ) (g : MessageTo s ou
   unfolding MessageTo
   exact-done c h = (
     (λ e.
-    let f : first (writeRules s out) ≡ Fine = own-alone c h ∙ ap atStart e in
-    (g .answers ∙ ap (λ (v : Verdict). outcome v (length (messageFor s))) f, g .leaves ∙ ap (λ (v : Verdict). room v (messageFor s) out) f)),
+        let f : first (writeRules s out) ≡ Fine = own-alone c h ∙ ap atStart e in
+        (g .answers ∙ ap (λ (v : Verdict). outcome v (length (messageFor s))) f, g .leaves ∙ ap (λ (v : Verdict). room v (messageFor s) out) f)),
     λ w. written (length (messageFor s)) (w .0) .message-fine,
   )

@@ -15,7 +15,6 @@ use Rattle.base.specs.declared.Verdict.the-variants.{Broken}
 use Rattle.alphabets.specs.Sentences.{canSay, FirstFails, Shortest}
 use Rattle.alphabets.specs.Sentences as texts
 use Rattle.alphabets.specs.Bank.{reading}
-use Rattle.alphabets.specs.Best.{writing}
 use Rattle.fields.specs.Field.{Field, field}
 use Rattle.fields.specs.Frame.{limit}
 use Rattle.roles.specs.Role.{shapeOf, Part, copy, name, taxName, lineOf, cast}

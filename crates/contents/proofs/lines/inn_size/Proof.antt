@@ -1,6 +1,6 @@
 -- `contents::lines::inn_size` meets its contract. Assumes nothing.
 use mathlib.Core.Path.{sym, _∙_}
-use mathlib.Core.Bool.{true, false, false≢true}
+use mathlib.Core.Bool.{false≢true}
 use mathlib.Core.Logic.{inl, inr}
 use borrow.Author.Tests.{not-true, not-false}
 use Rattle.contents.proofs.TaxLaws.{inn-by-10, inn-by-12, inn-by-none}

@@ -1,9 +1,7 @@
 -- `judge::facts::is_kpp` meets its contract. Assumes nothing.
-use Prim.Native.Nat.{ℕ}
-use mathlib.Core.Path.{sym, ap, ap₂, _∙_}
+use mathlib.Core.Path.{sym, ap, _∙_}
 use mathlib.Core.Bool.{Bool, _&&_, and-false, and-true}
 use borrow.Author.Tests.{not-true, not-false}
-use lib.Dec.{eqb}
 use Rattle.base.specs.Bytes.{same}
 use Rattle.fields.specs.Shapes.{unpack}
 use Rattle.fields.proofs.PackLaws.{same-unpack}

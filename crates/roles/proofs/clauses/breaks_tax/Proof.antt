@@ -1,7 +1,6 @@
 -- `roles::clauses::breaks_tax` meets its contract: the first two clauses, then the third. Assumes nothing.
 use mathlib.Core.Path.{refl, ap, _∙_}
 use mathlib.Core.Bool.{true}
-use mathlib.Core.List.{[], _∷_}
 use Rattle.base.proofs.Flags.{pick-yes, pick-no}
 use Rattle.contents.specs.Tests.{looksTax}
 use Rattle.roles.specs.Rule14.{isInn}

@@ -4,8 +4,6 @@ use Rattle.roles.specs.Role.{shapeFor}
 use borrow.Author.Needs.{needs}
 use Rattle.roles.proofs.shapes.shape_for.Statement.{statement}
 use Rattle.roles.proofs.shapes.shape_for.Tie as tie
-use Rattle.roles.proofs.shapes.shape_for.Reads as reads
-use Rattle.roles.proofs.shapes.shape_for.Lts as lts
 
 -- src/shapes.rt:13:29
 enum-told : tie.Need-enum-told

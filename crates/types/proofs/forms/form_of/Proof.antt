@@ -1,5 +1,4 @@
 -- `types::forms::form_of` meets its contract, type by type. Assumes nothing.
-use Prim.Native.Nat.{ℕ}
 use mathlib.Core.Path.{sym, ap}
 use borrow.Author.Tests.{ne-eqb}
 use Rattle.types.specs.Form.{formOf}

@@ -4,7 +4,6 @@ use mathlib.Core.Path.{sym, ap, _∙_}
 use mathlib.Core.Bool.{false}
 use Rattle.fields.specs.Lines.{linesIn}
 use Rattle.values.specs.Steps.{madeOf, finds, bankFound}
-use Rattle.values.specs.declared.Found.the-variants.{Has}
 use borrow.Author.Needs.{needs}
 use Rattle.values.proofs.findings.bank_found.Statement.{statement}
 use Rattle.values.proofs.findings.bank_found.Tie as tie
