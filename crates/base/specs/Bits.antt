@@ -1,4 +1,4 @@
--- The bits of a word, counted from the lowest (K3). Assumes nothing.
+-- The bits of a word, counted from the lowest (K1). Assumes nothing.
 use Prim.Native.Nat.{ℕ, _/_, _%_, _^_}
 use lib.Dec.{ltb}
 use Rattle.base.specs.Choice.{pick}

@@ -1,4 +1,4 @@
--- The fields found line by line, as code goes: where they open, and a walk over them (F4, F5, K2). Assumes nothing.
+-- The fields found line by line, as code goes: where they open, and a walk over them (F4, F5, K1). Assumes nothing.
 use Prim.Native.Nat.{ℕ, _+_, _-_, _*_}
 use mathlib.Core.Path.{_≡_}
 use mathlib.Core.Bool.{true}

@@ -1,4 +1,4 @@
--- The rules of the frame, the bytes and the lines: 1 to 4 (F1-F3, F6, N1-N4). Assumes nothing.
+-- The rules of the frame, the bytes and the lines: 1 to 4 (F1-F5, N1-N4). Assumes nothing.
 use Prim.Native.Nat.{ℕ, suc, _+_, _-_}
 use mathlib.Core.Bool.{Bool, true, false, not, _&&_, _||_}
 use mathlib.Core.List.{List, [], _∷_}

@@ -1,4 +1,4 @@
--- Where the fields of a message stand: sums over the fields before (F5, K2). Assumes nothing.
+-- Where the fields of a message stand: sums over the fields before (F6, K1). Assumes nothing.
 use Prim.Native.Nat.{ℕ, _+_, _-_}
 use mathlib.Core.List.{List, [], _∷_}
 use lib.ListN.{length}

@@ -1,4 +1,4 @@
--- What 2, 3 and 4 say, in sentences: the frame, the bad bytes, the bad lines (F1-F3, F6, N2-N4). Assumes nothing.
+-- What 2, 3 and 4 say, in sentences: the frame, the bad bytes, the bad lines (F1-F5, N2-N4). Assumes nothing.
 use Prim.Native.Nat.{ℕ, zero, suc, _+_, _<_}
 use mathlib.Core.Path.{_≡_}
 use mathlib.Core.Bool.{Bool, true, false, not, _&&_}

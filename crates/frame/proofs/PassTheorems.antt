@@ -1,4 +1,4 @@
--- What the pass promises, said of the definitions that its contract cites (O1, N1-N7, N18, K3). Assumes nothing.
+-- What the pass promises, said of the definitions that its contract cites (O1, N1-N7, N18, K1). Assumes nothing.
 use Prim.Native.Nat.{ℕ, _+_, _≤_}
 use mathlib.Core.Path.{_≡_, refl, sym, ap, _∙_, subst}
 use mathlib.Core.List.{List}

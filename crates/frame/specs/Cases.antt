@@ -1,4 +1,4 @@
--- Worked examples of the pass, as one list (O1, N2-N7, N18, K3). That they hold is proved in proofs/Examples.antt. Assumes nothing.
+-- Worked examples of the pass, as one list (O1, N2-N7, N18, K1). That they hold is proved in proofs/Examples.antt. Assumes nothing.
 use Prim.Native.Nat.{ℕ}
 use Prim.Native.String.{String}
 use mathlib.Core.Path.{_≡_}

@@ -1,4 +1,4 @@
--- What the quick pass finds in a message: its refusal by 18 and 1 to 7, or its fields' places and their word (O1, K3). Assumes nothing.
+-- What the quick pass finds in a message: its refusal by 18 and 1 to 7, or its fields' places and their word (O1, K1). Assumes nothing.
 use Prim.Native.Nat.{ℕ, _-_}
 use mathlib.Core.List.{List, [], _∷_, _++_}
 use lib.ListN.{length}

@@ -1,4 +1,4 @@
--- The walk over the fields: 18, then 5, 6 and 7 at the first faulty field, and the word of the places present (F7, N5-N7, N18, K3). Assumes nothing.
+-- The walk over the fields: 18, then 5, 6 and 7 at the first faulty field, and the word of the places present (P1, N5-N7, N18, K1). Assumes nothing.
 use Prim.Native.Nat.{ℕ, suc, _+_, _^_}
 use mathlib.Core.Bool.{Bool, true, false, not, _||_}
 use mathlib.Core.List.{List, [], _∷_}
