@@ -5,7 +5,7 @@ use mathlib.Core.Logic.{_↔_}
 use Prim.Native.Nat.{ℕ}
 use native.Mathlib.Omega.{arith}
 use Rattle.base.specs.Examples.{AllHold}
-use Rattle.base.specs.Rules.{then, first}
+use Rattle.base.specs.Rules.{then, first, Clean, FirstOf}
 use Rattle.base.specs.declared.Verdict.{Verdict}
 use Rattle.base.specs.declared.Verdict.the-variants.{Fine, Broken}
 
@@ -44,11 +44,6 @@ first-holds P f [] h = f
 first-holds P f (Fine ∷ vs) h = first-holds P f vs (h .1)
 first-holds P f (Broken n p ∷ vs) h = h .0
 
--- no entry is broken
-abbrev pub Clean : List Verdict → Type 0
-Clean [] = Unit {0}
-Clean (v ∷ vs) = (v ≡ Fine) × Clean vs
-
 pub clean-first : (vs : List Verdict) → Clean vs → first vs ≡ Fine
 clean-first [] h = refl
 clean-first (v ∷ vs) h = ap (λ (w : Verdict). then w (first vs)) (h .0) ∙ clean-first vs (h .1)
@@ -61,13 +56,6 @@ first-clean (Broken n p ∷ vs) e = absurd (fine-broken n p (sym e))
 -- accepted exactly if no entry is broken
 pub accepted-iff : (vs : List Verdict) → (first vs ≡ Fine) ↔ Clean vs
 accepted-iff vs = (first-clean vs, clean-first vs)
-
--- the entry with this number and place is broken, and no entry before it
-pub record FirstOf (vs : List Verdict) (n p : ℕ) : Type 0 where
-  pub before : List Verdict
-  pub behind : List Verdict
-  pub list : vs ≡ before ++ Broken n p ∷ behind
-  pub clean : Clean before
 
 pub first-broken : (vs : List Verdict) (n p : ℕ) → first vs ≡ Broken n p → FirstOf vs n p
 first-broken [] n p e = absurd (fine-broken n p e)

@@ -22,10 +22,11 @@ use Rattle.types.specs.declared.Form.the-variants.{Other, Mt103, Mt202}
 use Rattle.types.specs.Form.{Place, must, placesOf, places103, places202}
 use Rattle.types.specs.Walk.{find, walked}
 use Rattle.types.specs.Sign.{firstLine, signOf}
-use Rattle.types.proofs.WalkLaws.{Seated, Accepted, seated, walked-accepted}
+use Rattle.types.proofs.WalkLaws.{seated, walked-accepted}
 use Rattle.contents.specs.Tags.{heldBy, RightField}
 use Rattle.contents.specs.Rule8.{firstWrong, rightField, rule8, EachRight, FirstWrong}
 use Rattle.contents.proofs.FieldTests.{right-says}
+use Rattle.types.specs.Sentences.{Seated, Accepted}
 
 -- ---- the test of a field is exact
 pub field-says : (form : Form) (sign : Bool) (f : Field) → (rightField form sign f ≡ true) ↔ RightField form sign f

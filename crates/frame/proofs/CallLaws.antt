@@ -18,12 +18,13 @@ use Rattle.types.specs.Form.{placesOf}
 use Rattle.types.specs.Walk.{walked}
 use Rattle.types.specs.Tables.{most, padded}
 use Rattle.types.proofs.TableLaws.{few-places, no-places, some-places}
-use Rattle.types.proofs.WalkLaws.{AllRight, walked-accepted}
-use Rattle.types.proofs.WordLaws.{Sound, walked-sound}
+use Rattle.types.proofs.WalkLaws.{walked-accepted}
+use Rattle.types.proofs.WordLaws.{walked-sound}
 use Rattle.frame.specs.declared.Frame.{Frame}
 use Rattle.frame.specs.Frame.{refusal, wordOf, capacity, spotsOf, bare, frameBy, frameOf}
 use Rattle.frame.proofs.PassLaws.{body567, bare-broken}
 use Rattle.frame.proofs.RuleLaws.{frame-rules}
+use Rattle.types.specs.Sentences.{AllRight, Sound}
 
 -- ---- a message that is not refused
 pub record Taken (form : Form) (m : List ℕ) : Type 0 where

@@ -33,10 +33,11 @@ use Rattle.types.specs.Walk.{find, skips, wrong, walk, walked, word}
 use Rattle.types.specs.Tables.{padded, StepFor}
 use Rattle.types.specs.declared.Step.{Step}
 use Rattle.types.proofs.TableLaws.{few-places}
-use Rattle.types.proofs.WalkLaws.{Seated, wrong-seated}
+use Rattle.types.proofs.WalkLaws.{wrong-seated}
 use Rattle.frame.specs.Frame.{capacity, wordOf, spotsOf, bare, frameBy}
 use Rattle.frame.specs.Rest.{rest, Tail, Line, after3, after4}
 use Rattle.frame.proofs.RunLaws.{line-scan, line-lines, line-next, rest-end}
+use Rattle.types.specs.Sentences.{Seated}
 
 -- ---- the walk and the word, line by line
 abbrev walkEnd : List Place → ℕ → ℕ → Verdict

@@ -8,15 +8,16 @@ use lib.Count.{ones}
 use lib.ListN.{length}
 use Rattle.base.specs.Bits.{bit}
 use Rattle.base.specs.declared.Verdict.the-variants.{Fine, Broken}
-use Rattle.base.proofs.RuleLaws.{Clean, FirstOf, accepted-iff, refused-iff}
+use Rattle.base.proofs.RuleLaws.{accepted-iff, refused-iff}
 use Rattle.base.proofs.CallLaws.{one-answer}
 use Rattle.fields.specs.Field.{fields}
 use Rattle.types.specs.declared.Form.{Form}
 use Rattle.types.specs.Form.{placesOf}
-use Rattle.types.proofs.WordLaws.{Present}
+use Rattle.base.specs.Rules.{Clean, FirstOf}
 use Rattle.frame.specs.declared.Frame.{Frame}
 use Rattle.frame.specs.Frame.{frameRules, refusal, capacity, frameOf}
 use Rattle.frame.proofs.CallLaws.{taken, verdict-is, found, fields-counted}
+use Rattle.types.specs.Sentences.{Present}
 
 -- any two outcomes are equal
 pub frame-one : (form : Form) (m : List ℕ) {f g : Frame} → f ≡ frameOf form m → g ≡ frameOf form m → f ≡ g

@@ -18,7 +18,7 @@ use Rattle.fields.proofs.FieldLaws.{fields-lineable, fields-dash}
 use Rattle.fields.proofs.PlaceLaws.{size-append}
 use Rattle.types.specs.declared.Form.{Form}
 use Rattle.types.specs.Sign.{signOf}
-use Rattle.types.proofs.WalkLaws.{after}
+use Rattle.types.specs.Sentences.{after}
 use Rattle.frame.specs.Frame.{refusal}
 use Rattle.frame.proofs.CallLaws.{Taken, taken}
 use Rattle.frame.proofs.SmallLaws.{Small, refusal-small}

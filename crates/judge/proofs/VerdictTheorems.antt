@@ -5,10 +5,10 @@ use mathlib.Core.Bool.{true}
 use mathlib.Core.List.{List}
 use mathlib.Core.Logic.{_↔_}
 use Rattle.base.specs.Choice.{all}
-use Rattle.base.specs.Rules.{then, first}
+use Rattle.base.specs.Rules.{then, first, Clean, FirstOf}
 use Rattle.base.specs.declared.Verdict.{Verdict}
 use Rattle.base.specs.declared.Verdict.the-variants.{Fine, Broken}
-use Rattle.base.proofs.RuleLaws.{then-clean, Clean, FirstOf, accepted-iff, refused-iff}
+use Rattle.base.proofs.RuleLaws.{then-clean, accepted-iff, refused-iff}
 use Rattle.base.proofs.CallLaws.{one-answer}
 use Rattle.fields.specs.Field.{fields}
 use Rattle.types.specs.declared.Form.{Form}

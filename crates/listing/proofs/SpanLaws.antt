@@ -18,8 +18,8 @@ use Rattle.fields.specs.ByLines.{startAt, listedBy}
 use Rattle.types.specs.declared.Form.{Form}
 use Rattle.types.specs.Form.{Place, placesOf}
 use Rattle.types.specs.Walk.{find, word, present}
-use Rattle.types.proofs.WalkLaws.{AllRight}
-use Rattle.types.proofs.WordLaws.{placeOfField, rises, Present, present-iff, word-bit, ones-before}
+use Rattle.types.specs.Sentences.{AllRight, placeOfField, Present}
+use Rattle.types.proofs.WordLaws.{rises, present-iff, word-bit, ones-before}
 use Rattle.listing.specs.declared.Span.{Span}
 use Rattle.listing.specs.declared.Span.the-variants.{Part, Nothing}
 use Rattle.listing.specs.Lists.{partAt}

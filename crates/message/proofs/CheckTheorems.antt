@@ -1,5 +1,5 @@
 -- What the calls promise, said of the definitions that their contracts cite (O1, N17, K1-K4). Assumes nothing.
-use Prim.Native.Nat.{ℕ, _+_, _-_, _*_, _%_, _^_, _≤_, _<_}
+use Prim.Native.Nat.{ℕ, _+_, _-_, _*_, _%_, _^_, _<_}
 use mathlib.Core.Path.{_≡_, refl, sym, ap, ap₂, _∙_, subst}
 use mathlib.Core.Bool.{Bool, true, false, true≢false}
 use mathlib.Core.List.{List, []}
@@ -8,13 +8,13 @@ use native.Mathlib.Omega.{arith}
 use lib.Count.{ones}
 use lib.ListN.{length, take, drop, List·getD-append}
 use lib.Seq.{drop-at}
-use Rattle.base.specs.Rules.{first}
+use Rattle.base.specs.Rules.{first, Clean, FirstOf}
 use Rattle.base.specs.Bits.{bit}
 use Rattle.base.specs.Bytes.{byte, empty}
 use Rattle.base.specs.Calls.{short, over, room}
 use Rattle.base.specs.declared.Verdict.{Verdict}
 use Rattle.base.specs.declared.Verdict.the-variants.{Fine, Broken}
-use Rattle.base.proofs.RuleLaws.{then-clean, first-last, Clean, first-clean, FirstOf, accepted-iff, refused-iff}
+use Rattle.base.proofs.RuleLaws.{then-clean, first-last, first-clean, accepted-iff, refused-iff}
 use Rattle.base.proofs.CallLaws.{one-answer, enough}
 use Rattle.fields.specs.Field.{fields}
 use Rattle.fields.specs.Places.{listed}
@@ -22,7 +22,7 @@ use Rattle.fields.proofs.PlaceLaws.{listed-length}
 use Rattle.types.specs.declared.Form.{Form}
 use Rattle.types.specs.Form.{placesOf}
 use Rattle.types.specs.Walk.{present}
-use Rattle.types.proofs.WordLaws.{placeOfField, Present, present-iff, ones-before}
+use Rattle.types.proofs.WordLaws.{present-iff, ones-before}
 use Rattle.message.specs.declared.Checked.{Checked}
 use Rattle.message.specs.declared.Checked.the-variants.{Accepted, Refused}
 use Rattle.listing.specs.declared.Span.{Span}
@@ -32,12 +32,13 @@ use Rattle.judge.specs.Message.{messageRules, verdictOf}
 use Rattle.listing.specs.Lists.{partAt}
 use Rattle.message.specs.declared.Amount.{Amount}
 use Rattle.message.specs.declared.Day.{Day}
-use Rattle.message.specs.Calls.{checkRules, checkedBy, Checks, spanBy, spanOf, partOf, contentOf, amountOf, dayOf}
+use Rattle.message.specs.Calls.{checkRules, checkedBy, Checks, Listed, spanBy, spanOf, partOf, contentOf, amountOf, dayOf}
 use Rattle.message.proofs.PartLaws.{content-some}
 use Rattle.frame.proofs.CallLaws.{taken}
 use Rattle.judge.proofs.VerdictTheorems.{frame-clean}
 use Rattle.listing.proofs.SpanLaws.{part-absent, part-listed}
 use Rattle.listing.proofs.SpanLaws as spans
+use Rattle.types.specs.Sentences.{placeOfField, Present}
 
 -- ---- any two outcomes are equal, lent units counted
 pub checks-one : {form : Form} {m list : List ℕ} {r s : Checked} {a b : List ℕ} → Checks form m list r a → Checks form m list s b → (r ≡ s) × (a ≡ b)
@@ -52,19 +53,6 @@ same-refused {n} {p} {k} {q} e = let a : n ≡ k = cc in let b : p ≡ q = cc in
 
 not-both : (n w k p : ℕ) → Accepted n w ≡ Refused k p → ⊥
 not-both n w k p e = let z : _≡_ {A = ℕ} 0 1 = cc in omega arith
-
--- an accepted call: no rule is broken; the numbers and the word are the fields', the list begins with theirs and is as it was behind
-pub record Listed (form : Form) (m list : List ℕ) (n w : ℕ) (after : List ℕ) : Type 0 where
-  pub clean : Clean (checkRules form m list)
-  pub message-clean : verdictOf form m ≡ Fine
-  pub count : n ≡ length (fields m)
-  pub word-is : w ≡ wordOf form m
-  pub as-many-ones : ones w ≡ n
-  pub bits : (i : ℕ) → (bit w i ≡ 1) ↔ Present (placesOf form) (fields m) i
-  pub few : n ≤ length (placesOf form)
-  pub room : 3 * n ≤ length list
-  pub filled : after ≡ over (listed 5 (fields m)) list
-  pub behind : drop (3 * n) after ≡ drop (3 * n) list
 
 module _ (form : Form) (m list : List ℕ) where
   both-fine : first (checkRules form m list) ≡ Fine → (verdictOf form m ≡ Fine) × (short (listed 5 (fields m)) list ≡ Fine)

@@ -26,8 +26,8 @@ use Rattle.types.specs.declared.Form.the-variants.{Other, Mt103, Mt202}
 use Rattle.types.specs.Form.{Place, placesOf, places103, places202}
 use Rattle.types.specs.Walk.{find, optional, rule18}
 use Rattle.types.specs.Sign.{signOf}
-use Rattle.types.proofs.WalkLaws.{placeAt, Seated, Accepted, seated, walked-accepted}
-use Rattle.types.proofs.WordLaws.{Present}
+use Rattle.types.proofs.WalkLaws.{seated, walked-accepted}
+use Rattle.types.specs.Sentences.{placeAt, Seated, Accepted, Present}
 use Rattle.contents.specs.declared.Content.{Content}
 use Rattle.contents.specs.declared.Content.the-variants as holds
 use Rattle.contents.specs.Words.{Text, Line}

@@ -1,10 +1,13 @@
 -- The calls on a message (N17, K1-K3). Assumes nothing.
-use Prim.Native.Nat.{ℕ, _-_, _/_, _%_, _≤_}
+use Prim.Native.Nat.{ℕ, _-_, _*_, _/_, _%_, _≤_}
 use mathlib.Core.Path.{_≡_}
 use mathlib.Core.List.{List, [], _∷_, _++_}
+use mathlib.Core.Logic.{_↔_}
+use lib.Count.{ones}
 use lib.ListN.{length, take, drop}
-use Rattle.base.specs.Rules.{first}
-use Rattle.base.specs.Calls.{short, room}
+use Rattle.base.specs.Rules.{first, Clean}
+use Rattle.base.specs.Bits.{bit}
+use Rattle.base.specs.Calls.{short, over, room}
 use Rattle.base.specs.Quoted.{bytes}
 use Rattle.base.specs.declared.Verdict.{Verdict}
 use Rattle.base.specs.declared.Verdict.the-variants.{Fine, Broken}
@@ -13,6 +16,7 @@ use Rattle.fields.specs.Places.{listed}
 use Rattle.types.specs.declared.Form.{Form}
 use Rattle.types.specs.Form.{placesOf}
 use Rattle.types.specs.Walk.{find}
+use Rattle.types.specs.Sentences.{Present}
 use Rattle.frame.specs.Frame.{wordOf}
 use Rattle.listing.specs.declared.Span.{Span}
 use Rattle.listing.specs.declared.Span.the-variants.{Part, Nothing}
@@ -47,6 +51,19 @@ leftOf form m list = room (first (checkRules form m list)) (listed 5 (fields m))
 pub record Checks (form : Form) (m list : List ℕ) (r : Checked) (after : List ℕ) : Type 0 where
   pub answers : r ≡ answerOf form m list
   pub leaves : after ≡ leftOf form m list
+
+-- an accepted call: no rule is broken; the numbers and the word are the fields', the list begins with theirs and is as it was behind
+pub record Listed (form : Form) (m list : List ℕ) (n w : ℕ) (after : List ℕ) : Type 0 where
+  pub clean : Clean (checkRules form m list)
+  pub message-clean : verdictOf form m ≡ Fine
+  pub count : n ≡ length (fields m)
+  pub word-is : w ≡ wordOf form m
+  pub as-many-ones : ones w ≡ n
+  pub bits : (i : ℕ) → (bit w i ≡ 1) ↔ Present (placesOf form) (fields m) i
+  pub few : n ≤ length (placesOf form)
+  pub room : 3 * n ≤ length list
+  pub filled : after ≡ over (listed 5 (fields m)) list
+  pub behind : drop (3 * n) after ≡ drop (3 * n) list
 
 -- ---- the part of a place, and its bytes
 abbrev pub spanBy : Verdict → Span → Span

@@ -16,7 +16,7 @@ use Rattle.base.proofs.BitLaws.{bit-0}
 use Rattle.fields.specs.Field.{fields}
 use Rattle.types.specs.declared.Form.{Form}
 use Rattle.types.specs.Form.{placesOf}
-use Rattle.types.proofs.WordLaws.{Present}
+use Rattle.types.specs.Sentences.{Present}
 use Rattle.frame.specs.declared.Frame.{Frame}
 use Rattle.frame.specs.Frame.{wordOf, frameBy}
 use Rattle.frame.proofs.CallLaws.{taken}

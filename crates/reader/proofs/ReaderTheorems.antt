@@ -16,8 +16,8 @@ use Rattle.fields.specs.Places.{listed}
 use Rattle.types.specs.declared.Form.{Form}
 use Rattle.types.specs.Form.{Place, placesOf, places103, places202}
 use Rattle.types.specs.Walk.{optional}
-use Rattle.types.proofs.WalkLaws.{placeAt}
-use Rattle.types.proofs.WordLaws.{placeOfField, Present, placed, Sound}
+use Rattle.types.specs.Sentences.{placeAt, placeOfField, Present, Sound}
+use Rattle.types.proofs.WordLaws.{placed}
 use Rattle.types.proofs.TableLaws.{few-places, each-form, no-places}
 use Rattle.frame.proofs.CallLaws.{taken}
 use Rattle.listing.proofs.SpanLaws as spans

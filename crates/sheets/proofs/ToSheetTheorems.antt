@@ -5,13 +5,13 @@ use mathlib.Core.Path.{_≡_, refl, ap, _∙_, subst}
 use mathlib.Core.List.{List}
 use mathlib.Core.Logic.{_↔_}
 use lib.ListN.{length}
-use Rattle.base.specs.Rules.{first}
+use Rattle.base.specs.Rules.{first, Clean, FirstOf}
 use Rattle.base.specs.Calls.{outcome, over, Gives}
 use Rattle.base.specs.declared.Verdict.{Verdict}
 use Rattle.base.specs.declared.Verdict.the-variants.{Fine, Broken}
 use Rattle.base.specs.declared.Outcome.{Outcome}
 use Rattle.base.specs.declared.Outcome.the-variants.{Done, Refused}
-use Rattle.base.proofs.RuleLaws.{Clean, FirstOf, accepted-iff, refused-iff}
+use Rattle.base.proofs.RuleLaws.{accepted-iff, refused-iff}
 use Rattle.base.proofs.CallLaws.{gives-one, accepted, refused, is-short}
 use Rattle.fields.specs.Field.{fields}
 use Rattle.types.specs.declared.Form.{Form}

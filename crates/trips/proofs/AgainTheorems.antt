@@ -9,14 +9,14 @@ use native.Mathlib.Omega.{arith}
 use lib.ListN.{length, take, drop}
 use lib.Seq.{take-append-seam}
 use Rattle.types.specs.Form.{typeOf}
-use Rattle.base.specs.Rules.{then, first}
+use Rattle.base.specs.Rules.{then, first, Clean}
 use Rattle.base.specs.Calls.{short, outcome, over}
 use Rattle.base.specs.Calls.{room as left}
 use Rattle.base.specs.declared.Verdict.{Verdict}
 use Rattle.base.specs.declared.Verdict.the-variants.{Fine, Broken}
 use Rattle.base.specs.declared.Outcome.{Outcome}
 use Rattle.base.specs.declared.Outcome.the-variants.{Done, Refused}
-use Rattle.base.proofs.RuleLaws.{Clean, first-append, first-last, then-clean}
+use Rattle.base.proofs.RuleLaws.{first-append, first-last, then-clean}
 use Rattle.base.proofs.CallLaws.{accepted, not-short}
 use Rattle.fields.specs.Field.{Field, field, fields}
 use Rattle.fields.specs.Frame.{limit}

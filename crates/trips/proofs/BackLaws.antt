@@ -14,7 +14,7 @@ use Rattle.types.specs.Walk.{rule18}
 use Rattle.base.specs.Choice.{all, pick}
 use Rattle.base.specs.Bytes.{digit, same}
 use Rattle.base.specs.Quoted.{bytes}
-use Rattle.base.specs.Rules.{then, first}
+use Rattle.base.specs.Rules.{then, first, Clean}
 use Rattle.base.specs.Calls.{textOf, short, outcome, room}
 use Rattle.base.specs.declared.Verdict.{Verdict}
 use Rattle.base.specs.declared.Verdict.the-variants.{Fine}
@@ -22,7 +22,7 @@ use Rattle.base.specs.declared.Outcome.{Outcome}
 use Rattle.base.specs.declared.Outcome.the-variants.{Done, Refused}
 use Rattle.base.proofs.Bools.{left, right}
 use Rattle.base.proofs.ByteLaws.{digit-range}
-use Rattle.base.proofs.RuleLaws.{fine-broken, Clean, first-last}
+use Rattle.base.proofs.RuleLaws.{fine-broken, first-last}
 use Rattle.base.proofs.CallLaws.{is-short, not-short}
 use Rattle.alphabets.specs.Bank.{reading}
 use Rattle.alphabets.specs.Best.{writing}

@@ -10,13 +10,13 @@ use lib.ListN.{length, length-append}
 use Rattle.base.specs.Choice.{pick, all}
 use Rattle.base.specs.Bytes.{begins, empty, same, digit, capital, letter, shared, xset}
 use Rattle.base.specs.Quoted.{bytes}
-use Rattle.base.specs.Rules.{first}
+use Rattle.base.specs.Rules.{first, Clean}
 use Rattle.base.specs.Calls.{long}
 use Rattle.base.specs.declared.Verdict.{Verdict}
 use Rattle.base.specs.declared.Verdict.the-variants.{Fine, Broken}
 use Rattle.base.proofs.Bools.{left, right, both}
 use Rattle.base.proofs.ByteLaws.{same-is}
-use Rattle.base.proofs.RuleLaws.{fine-broken, Clean}
+use Rattle.base.proofs.RuleLaws.{fine-broken}
 use Rattle.base.proofs.CallLaws.{not-long, within-limit}
 use Rattle.alphabets.specs.Bank.{plainly}
 use Rattle.fields.specs.Field.{Field, field, laid, lined, linesOf, message, closing, fields}

@@ -10,7 +10,7 @@ use Rattle.base.specs.Choice.{pick, all}
 use Rattle.base.specs.Bytes.{empty}
 use Rattle.base.specs.declared.Verdict.the-variants.{Fine, Broken}
 use Rattle.base.proofs.Bools.{both}
-use Rattle.base.proofs.RuleLaws.{fine-broken, Clean}
+use Rattle.base.proofs.RuleLaws.{fine-broken}
 use Rattle.base.proofs.CallLaws.{not-long}
 use Rattle.fields.specs.Field.{Field, field, tagOf, closing, laid, lined, linesOf, message, fields}
 use Rattle.fields.specs.Frame.{limit, rule1}
@@ -44,6 +44,7 @@ use Rattle.trips.proofs.HeldLaws.{all-held}
 use Rattle.trips.proofs.RightLaws.{right-again}
 use Rattle.trips.proofs.ShortLaws.{right-short}
 use Rattle.trips.proofs.ValueLaws.{ReadyField, kinds-again, rule9-again, rule10-again, rule11-again, rule12-again, rule13-again}
+use Rattle.base.specs.Rules.{Clean}
 
 -- ---- 5 to 7: the walk sees tags alone
 pub walk-tags : (ps : List Place) (next o p : ℕ) (gs fs : List Field) → map tagOf gs ≡ map tagOf fs → walk ps next p fs ≡ Fine → walk ps next o gs ≡ Fine

@@ -19,7 +19,8 @@ use Rattle.fields.specs.Shapes.{unpack}
 use Rattle.types.specs.Tables.{most, toldAs, unpair, toldAt, toldFrom, told, findFrom, sought, stepIn, missing}
 use Rattle.types.specs.declared.Step.{Step}
 use Rattle.fields.proofs.PackLaws.{same-unpack}
-use Rattle.types.proofs.WalkLaws.{placeAt, Skipped, skips-iff, skips-not, not-skips, wrong-0, wrong-seated}
+use Rattle.types.proofs.WalkLaws.{skips-iff, skips-not, not-skips, wrong-0, wrong-seated}
+use Rattle.types.specs.Sentences.{placeAt, Skipped}
 
 -- ---- the places that tables stand for
 told-tags : (t : List ℕ) (m : Bool) (ts : List (List ℕ)) → isOf t (toldAs m ts) ≡ among t ts

@@ -24,8 +24,9 @@ use Rattle.types.specs.Tables.{most, tagsOf, tagTable, mustTable, Tables
 use Rattle.types.specs.declared.Step.{Step}
 use Rattle.base.proofs.ByteLaws.{same-is}
 use Rattle.fields.proofs.PackLaws.{unpack-pack}
-use Rattle.types.proofs.WalkLaws.{placeAt, Stands, find-stands, wrong-seated}
+use Rattle.types.proofs.WalkLaws.{find-stands, wrong-seated}
 use Rattle.types.proofs.StepLaws.{told-skips}
+use Rattle.types.specs.Sentences.{placeAt, Stands}
 
 -- ---- what holds of each form's places holds of any
 pub each-form : (P : List Place → Type 0) → P [] → P places103 → P places202 → (form : Form) → P (placesOf form)

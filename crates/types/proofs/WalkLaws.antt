@@ -6,7 +6,7 @@ use mathlib.Core.List.{List, [], _∷_, _++_, append-nil}
 use mathlib.Core.Logic.{_↔_}
 use native.Mathlib.Omega.{arith}
 use lib.Dec.{eqb, leb, ltb}
-use lib.ListN.{length, take, drop, getD}
+use lib.ListN.{length, take, drop}
 use borrow.Author.Tests.{eq-eqb, ne-eqb, eqb-true, eqb-false, leb-true, leb-false, ltb-true, ltb-false, le-leb, lt-leb, lt-ltb, le-ltb, not-true}
 use Rattle.base.specs.Choice.{pick, all}
 use Rattle.base.specs.declared.Verdict.the-variants.{Fine, Broken}
@@ -14,84 +14,9 @@ use Rattle.base.proofs.RuleLaws.{fine-broken, same-broken}
 use Rattle.fields.specs.Field.{Field, fields, tagOf}
 use Rattle.fields.specs.Places.{nextOf}
 use Rattle.types.specs.declared.Form.{Form}
-use Rattle.types.specs.Form.{Place, may, placesOf}
+use Rattle.types.specs.Form.{Place, placesOf}
 use Rattle.types.specs.Walk.{isOf, optional, find, skips, wrong, walk, walked}
-
--- ---- in words
--- the place at i; behind the last there is nothing that a message must have
-abbrev pub placeAt : List Place → ℕ → Place
-placeAt ps i = getD ps i (may [])
-
--- q is the first place with the tag
-pub record Stands (ps : List Place) (t : List ℕ) (q : ℕ) : Type 0 where
-  pub within : q < length ps
-  pub has : isOf t (placeAt ps q) ≡ true
-  pub before : (i : ℕ) → i < q → isOf t (placeAt ps i) ≡ false
-
--- no place has the tag
-abbrev pub Unknown : List Place → List ℕ → Type 0
-Unknown ps t = (i : ℕ) → isOf t (placeAt ps i) ≡ false
-
--- a mandatory place stands from next up to, not including, q
-pub record Skipped (ps : List Place) (next q : ℕ) : Type 0 where
-  pub at : ℕ
-  pub low : next ≤ at
-  pub high : at < q
-  pub mandatory : optional (placeAt ps at) ≡ false
-
--- what is wrong with a field of tag t, where the field before it stands just before place next
-pub data Judged (ps : List Place) (next : ℕ) (t : List ℕ) : ℕ → Type 0 where
-  unknown : Unknown ps t → Judged ps next t 5
-  notLater : (q : ℕ) → Stands ps t q → q < next → Judged ps next t 6
-  skipping : (q : ℕ) → Stands ps t q → next ≤ q → Skipped ps next q → Judged ps next t 7
-  right : (q : ℕ) → Stands ps t q → next ≤ q → (Skipped ps next q → ⊥) → Judged ps next t 0
-
--- nothing is wrong at place q
-pub record Seated (ps : List Place) (next q : ℕ) : Type 0 where
-  pub within : q < length ps
-  pub low : next ≤ q
-  pub free : Skipped ps next q → ⊥
-
--- each field is right behind the one before it
-abbrev pub AllRight : List Place → ℕ → List Field → Type 0
-AllRight ps next [] = Unit {0}
-AllRight ps next (f ∷ fs) = Judged ps next (tagOf f) 0 × AllRight ps (suc (find ps (tagOf f))) fs
-
--- the place behind the last field's, and where that field ends
-abbrev pub behind : List Place → ℕ → List Field → ℕ
-behind ps next [] = next
-behind ps next (f ∷ fs) = behind ps (suc (find ps (tagOf f))) fs
-
-abbrev pub after : ℕ → List Field → ℕ
-after o [] = o
-after o (f ∷ fs) = after (nextOf o f) fs
-
--- all fields are right, and no mandatory place is missing at the end
-pub record Accepted (ps : List Place) (next : ℕ) (fs : List Field) : Type 0 where
-  pub fine : AllRight ps next fs
-  pub whole : Skipped ps (behind ps next fs) (length ps) → ⊥
-
--- the first faulty field has its colon at p, and n is what is wrong with it
-pub record Faulty (ps : List Place) (next o : ℕ) (fs : List Field) (n p : ℕ) : Type 0 where
-  pub before : List Field
-  pub this : Field
-  pub rest : List Field
-  pub list : fs ≡ before ++ this ∷ rest
-  pub fine : AllRight ps next before
-  pub fault : Judged ps (behind ps next before) (tagOf this) n
-  pub faulty : n ≡ 0 → ⊥
-  pub colon : p ≡ after o before
-
--- all fields are right, a mandatory place is missing at the end, and the - stands at p
-pub record Missing (ps : List Place) (next o : ℕ) (fs : List Field) (n p : ℕ) : Type 0 where
-  pub fine : AllRight ps next fs
-  pub missing : Skipped ps (behind ps next fs) (length ps)
-  pub number : n ≡ 7
-  pub dash : p ≡ after o fs
-
-pub data Refused (ps : List Place) (next o : ℕ) (fs : List Field) (n p : ℕ) : Type 0 where
-  atField : Faulty ps next o fs n p → Refused ps next o fs n p
-  atEnd : Missing ps next o fs n p → Refused ps next o fs n p
+use Rattle.types.specs.Sentences.{placeAt, Stands, Unknown, Skipped, Judged, unknown, notLater, skipping, right, Seated, AllRight, behind, after, Accepted, Refused, atField, atEnd}
 
 -- ---- a tag's place
 -- where one place more stands in front

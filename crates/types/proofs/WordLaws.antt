@@ -9,28 +9,22 @@ use native.Mathlib.Decide.{decLt}
 use native.Mathlib.Nat.{add-zero, zero-mul, pow-suc}
 use lib.Count.{ones}
 use lib.Dec.{eqb}
-use lib.ListN.{length, take, getD, List·getD-eq-default}
+use lib.ListN.{length, take, List·getD-eq-default}
 use lib.Seq.{length-take-le}
 use lib.Pow.{pow-mono, pow-pos, low}
 use borrow.Author.Tests.{eq-eqb, eqb-true}
 use Rattle.base.specs.Choice.{pick}
 use Rattle.base.specs.declared.Verdict.the-variants.{Fine}
-use Rattle.fields.specs.Field.{Field, field, fields, tagOf}
+use Rattle.fields.specs.Field.{Field, fields, tagOf}
 use Rattle.types.specs.declared.Form.{Form}
 use Rattle.types.specs.Form.{Place, may, placesOf}
 use Rattle.types.specs.Walk.{optional, find, walk, walked, word, present}
 use Rattle.base.specs.Bits.{bit}
-use Rattle.types.proofs.WalkLaws.{placeAt, AllRight, behind, Accepted, seated, accepted-iff}
+use Rattle.types.proofs.WalkLaws.{seated, accepted-iff}
 use Rattle.base.proofs.BitLaws.{ones-0, ones-under, under, lower, bit-0, bit-under}
+use Rattle.types.specs.Sentences.{placeAt, AllRight, behind, Accepted, placeOfField, Present, Sound}
 
 -- ---- the fields of an accepted walk
-abbrev pub fieldAt : List Field → ℕ → Field
-fieldAt fs k = getD fs k (field [] [])
-
--- the place of field k
-abbrev pub placeOfField : List Place → List Field → ℕ → ℕ
-placeOfField ps fs k = find ps (tagOf (fieldAt fs k))
-
 pub few : (ps : List Place) (next : ℕ) (fs : List Field) → next ≤ length ps → AllRight ps next fs → next + length fs ≤ length ps
 few ps next [] h r = omega arith
 few ps next (f ∷ fs) h r =
@@ -69,11 +63,6 @@ alone ps next fs r j k h l e = go (decLt j k) (decLt k j)
     go (no a) (no b) = omega arith
 
 -- ---- the places present
-pub record Present (ps : List Place) (fs : List Field) (i : ℕ) : Type 0 where
-  pub number : ℕ
-  pub within : number < length fs
-  pub place : placeOfField ps fs number ≡ i
-
 -- one field has the place, so its content is the place's
 pub one-field : (ps : List Place) (next : ℕ) (fs : List Field) → AllRight ps next fs → (i : ℕ) (a b : Present ps fs i) → a .number ≡ b .number
 one-field ps next fs r i a b = alone ps next fs r (a .number) (b .number) (a .within) (b .within) (a .place ∙ sym (b .place))
@@ -207,15 +196,6 @@ bit-iff ps next fs r i = (λ e. present-to ps fs i (go (present ps fs i) (sym (w
     go false e = absurd (omega arith)
 
 -- ---- a walk that is accepted from the first place on
-pub record Sound (ps : List Place) (fs : List Field) : Type 0 where
-  pub few-fields : length fs ≤ length ps
-  pub later : (j k : ℕ) → j < k → k < length fs → placeOfField ps fs j < placeOfField ps fs k
-  pub own : (i : ℕ) (a b : Present ps fs i) → a .number ≡ b .number
-  pub all-needed : (i : ℕ) → optional (placeAt ps i) ≡ false → Present ps fs i
-  pub as-many : ones (word ps fs) ≡ length fs
-  pub below : word ps fs < 2 ^ length ps
-  pub bits : (i : ℕ) → (bit (word ps fs) i ≡ 1) ↔ Present ps fs i
-
 pub sound : (ps : List Place) (o : ℕ) (fs : List Field) → walk ps 0 o fs ≡ Fine → Sound ps fs
 sound ps o fs e =
     let a = accepted-iff ps 0 o fs .0 e in

@@ -1,4 +1,5 @@
 pub mod Form
 pub mod Walk
+pub mod Sentences
 pub mod Tables
 pub mod Sign

@@ -13,7 +13,7 @@ use Rattle.fields.specs.Places.{sizeOf, startOf, nextOf}
 use Rattle.fields.specs.ByLines.{joined}
 use Rattle.fields.proofs.PlaceLaws.{joined-length}
 use Rattle.types.specs.declared.Form.{Form}
-use Rattle.types.proofs.WalkLaws.{after}
+use Rattle.types.specs.Sentences.{after}
 use Rattle.contents.specs.declared.Content.{Content}
 use Rattle.contents.specs.declared.Content.the-variants as holds
 use Rattle.contents.specs.Words.{Text, Line, join}

@@ -4,11 +4,11 @@ use Prim.Native.Nat.{ℕ}
 use mathlib.Core.Path.{_≡_, sym, ap, ap₂, _∙_}
 use mathlib.Core.List.{List}
 use Rattle.base.specs.Examples.{AllHold}
-use Rattle.base.specs.Rules.{then, first}
+use Rattle.base.specs.Rules.{then, first, Clean}
 use Rattle.base.specs.Calls.{short}
 use Rattle.base.specs.declared.Verdict.{Verdict}
 use Rattle.base.specs.declared.Verdict.the-variants.{Fine}
-use Rattle.base.proofs.RuleLaws.{then-fine, then-clean, first-append, first-holds, Clean, first-clean, clean-first}
+use Rattle.base.proofs.RuleLaws.{then-fine, then-clean, first-append, first-holds, first-clean, clean-first}
 use Rattle.records.specs.Rule19.{sheetForm}
 use Rattle.writer.specs.Sheet.{handRules}
 use Rattle.writer.specs.Sheet.{messageFor, sheetRules, EachSheetRule, ownRule, writeRules, NoRefusal}

@@ -10,7 +10,7 @@ use Rattle.base.specs.Quoted.{bytes}
 use Rattle.base.specs.declared.Verdict.the-variants.{Fine}
 use Rattle.base.proofs.Bools.{left, right, both, isnt, all-append}
 use Rattle.base.proofs.ByteLaws.{digit-set, capital-set, same-is}
-use Rattle.base.proofs.RuleLaws.{Clean}
+use Rattle.base.specs.Rules.{Clean}
 use Rattle.fields.specs.Field.{Field, field, linesOf, fields}
 use Rattle.fields.specs.Frame.{rule2, rule3, rule4}
 use Rattle.fields.specs.Shapes.{shaped, proper}

@@ -9,7 +9,7 @@ use Rattle.base.specs.Choice.{pick, all}
 use Rattle.base.specs.Bytes.{empty}
 use Rattle.base.specs.Calls.{textOf}
 use Rattle.base.proofs.Bools.{left, right}
-use Rattle.base.proofs.RuleLaws.{Clean}
+use Rattle.base.specs.Rules.{Clean}
 use Rattle.alphabets.specs.Best.{writing}
 use Rattle.fields.specs.Field.{field, fields}
 use Rattle.roles.specs.Role.{shapeOf, Part, copy, name, taxName, cast}

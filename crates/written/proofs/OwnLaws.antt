@@ -11,7 +11,7 @@ use Rattle.base.specs.Choice.{pick}
 use Rattle.base.specs.Calls.{long}
 use Rattle.base.specs.declared.Verdict.{Verdict}
 use Rattle.base.specs.declared.Verdict.the-variants.{Fine, Broken}
-use Rattle.base.proofs.RuleLaws.{fine-broken, Clean}
+use Rattle.base.proofs.RuleLaws.{fine-broken}
 use Rattle.fields.specs.Field.{fields}
 use Rattle.fields.specs.Frame.{limit, rule1}
 use Rattle.fields.specs.Places.{startOf}
@@ -19,7 +19,7 @@ use Rattle.types.specs.declared.Form.{Form}
 use Rattle.types.specs.Form.{Place, placesOf}
 use Rattle.types.specs.Sign.{signOf}
 use Rattle.types.specs.Walk.{walked}
-use Rattle.types.proofs.WalkLaws.{Judged, unknown, notLater, skipping, right, Refused, atField, atEnd, walked-refused}
+use Rattle.types.proofs.WalkLaws.{walked-refused}
 use Rattle.contents.specs.Rule8.{rightField, rule8}
 use Rattle.contents.proofs.RuleLaws.{own-number}
 use Rattle.values.proofs.RuleLaws.{broken9, broken10, broken11, broken12, broken13}
@@ -32,6 +32,8 @@ use Rattle.writer.specs.Sheet.{messageFor, sheetRules, atStart, ownRule}
 use Rattle.writer.proofs.RuleLaws.{sheet-rules}
 use Rattle.written.proofs.BuiltLaws.{built-rule2, built-rule3, built-rule4, built-fields}
 use Rattle.written.proofs.TextLaws.{built-rule14}
+use Rattle.base.specs.Rules.{Clean}
+use Rattle.types.specs.Sentences.{Judged, unknown, notLater, skipping, right, Refused, atField, atEnd}
 
 -- ---- what is given has a number that one of the rules gives
 abbrev Gives : (ℕ → Type 0) → Verdict → Type 0

@@ -11,7 +11,7 @@ use Rattle.base.specs.Bytes.{empty, same}
 use Rattle.base.specs.Calls.{Answer, said, textOf}
 use Rattle.base.specs.declared.Verdict.the-variants.{Fine}
 use Rattle.base.proofs.Bools.{left, right, both, isnt, all-imp}
-use Rattle.base.proofs.RuleLaws.{Clean}
+use Rattle.base.specs.Rules.{Clean}
 use Rattle.alphabets.specs.Bank.{reading}
 use Rattle.alphabets.specs.Best.{writing}
 use Rattle.alphabets.proofs.Theorems.{reads-back}

@@ -10,13 +10,13 @@ use lib.Dec.{eqb, ltb}
 use lib.ListN.{length}
 use borrow.Author.Tests.{ltb-true, ne-eqb}
 use Rattle.base.specs.Choice.{pick}
-use Rattle.base.specs.Rules.{then, first}
+use Rattle.base.specs.Rules.{then, first, Clean, FirstOf}
 use Rattle.base.specs.Calls.{long, short, outcome, over, room, Gives}
 use Rattle.base.specs.declared.Verdict.{Verdict}
 use Rattle.base.specs.declared.Verdict.the-variants.{Fine, Broken}
 use Rattle.base.specs.declared.Outcome.{Outcome}
 use Rattle.base.specs.declared.Outcome.the-variants.{Done, Refused}
-use Rattle.base.proofs.RuleLaws.{fine-broken, same-broken, then-fine, Clean, first-clean, FirstOf, broken-first}
+use Rattle.base.proofs.RuleLaws.{fine-broken, same-broken, then-fine, first-clean, broken-first}
 use Rattle.base.proofs.CallLaws.{gives-one, accepted, refused, not-long, is-short, not-short, enough}
 use Rattle.fields.specs.Field.{fields}
 use Rattle.fields.specs.Frame.{limit}

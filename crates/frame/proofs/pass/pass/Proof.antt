@@ -16,11 +16,12 @@ use Rattle.fields.proofs.FrameLaws.{rule2-fine, framed-long}
 use Rattle.types.specs.Form.{placesOf}
 use Rattle.types.specs.Walk.{find, wrong}
 use Rattle.types.proofs.TableLaws.{few-places, missing-of-form}
-use Rattle.types.proofs.WalkLaws.{Seated, wrong-seated}
+use Rattle.types.proofs.WalkLaws.{wrong-seated}
 use Rattle.frame.specs.Rest.{Line}
 use Rattle.frame.proofs.PassLaws.{Going, begin, plain, opened, stepped, bare-broken, bare-after3, bare-after4, stop-3, stop-4, stop-5, on-line, on-field, finish, accept}
 use Rattle.frame.proofs.pass.pass.Statement.{statement}
 use Rattle.frame.proofs.pass.pass.Tie as tie
+use Rattle.types.specs.Sentences.{Seated}
 
 abbrev Inv-loop : tie.InvT-loop
 Inv-loop form t tags musts count m e spots₀ at₀ n₀ next₀ word₀ spots at n next word = Going form m spots at n next word
