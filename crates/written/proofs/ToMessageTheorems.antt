@@ -4,7 +4,7 @@ use Prim.Native.Nat.{ℕ, _<_, _≤_}
 use mathlib.Core.Path.{_≡_, refl, sym, ap, _∙_, subst}
 use mathlib.Core.Bool.{Bool, true, false}
 use mathlib.Core.List.{List, [], _∷_, _++_, tail}
-use mathlib.Core.Logic.{_↔_, inl, inr}
+use mathlib.Core.Logic.{_↔_, _⊎_, inl, inr}
 use native.Mathlib.Omega.{arith}
 use lib.Dec.{eqb, ltb}
 use lib.ListN.{length}
@@ -17,7 +17,7 @@ use Rattle.base.specs.declared.Verdict.the-variants.{Fine, Broken}
 use Rattle.base.specs.declared.Outcome.{Outcome}
 use Rattle.base.specs.declared.Outcome.the-variants.{Done, Refused}
 use Rattle.base.proofs.RuleLaws.{fine-broken, same-broken, then-fine, first-clean, broken-first}
-use Rattle.base.proofs.CallLaws.{gives-one, accepted, refused, not-long, is-short, not-short, enough}
+use Rattle.base.proofs.CallLaws.{gives-one, accepted, refused, is-long, not-long, is-short, not-short, enough}
 use Rattle.fields.specs.Field.{fields}
 use Rattle.fields.specs.Frame.{limit}
 use Rattle.types.specs.declared.Form.{Form}
@@ -127,24 +127,29 @@ module _ (s out : List ℕ) (p : ℕ) where
       (pick (eqb n 18) ((p ≡ 0) × NoType (sheetForm s))
       (pick (eqb n 15) (StuckAt (sheetForm s) (sheetSign s) 0 (records s) p)
       (pick (eqb n 16) ((p ≡ 0) × CrowdedIn (sheetForm s) (sheetSign s) (tail (records s)))
-      (pick (eqb n 17) ((p ≡ length (messageFor s)) × (length out < length (messageFor s))) (Unit {0})))))
+      (pick (eqb n 17) ((p ≡ length (messageFor s)) × (length out < length (messageFor s)))
+      (pick (eqb n 1) (((p ≡ limit) × (limit < length s)) ⊎ (p ≡ 0)) (Unit {0}))))))
 
-  tells-own : (n : ℕ) → n ≤ 13 → Tells n
-  tells-own n h =
-      rw (ne-eqb n 19 (λ e. omega arith), ne-eqb n 18 (λ e. omega arith), ne-eqb n 15 (λ e. omega arith), ne-eqb n 16 (λ e. omega arith), ne-eqb n 17 (λ e. omega arith)) tt
+  tells-own : (n : ℕ) → n ≤ 13 → p ≡ 0 → Tells n
+  tells-own n h z =
+      rw (ne-eqb n 19 (λ e. omega arith), ne-eqb n 18 (λ e. omega arith), ne-eqb n 15 (λ e. omega arith), ne-eqb n 16 (λ e. omega arith), ne-eqb n 17 (λ e. omega arith)) (go (eqb n 1))
+    where
+      go : (b : Bool) → pick b (((p ≡ limit) × (limit < length s)) ⊎ (p ≡ 0)) (Unit {0})
+      go true = inr z
+      go false = tt
 
   at-most : {n : ℕ} → Own n → n ≤ 13
   at-most (inl e) = omega arith
   at-most (inr h) = h .1
 
   tells : {n : ℕ} → Reason s out p n → Tells n
-  tells (why.over a b) = tt
+  tells (why.over a b) = inl (b, a)
   tells (why.against h) = h
   tells (why.typeless a b) = (b, a)
   tells (why.unsaid h) = h
   tells (why.crowded h a) = (a, h)
   tells (why.short a b) = (b, a)
-  tells (why.own {n} q h f z) = tells-own n (at-most h)
+  tells (why.own {n} q h f z) = tells-own n (at-most h) z
 
 -- ---- and each is given exactly then, where nothing earlier stands
 no-type : (form : Form) → NoType form → rule18 form ≡ Broken 18 0
@@ -170,6 +175,14 @@ module _ (s out : List ℕ) (r : Outcome) (after : List ℕ) (g : MessageTo s ou
 
   broken-at : (n p : ℕ) → FirstOf (writeRules s out) n p → r ≡ Refused n p
   broken-at n p f = given n p (broken-first (writeRules s out) n p f)
+
+  -- 1 at the limit exactly if the sheet is over it; a message over its own limit is 1 at 0 (exact-own)
+  pub exact-1 : (r ≡ Refused 1 limit) ↔ (limit < length s)
+  exact-1 = ((λ e. go (told 1 limit e)), (λ h. given 1 limit (rw (is-long limit s h))))
+    where
+      go : ((limit ≡ limit) × (limit < length s)) ⊎ (limit ≡ 0) → limit < length s
+      go (inl h) = h .1
+      go (inr z) = absurd (omega (arith, z))
 
   module _ (p : ℕ) where
     -- 19 exactly if a rule of the sheet is broken, at the first bad record
