@@ -1,9 +1,9 @@
 -- A message read and written again: its sheet is written, and the message then has the same sheet; or 16 refuses it, and then for field 70 of a
 -- 103 with the sign (D2e, K7, O2). The way from a sheet and back stands in BackLaws. Assumes nothing.
 use Prim.Native.Nat.{ℕ, _≤_}
-use mathlib.Core.Path.{_≡_, sym, ap, ap₂, _∙_, subst}
+use mathlib.Core.Path.{_≡_, refl, sym, ap, ap₂, _∙_, subst}
 use mathlib.Core.Bool.{Bool}
-use mathlib.Core.List.{List, [], _∷_, _++_}
+use mathlib.Core.List.{List, [], _∷_, _++_, map, tail}
 use mathlib.Core.Logic.{_⊎_, inl, inr}
 use native.Mathlib.Omega.{arith}
 use lib.ListN.{length, take, drop}
@@ -29,12 +29,15 @@ use Rattle.roles.specs.declared.Shape.the-variants.{Plain, Payer, Payee, Agent,
 use Rattle.judge.specs.Message.{messageRules, verdictOf}
 use Rattle.writer.specs.Sheet.{messageFor, sheetRules, atStart, ownRule, writeRules, MessageTo}
 use Rattle.writer.proofs.RuleLaws.{sheet-rules, rules-write}
-use Rattle.written.specs.Sentences.{Every}
-use Rattle.sheets.specs.Gather.{sheetOf}
+use Rattle.written.specs.Sentences.{Every, OneByOne}
+use Rattle.records.specs.Record.{records}
+use Rattle.sheets.specs.Gather.{recordFor, gather, sheetOf}
 use Rattle.sheets.specs.Calls.{readRules, SheetTo}
 use Rattle.trips.specs.Again.{Crowded70}
 use Rattle.trips.proofs.Held as held
-use Rattle.trips.proofs.Held.{Held, HeldField, LineByLine, Noted, Sheeted, SheetedField}
+use Rattle.trips.specs.Shown as shown
+use Rattle.trips.specs.Shown.{LineByLine, Shown}
+use Rattle.trips.proofs.Held.{Held, HeldField, Noted, Sheeted, SheetedField}
 use Rattle.trips.proofs.NameLaws.{sheeted-names}
 use Rattle.trips.proofs.ToldLaws.{sheeted-noted}
 use Rattle.trips.proofs.HeldLaws.{all-held}
@@ -44,10 +47,10 @@ use Rattle.trips.proofs.VerdictLaws.{verdict-again}
 
 -- ---- every shape goes line by line, or holds details or an RPP line
 either : (sh : Shape) → LineByLine sh ⊎ Noted sh
-either Plain = inl held.plain
-either Payer = inl held.payer
-either Payee = inl held.payee
-either Agent = inl held.agent
+either Plain = inl shown.plain
+either Payer = inl shown.payer
+either Payee = inl shown.payee
+either Agent = inl shown.agent
 either Details = inr held.details
 either Note103 = inr held.note103
 either Note202 = inr held.note202
@@ -64,6 +67,10 @@ module _ (form : Form) (s : Bool) where
   all-sheeted [] h = tt
   all-sheeted (field t ls ∷ fs) h = (one-sheeted t ls (h .0), all-sheeted fs (h .1))
 
+  all-shown : (fs : List Field) → Every (SheetedField form s) fs → OneByOne (Shown form s) fs (map (recordFor form s) fs)
+  all-shown [] h = tt
+  all-shown (field t ls ∷ fs) h = ((refl, h .0 .shows), all-shown fs (h .1))
+
 -- ---- an accepted message
 module _ (form : Form) (m : List ℕ) (e : verdictOf form m ≡ Fine) where
   each : Every (SheetedField form (signOf (fields m))) (fields m)
@@ -72,6 +79,11 @@ module _ (form : Form) (m : List ℕ) (e : verdictOf form m ≡ Fine) where
   -- the rules of writing let its sheet pass, or 16 refuses it, and then for field 70 of a 103 with the sign
   pub sheet-passes : Clean (sheetRules (sheetOf form m)) ⊎ ((first (sheetRules (sheetOf form m)) ≡ Broken 16 0) × Crowded70 form (signOf (fields m)) (fields m))
   sheet-passes = accepted-passes form m e each
+
+  -- each record of its sheet behind the first says what its field does
+  pub sheet-shows : OneByOne (Shown form (signOf (fields m))) (fields m) (tail (records (sheetOf form m)))
+  unfolding gather
+  sheet-shows = subst (OneByOne (Shown form (signOf (fields m))) (fields m)) (sym (accepted-records form m e each)) (all-shown form (signOf (fields m)) (fields m) each)
 
   pub sheet-size : length (sheetOf form m) ≤ limit
   sheet-size = accepted-size form m e each
@@ -132,12 +144,22 @@ module _ (form : Form) (m room : List ℕ) (e : verdictOf form m ≡ Fine) (r : 
       go (inl c) = passes g c
       go (inr f) = stops g (f .0) (f .1)
 
--- a message that was read, and the sheet that was left handed to `to_message`
-pub read-returns : (form : Form) (m out a : List ℕ) (n : ℕ) → SheetTo form m out (Done n) a → (room : List ℕ) (r : Outcome) (b : List ℕ) → MessageTo (take n a) room r b
-    → length (messageFor (take n a)) ≤ length room → Returns form m room r b
-unfolding SheetTo verdictOf
-read-returns form m out a n g room r b h k =
-    let w = accepted (readRules form m out) (sheetOf form m) out n a g in
-    let e : verdictOf form m ≡ Fine = then-clean (first (messageRules form m)) (short (sheetOf form m) out) (sym (first-last (messageRules form m) (short (sheetOf form m) out)) ∙ w .clean) .0 in
-    let t : take n a ≡ sheetOf form m = ap₂ (λ (i : ℕ) (x : List ℕ). take i x) (w .count) (w .filled) ∙ take-append-seam (sheetOf form m) (drop (length (sheetOf form m)) out) in
-    returns form m room e r b (subst (λ (x : List ℕ). length (messageFor x) ≤ length room) t k) (subst (λ (x : List ℕ). MessageTo x room r b) t h)
+-- a message that was read: it is accepted, and the sheet was left
+module _ (form : Form) (m out a : List ℕ) (n : ℕ) (g : SheetTo form m out (Done n) a) where
+  read-fine : (verdictOf form m ≡ Fine) × (take n a ≡ sheetOf form m)
+  unfolding SheetTo verdictOf
+  read-fine =
+      let w = accepted (readRules form m out) (sheetOf form m) out n a g in (
+        then-clean (first (messageRules form m)) (short (sheetOf form m) out) (sym (first-last (messageRules form m) (short (sheetOf form m) out)) ∙ w .clean) .0,
+        ap₂ (λ (i : ℕ) (x : List ℕ). take i x) (w .count) (w .filled) ∙ take-append-seam (sheetOf form m) (drop (length (sheetOf form m)) out),
+      )
+
+  -- each record left behind the first says what its field does
+  pub read-shows : OneByOne (Shown form (signOf (fields m))) (fields m) (tail (records (take n a)))
+  read-shows = subst (λ (x : List ℕ). OneByOne (Shown form (signOf (fields m))) (fields m) (tail (records x))) (sym (read-fine .1)) (sheet-shows form m (read-fine .0))
+
+  -- and handed to `to_message` it comes back
+  pub read-returns : (room : List ℕ) (r : Outcome) (b : List ℕ) → MessageTo (take n a) room r b → length (messageFor (take n a)) ≤ length room → Returns form m room r b
+  read-returns room r b h k =
+      let t = read-fine .1 in
+      returns form m room (read-fine .0) r b (subst (λ (x : List ℕ). length (messageFor x) ≤ length room) t k) (subst (λ (x : List ℕ). MessageTo x room r b) t h)

@@ -18,7 +18,7 @@ use Rattle.roles.specs.Role.{shapeOf, Part, copy, name, taxName}
 use Rattle.roles.specs.Speech.{speeches}
 use Rattle.roles.specs.Sentences.{Heard}
 use Rattle.roles.specs.declared.Shape.{Shape}
-use Rattle.roles.specs.declared.Shape.the-variants.{Plain, Payer, Payee, Agent, Details, Note103, Note202}
+use Rattle.roles.specs.declared.Shape.the-variants.{Details, Note103, Note202}
 use Rattle.records.specs.Record.{plainText, line}
 use Rattle.records.specs.Rule19.{sound}
 use Rattle.writer.specs.Spread.{castParts}
@@ -26,6 +26,7 @@ use Rattle.writer.specs.Sheet.{crowded}
 use Rattle.written.proofs.ReadyLaws.{Fair, speaks}
 use Rattle.sheets.specs.Gather.{contentParts}
 use Rattle.trips.specs.Again.{again}
+use Rattle.trips.specs.Shown.{Shows}
 
 -- ---- a field of a message that no rule refuses; s: its sign
 pub record Held (form : Form) (s : Bool) (t : List ℕ) (ls : List (List ℕ)) : Type 0 where
@@ -58,20 +59,15 @@ KeptPart s (copy l) = Unit {0}
 KeptPart s (name l) = Kept s l
 KeptPart s (taxName l) = TaxKept s l
 
--- shapes of which each line is a part of its own, and those that hold details or an RPP line
-pub data LineByLine : Shape → Type 0 where
-  plain : LineByLine Plain
-  payer : LineByLine Payer
-  payee : LineByLine Payee
-  agent : LineByLine Agent
-
+-- shapes that hold details or an RPP line
 pub data Noted : Shape → Type 0 where
   details : Noted Details
   note103 : Noted Note103
   note202 : Noted Note202
 
--- ---- its record: right by 19, written by 15, without tab and LF, no longer than the field; it fits, but for details with the sign
+-- ---- its record: it says what the field does; right by 19, written by 15, without tab and LF, no longer than the field; it fits, but for details with the sign
 pub record Sheeted (form : Form) (s : Bool) (t : List ℕ) (ls : List (List ℕ)) : Type 0 where
+  pub shows : Shows s (shapeOf form t) ls (contentParts s (shapeOf form t) ls)
   pub is-sound : sound s (shapeOf form t) (contentParts s (shapeOf form t) ls) ≡ true
   pub says : all (speaks s) (castParts (shapeOf form t) (contentParts s (shapeOf form t) ls)) ≡ true
   pub textual : all plainText (contentParts s (shapeOf form t) ls) ≡ true

@@ -1,7 +1,7 @@
 -- Lines that are copied or names: what they keep when they are read and written again, and the record that they make on the sheet (T7, N14,
 -- S6, S7). Assumes nothing.
 use Prim.Native.Nat.{ℕ, _+_, _≤_}
-use mathlib.Core.Path.{_≡_, refl, sym, ap, ap₂, _∙_}
+use mathlib.Core.Path.{_≡_, refl, sym, ap, ap₂, _∙_, subst}
 use mathlib.Core.Bool.{Bool, true, false, not, _&&_, true≢false}
 use mathlib.Core.List.{List, [], _∷_, _++_, map, tail}
 use native.Mathlib.Omega.{arith}
@@ -32,12 +32,14 @@ use Rattle.records.specs.Rule19 as rule19
 use Rattle.records.specs.Rule19.{general, taxPart, sound}
 use Rattle.writer.specs.Spread.{lineFor, castParts, contentLines}
 use Rattle.writer.specs.Sheet.{crowded}
-use Rattle.written.specs.Sentences.{Every}
+use Rattle.written.specs.Sentences.{Every, OneByOne}
 use Rattle.written.proofs.SpeltLaws.{isSaid, plain-same, slash, colon, dash, spelt-head, spelt-empty, spelt-tax}
 use Rattle.written.proofs.ReadyLaws.{Fair, speaks}
 use Rattle.sheets.specs.Gather.{partFor, contentParts}
 use Rattle.trips.specs.Again.{again, lineAgain}
-use Rattle.trips.proofs.Held.{Held, Kept, TaxKept, KeptPart, LineByLine, plain, payer, payee, agent, Sheeted}
+use Rattle.trips.specs.Shown.{LineByLine, plain, payer, payee, agent, PartOf, Shows}
+use Rattle.trips.specs.Shown as shown
+use Rattle.trips.proofs.Held.{Held, Kept, TaxKept, KeptPart, Sheeted}
 use Rattle.trips.proofs.ReadingLaws.{readAs, Clear, ClearTax, plain-clear, plain-tax, heard-clear, heard-tax, writes-again}
 use Rattle.trips.proofs.SaidLaws.{set-text}
 
@@ -244,6 +246,15 @@ module _ (s : Bool) where
       one (name l) w = ap isSaid (writes-again s l w)
       one (taxName l) w = ap isSaid (writes-again s l (w .as-name))
 
+  parts-shown : (xs : List Part) → Every (ClearPart s) xs → OneByOne (PartOf s) xs (map (partFor s) xs)
+  parts-shown [] w = tt
+  parts-shown (x ∷ xs) w = (one x (w .0), parts-shown xs (w .1))
+    where
+      one : (x : Part) → ClearPart s x → PartOf s x (partFor s x)
+      one (copy l) w = refl
+      one (name l) w = w .reads
+      one (taxName l) w = w .as-name .reads
+
   part-size : (x : Part) → ClearPart s x → length (partFor s x) ≤ length (lineOf x)
   part-size (copy l) w = omega arith
   part-size (name l) w = w .slim
@@ -319,6 +330,7 @@ sheeted-names form s t ls v h =
     let is : castParts sh ps ≡ map (turned (readAs s)) xs = cast-parts sh ps v ∙ ap (cast sh) i ∙ cast-read s sh ls w in
     let n : length (tabbed ps) ≤ length (laid ls) = omega (arith, ap (λ (k : List (List ℕ)). length (tabbed k)) i, parts-size s xs w, ap (λ (k : List (List ℕ)). length (laid k)) (same-lines sh ls)) in
     record {
+      shows = subst (Shows s sh ls) (sym i) (shown.each v (parts-shown s xs w));
       is-sound = ap (sound s sh) i ∙ parts-sound s sh ls v (h .fair) (right-nonempty form s t ls (h .right)) w;
       says = ap (all (speaks s)) is ∙ parts-say s xs w;
       textual = ap (all plainText) i ∙ parts-textual s xs w;

@@ -26,7 +26,8 @@ use Rattle.roles.specs.Role.{copy, name, taxName, taxed, cast, shapeFor, shapeO
 use Rattle.roles.specs.declared.Shape.the-variants as shape
 use Rattle.written.specs.Sentences.{Every}
 use Rattle.trips.specs.Again.{again, lineAgain, fieldAgain}
-use Rattle.trips.proofs.Held.{Held, Kept, KeptPart, LineByLine}
+use Rattle.trips.specs.Shown.{LineByLine}
+use Rattle.trips.proofs.Held.{Held, Kept, KeptPart}
 use Rattle.trips.proofs.NameLaws.{held-kept, held-lines}
 
 account-slash : (l : List ℕ) → IsAccount l → begins 47 l ≡ true

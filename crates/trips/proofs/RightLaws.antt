@@ -15,7 +15,9 @@ use Rattle.roles.specs.declared.Shape.the-variants.{Plain, Payer, Payee, Agent,
 use Rattle.writer.specs.Spread.{contentLines}
 use Rattle.written.proofs.ReadyLaws.{Ready}
 use Rattle.sheets.specs.Gather.{contentParts}
-use Rattle.trips.proofs.Held.{Held, LineByLine, Noted}
+use Rattle.trips.specs.Shown as shown
+use Rattle.trips.specs.Shown.{LineByLine}
+use Rattle.trips.proofs.Held.{Held, Noted}
 use Rattle.trips.proofs.Held as held
 use Rattle.trips.proofs.NamedLaws.{named-again}
 use Rattle.trips.proofs.NotedLaws.{noted-again}
@@ -38,10 +40,10 @@ right-again form s t ls h w = field-says form s (field t (contentLines s (shapeO
     noted v = noted-again (heldBy form t) s ls v was w
 
     go : (sh : Shape) → shapeOf form t ≡ sh → Again
-    go Plain e = named (rw e held.plain)
-    go Payer e = named (rw e held.payer)
-    go Payee e = named (rw e held.payee)
-    go Agent e = named (rw e held.agent)
+    go Plain e = named (rw e shown.plain)
+    go Payer e = named (rw e shown.payer)
+    go Payee e = named (rw e shown.payee)
+    go Agent e = named (rw e shown.agent)
     go Details e = noted (rw e held.details)
     go Note103 e = noted (rw e held.note103)
     go Note202 e = noted (rw e held.note202)

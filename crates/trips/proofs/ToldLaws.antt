@@ -46,6 +46,8 @@ use Rattle.written.proofs.SpeltLaws.{said-is}
 use Rattle.written.proofs.ReadyLaws.{speaks}
 use Rattle.written.proofs.CastLaws.{behind-code, code-size, unmarked}
 use Rattle.sheets.specs.Gather.{codeDigits, toldParts, noteParts, contentParts}
+use Rattle.trips.specs.Shown.{ToldAs, Shows}
+use Rattle.trips.specs.Shown as shown
 use Rattle.trips.proofs.Held.{Held, Noted, Sheeted}
 use Rattle.trips.proofs.DetailLaws.{Told, told-lines, rpp-alone, Note, with-rpp, without, note-lines}
 use Rattle.trips.proofs.SaidLaws.{Means, says-plain, says-signed, says-written, plain-said, says-short, set-text, says-text, digits-set}
@@ -167,6 +169,17 @@ told-says : {p : Place} (s : Bool) {ls : List (List ℕ)} (w : Told p s ls) (o :
 told-says true w o e h = says-signed (whole w) (told-heard w o (h refl))
 told-says false w o e h = says-plain (whole w) (told-set w e) (w .some)
 
+-- and so the lines say the digits and the text
+shown-told : {p : Place} {s : Bool} {ls : List (List ℕ)} (w : Told p s ls) (h : Means s (whole w)) → ToldAs s p ls (w .vo) (h .desk)
+shown-told {p} {s} w h = record {
+  spelt = whole w;
+  rows = (code s (w .vo) ++ w .text) ∷ w .texts;
+  marks = w .is;
+  number = w .five;
+  joined = append-assoc (code s (w .vo)) (w .text) (together (w .texts));
+  reads = h .reads;
+}
+
 -- ---- whether they fit
 never-unfit : (p : Place) (least : ℕ) (text : List ℕ) {ls : List (List ℕ)} → DivisionIn (layout p) least text ls → isUnfit (sizeFor p least text) ≡ false
 never-unfit p least text d = go (sizeFor p least text) refl
@@ -210,10 +223,11 @@ lined-size t (l ∷ ls) e =
     omega (arith, length-append (58 ∷ t ++ 58 ∷ l) (13 ∷ 10 ∷ laid ls), length-append t (58 ∷ l), length-append l (13 ∷ 10 ∷ laid ls))
 
 -- from the parts that it comes to
-sheeted-as : (form : Form) (s : Bool) (t : List ℕ) (ls : List (List ℕ)) (sh : Shape) (ps : List (List ℕ)) → shapeOf form t ≡ sh → contentParts s sh ls ≡ ps → empty ls ≡ false
+sheeted-as : (form : Form) (s : Bool) (t : List ℕ) (ls : List (List ℕ)) (sh : Shape) (ps : List (List ℕ)) → shapeOf form t ≡ sh → contentParts s sh ls ≡ ps → Shows s sh ls ps → empty ls ≡ false
     → sound s sh ps ≡ true → all (speaks s) (castParts sh ps) ≡ true → all plainText ps ≡ true → length (line (field t ps)) ≤ length t + 1 + length (laid ls) → (crowded s sh ps ≡ true → (s ≡ true) × (sh ≡ Details))
     → Sheeted form s t ls
-sheeted-as form s t ls sh ps e f z a b c d g = record {
+sheeted-as form s t ls sh ps e f y z a b c d g = record {
+  shows = rw (e, f) y;
   is-sound = rw (e, f) a;
   says = rw (e, f) b;
   textual = rw (e, f) c;
@@ -232,7 +246,7 @@ module _ (form : Form) (s : Bool) (t : List ℕ) (ls : List (List ℕ)) (h : Hel
       let g = gathered w y in
       let n : length (line (field t (w .vo ∷ y .desk ∷ []))) ≤ length t + 1 + length (laid ls) =
       omega (arith, length-append t (9 ∷ (w .vo ++ 9 ∷ (y .desk ++ []))), length-append (w .vo) (9 ∷ (y .desk ++ [])), length-append (y .desk) [], g .five, g .short, code-least s) in
-      sheeted-as form s t ls Details (w .vo ∷ y .desk ∷ []) e (g .parts) (h .fair .some) (g .right-parts) (g .written) (g .plain) n (λ q. (unfit-signed s w y q, refl))
+      sheeted-as form s t ls Details (w .vo ∷ y .desk ∷ []) e (g .parts) (shown.details (shown-told w y)) (h .fair .some) (g .right-parts) (g .written) (g .plain) n (λ q. (unfit-signed s w y q, refl))
 
   sheeted-103 : shapeOf form t ≡ Note103 → (r : List ℕ) → ls ≡ rppLine r ∷ [] → empty r ≡ false → Sheeted form s t ls
   unfolding contentParts sound crowded cast
@@ -240,13 +254,13 @@ module _ (form : Form) (s : Bool) (t : List ℕ) (ls : List (List ℕ)) (h : Hel
       let x : all xset r ≡ true = all-behind xset (bytes "/RPP/") r (left (all xset (rppLine r)) true (rw i at (h .fair .inside))) in
       let n : length (line (field t (r ∷ []))) ≤ length t + 1 + length (laid ls) =
       omega (arith, ap (λ (k : List (List ℕ)). length (laid k)) i, length-append t (9 ∷ (r ++ [])), length-append r [], length-append (rppLine r) (13 ∷ 10 ∷ [])) in
-      sheeted-as form s t ls Note103 (r ∷ []) e (ap (map (drop 5)) i) (h .fair .some) (ap not z) (both (plain-said r x) refl) (both (set-text r x) refl) n (λ q. absurd (false≢true q))
+      sheeted-as form s t ls Note103 (r ∷ []) e (ap (map (drop 5)) i) (subst (λ (k : List (List ℕ)). Shows s Note103 k (r ∷ [])) (sym i) shown.note103) (h .fair .some) (ap not z) (both (plain-said r x) refl) (both (set-text r x) refl) n (λ q. absurd (false≢true q))
 
   -- r is what follows /RPP/, or nothing
-  noted-by : shapeOf form t ≡ Note202 → (r : List ℕ) (ks : List (List ℕ)) (w : Told (notePlace r) s ks) → Means s (whole w)
+  noted-by : shapeOf form t ≡ Note202 → (r : List ℕ) (ks : List (List ℕ)) (w : Told (notePlace r) s ks) (y : Means s (whole w)) → Shows s Note202 ls (r ∷ w .vo ∷ y .desk ∷ [])
       → noteParts s ls ≡ r ∷ toldParts s (markSize (notePlace r)) (nextSize (notePlace r)) ks → all xset r ≡ true → length r + length (laid ks) ≤ length (laid ls) → Sheeted form s t ls
   unfolding contentParts sound crowded
-  noted-by e r ks w y i x k =
+  noted-by e r ks w y v i x k =
       let g = gathered w y in
       let n : length (line (field t (r ∷ w .vo ∷ y .desk ∷ []))) ≤ length t + 1 + length (laid ls) =
       omega (
@@ -259,7 +273,7 @@ module _ (form : Form) (s : Bool) (t : List ℕ) (ls : List (List ℕ)) (h : Hel
         g .short,
         code-least s,
       ) in
-      sheeted-as form s t ls Note202 (r ∷ w .vo ∷ y .desk ∷ []) e (i ∙ ap (λ (ps : List (List ℕ)). r ∷ ps) (g .parts)) (h .fair .some) (g .right-parts)
+      sheeted-as form s t ls Note202 (r ∷ w .vo ∷ y .desk ∷ []) e (i ∙ ap (λ (ps : List (List ℕ)). r ∷ ps) (g .parts)) v (h .fair .some) (g .right-parts)
       (both (plain-said r x) (g .written)) (both (set-text r x) (g .plain)) n (λ q. absurd (true≢false (sym q ∙ free-fits w y (note-free r))))
 
   sheeted-202 : shapeOf form t ≡ Note202 → Note s ls → Sheeted form s t ls
@@ -267,18 +281,20 @@ module _ (form : Form) (s : Bool) (t : List ℕ) (ls : List (List ℕ)) (h : Hel
   sheeted-202 e (without w) =
       let u : s ≡ true → Heard (speech.details 16 2 0 ls) = λ q. subst Heard (ap (speech.noted true 0) (w .is) ∙ ap (speech.details 16 2 0) (sym (w .is))) (heard-as e q) in
       let i : noteParts s ls ≡ [] ∷ toldParts s 5 2 ls = ap (noteParts s) (w .is) ∙ ap (λ (k : List (List ℕ)). [] ∷ toldParts s 5 2 k) (sym (w .is)) in
-      noted-by e [] ls w (told-says s w 0 (h .fair .inside) u) i refl (omega arith)
+      let y : Means s (whole w) = told-says s w 0 (h .fair .inside) u in
+      noted-by e [] ls w y (shown.note202 (shown-told w y)) i refl (omega arith)
   sheeted-202 e (with-rpp r ks j z w) =
       let o : ℕ = 0 + length (rppLine r) + 2 in
       let f : all (all xset) (rppLine r ∷ ks) ≡ true = rw j at (h .fair .inside) in
       let y : Means s (whole w) = told-says s w o (right (all xset (rppLine r)) _ f) (λ q. subst Heard (ap (speech.noted true 0) j) (heard-as e q)) in
       let k : length r + length (laid ks) ≤ length (laid ls) = omega (arith, ap (λ (x : List (List ℕ)). length (laid x)) j, length-append (rppLine r) (13 ∷ 10 ∷ laid ks)) in
       by r z (ap (noteParts s) j) (all-behind xset (bytes "/RPP/") r (left (all xset (rppLine r)) _ f)) k w y
+      (subst (λ (x : List (List ℕ)). Shows s Note202 x (r ∷ w .vo ∷ y .desk ∷ [])) (sym j) (shown.behindRpp z (shown-told w y)))
     where
       by : (r : List ℕ) {ks : List (List ℕ)} → empty r ≡ false → noteParts s ls ≡ r ∷ toldParts s 5 2 ks → all xset r ≡ true → length r + length (laid ks) ≤ length (laid ls)
-          → (w : Told BehindRpp s ks) → Means s (whole w) → Sheeted form s t ls
-      by [] z i x k w y = absurd (true≢false z)
-      by (c ∷ r) {ks} z i x k w y = noted-by e (c ∷ r) ks w y i x k
+          → (w : Told BehindRpp s ks) (y : Means s (whole w)) → Shows s Note202 ls (r ∷ w .vo ∷ y .desk ∷ []) → Sheeted form s t ls
+      by [] z i x k w y v = absurd (true≢false z)
+      by (c ∷ r) {ks} z i x k w y v = noted-by e (c ∷ r) ks w y v i x k
 
   -- by what the field holds
   held-sheeted : (c : Content) → shapeOf form t ≡ shapeFor c → Noted (shapeFor c) → Right c s ls → Sheeted form s t ls

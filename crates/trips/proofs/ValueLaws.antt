@@ -36,7 +36,8 @@ use Rattle.writer.specs.Sheet.{crowded}
 use Rattle.written.proofs.ReadyLaws.{Ready, Laid, laid}
 use Rattle.sheets.specs.Gather.{toldParts, noteParts, contentParts}
 use Rattle.trips.specs.Again.{again, lineAgain, fieldAgain}
-use Rattle.trips.proofs.Held.{Held, HeldField, KeptPart, LineByLine, plain, payer, payee, agent}
+use Rattle.trips.specs.Shown.{LineByLine, plain, payer, payee, agent}
+use Rattle.trips.proofs.Held.{Held, HeldField, KeptPart}
 use Rattle.trips.proofs.NameLaws.{held-kept, held-lines}
 use Rattle.trips.proofs.DetailLaws.{rpp-line, rpp-alone}
 
