@@ -6,7 +6,7 @@ use mathlib.Core.List.{List, [], _∷_}
 use native.Mathlib.Omega.{arith}
 use native.Mathlib.Decide.{decLt}
 use lib.ListN.{length}
-use denote.Ref.{RefT}
+use denote.Ref.{RefT, now}
 use Rattle.base.specs.Choice.{pick}
 use Rattle.base.specs.Bytes.{empty}
 use Rattle.base.specs.declared.Verdict.the-variants.{Fine, Broken}
@@ -14,7 +14,7 @@ use Rattle.base.proofs.RuleLaws.{fine-broken}
 use Rattle.fields.specs.Field.{fields}
 use Rattle.fields.specs.Places.{listed}
 use Rattle.types.specs.declared.Form.{Form}
-use Rattle.types.specs.Form.{Place, placesOf, places103, places202}
+use Rattle.types.specs.Form.{formOf, Place, placesOf, places103, places202}
 use Rattle.types.specs.Walk.{optional}
 use Rattle.types.specs.Sentences.{placeAt, placeOfField, Present, Sound}
 use Rattle.types.proofs.WordLaws.{placed}
@@ -27,7 +27,7 @@ use Rattle.judge.proofs.VerdictTheorems.{frame-clean}
 use Rattle.message.specs.Calls.{partOf, contentOf}
 use Rattle.message.proofs.CheckTheorems.{Without, refused, absent, content-empty, span-listed}
 use Rattle.reader.specs.declared.Reader.{Reader}
-use Rattle.reader.specs.Reading.{firstFrom, filled, placeBehind, placeAfter}
+use Rattle.reader.specs.Reading.{firstFrom, filled, placeBehind, placeAfter, atHand, After, opened, moved}
 use Rattle.reader.proofs.PlaceLaws.{at-most, place-far}
 
 -- ---- the first that passes
@@ -177,6 +177,35 @@ module _ (form : Form) (m : List ℕ) (e : verdictOf form m ≡ Fine) where
 -- of a refused message nothing is handed over
 pub refused-nothing : (form : Form) (m : List ℕ) (n p : ℕ) → verdictOf form m ≡ Broken n p → (k : ℕ) → contentOf form m (placeAfter form m k) ≡ []
 refused-nothing form m n p e k = content-empty form m (placeAfter form m k) .1 (refused n p e)
+
+-- ---- the same of the struct, opened and moved on by the calls
+after-k : {kind : ℕ} {m : RefT (List ℕ)} {k : ℕ} {r : Reader} → After kind m k r → (r .kind ≡ kind) × (r .message ≡ m) × (r .place ≡ placeAfter (formOf kind) (now m) k)
+unfolding placeAfter
+after-k (opened o) = o
+after-k {kind} {m} (moved {q = q} a s) =
+    let w = after-k a in (
+      s .0 ∙ w .0,
+      s .1 ∙ w .1,
+      s .2 ∙ ap (λ (n : ℕ). placeBehind (formOf n) (now (q .message)) (q .place)) (w .0) ∙ ap (λ (x : RefT (List ℕ)). placeBehind (formOf kind) (now x) (q .place)) (w .1) ∙ ap (placeBehind (formOf kind) (now m)) (w .2),
+    )
+
+module _ {kind : ℕ} {m : RefT (List ℕ)} {k : ℕ} {r : Reader} (a : After kind m k r) where
+  at-k : atHand r ≡ contentOf (formOf kind) (now m) (placeAfter (formOf kind) (now m) k)
+  at-k =
+      let w = after-k a in
+      ap (λ (n : ℕ). contentOf (formOf n) (now (r .message)) (r .place)) (w .0) ∙ ap (λ (x : RefT (List ℕ)). contentOf (formOf kind) (now x) (r .place)) (w .1) ∙ ap (contentOf (formOf kind) (now m)) (w .2)
+
+  module _ (e : verdictOf (formOf kind) (now m) ≡ Fine) where
+    -- the content at hand is the k-th of the check's list, and it is not empty
+    pub reads-on : k < length (fields (now m)) → (atHand r ≡ partOf (now m) (spans.partOf (listed 5 (fields (now m))) k)) × (empty (atHand r) ≡ false)
+    reads-on h = (at-k ∙ hands-over (formOf kind) (now m) e k h, ap empty at-k ∙ not-yet (formOf kind) (now m) e k h)
+
+    -- behind the last there is nothing
+    pub reads-end : length (fields (now m)) ≤ k → atHand r ≡ []
+    reads-end h = at-k ∙ ends (formOf kind) (now m) e k h
+
+  pub reads-nothing : (n p : ℕ) → verdictOf (formOf kind) (now m) ≡ Broken n p → atHand r ≡ []
+  reads-nothing n p e = at-k ∙ refused-nothing (formOf kind) (now m) n p e k
 
 -- ---- any two outcomes are equal
 pub behind-one : (form : Form) (m : List ℕ) (place : ℕ) {r q : ℕ} → r ≡ placeBehind form m place → q ≡ placeBehind form m place → r ≡ q

@@ -2,7 +2,7 @@
 ghost use mathlib.Core.Path.{_≡_};
 ghost use Rattle.types.specs.Form.{formOf};
 ghost use Rattle.message.specs.Calls.{contentOf};
-ghost use Rattle.reader.specs.Reading.{nextBit, placeBehind};
+ghost use Rattle.reader.specs.Reading.{nextBit, placeBehind, Opened, MovedOn, atHand};
 use base::bits::bit_at;
 use judge::verdict::judge;
 use message::content::content;
@@ -41,7 +41,7 @@ pub fn place_behind(kind: u32, m: &[u8], place: usize) -> usize
 
 // At the first place, which every accepted message has.
 pub fn open<'a>(kind: u32, message: &'a [u8]) -> Reader<'a>
-    ensures { λ r. ⌜ (r .kind ≡ kind) × (r .message ≡ message .entry) × (r .place ≡ 0) ⌝ }
+    ensures { λ r. ⌜ Opened kind (message .entry) r ⌝ }
 {
     Reader {
         kind,
@@ -59,14 +59,14 @@ fn content_at(kind: u32, m: &[u8], place: usize) -> &[u8]
 
 // The content at hand, a part of the message; empty at the end.
 pub fn current<'a>(r: Reader<'a>) -> &'a [u8]
-    ensures { λ c. ⌜ now c ≡ contentOf (formOf (r .entry .kind)) (now (r .entry .message)) (r .entry .place) ⌝ }
+    ensures { λ c. ⌜ now c ≡ atHand (r .entry) ⌝ }
 {
     content_at(r.kind, r.message, r.place)
 }
 
 // Moved on to the next place with a content.
 pub fn moved<'a>(r: Reader<'a>) -> Reader<'a>
-    ensures { λ q. ⌜ (q .kind ≡ r .entry .kind) × (q .message ≡ r .entry .message) × (q .place ≡ placeBehind (formOf (r .entry .kind)) (now (r .entry .message)) (r .entry .place)) ⌝ }
+    ensures { λ q. ⌜ MovedOn (r .entry) q ⌝ }
 {
     let place = place_behind(r.kind, r.message, r.place);
     Reader {
