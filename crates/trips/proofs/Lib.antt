@@ -4,6 +4,7 @@ pub mod ReadingLaws
 pub mod NameLaws
 pub mod DetailLaws
 pub mod ToldLaws
+pub mod ShownLaws
 pub mod HeldLaws
 pub mod ValueLaws
 pub mod BackLaws

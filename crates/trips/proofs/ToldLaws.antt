@@ -65,7 +65,7 @@ vo-set : (vo : List ℕ) → digits 5 vo ≡ true → all xset vo ≡ true
 unfolding digits
 vo-set vo d = digits-set vo (right (eqb (length vo) 5) _ d)
 
-code-digits : (s : Bool) (vo w : List ℕ) → digits 5 vo ≡ true → codeDigits s (code s vo ++ w) ≡ vo
+pub code-digits : (s : Bool) (vo w : List ℕ) → digits 5 vo ≡ true → codeDigits s (code s vo ++ w) ≡ vo
 code-digits true vo w d = ap (take 5) (append-assoc vo (bytes ")'") w) ∙ take-at vo (bytes ")'" ++ w) 5 (vo-five vo d)
 code-digits false vo w d = ap (take 5) (append-assoc vo (bytes ")") w) ∙ take-at vo (bytes ")" ++ w) 5 (vo-five vo d)
 
