@@ -1,0 +1,78 @@
+//! A refusal, and what its number means.
+
+use std::error::Error;
+use std::fmt;
+
+/// Why a call was refused: a number of docs/NUMBERS.md, at a place.
+///
+/// The numbers by name are in [`number`](crate::number). Places count from 0; of
+/// [`ROOM`](crate::number::ROOM) the place is the units that are needed.
+///
+/// ```
+/// use rimpelsloot::{number, write_text, Refusal};
+///
+/// let refusal = write_text(true, b"ABC", &mut []).unwrap_err();
+/// assert_eq!(refusal, Refusal { number: number::ROOM, place: 5 });
+/// assert_eq!(
+///     refusal.to_string(),
+///     "refused by 17 at 5: The room lent is too short (a matter for the program, not for the clerk)."
+/// );
+/// ```
+#[derive(Clone, Copy, Debug, PartialEq, Eq, Hash)]
+pub struct Refusal {
+    /// The number a clerk sees, 1 to 19.
+    pub number: u32,
+    /// What the number points at, mostly a byte of the input.
+    pub place: usize,
+}
+
+impl Refusal {
+    /// What the number means, in the words of docs/NUMBERS.md; nothing for one that is not there.
+    ///
+    /// ```
+    /// use rimpelsloot::{number, Refusal};
+    ///
+    /// let refusal = Refusal { number: number::CURRENCY, place: 40 };
+    /// assert_eq!(refusal.meaning(), Some("A currency other than RUB."));
+    /// assert_eq!(Refusal { number: 20, place: 0 }.meaning(), None);
+    /// ```
+    pub fn meaning(&self) -> Option<&'static str> {
+        let before = self.number.checked_sub(1)?;
+        MEANINGS.get(before as usize).copied()
+    }
+}
+
+impl fmt::Display for Refusal {
+    fn fmt(&self, f: &mut fmt::Formatter<'_>) -> fmt::Result {
+        write!(f, "refused by {} at {}", self.number, self.place)?;
+        match self.meaning() {
+            Some(meaning) => write!(f, ": {meaning}"),
+            None => Ok(()),
+        }
+    }
+}
+
+impl Error for Refusal {}
+
+/// What each number means, from 1 on: docs/NUMBERS.md, its column in English.
+const MEANINGS: [&str; 19] = [
+    "The input is longer than 10,000 bytes (a text alone: 5,000 typed, 10,000 in bank letters). Of a sheet with place 0: the message built from it would be too long.",
+    "The message does not begin with `{4:` and a line end, or does not end with a line end and `-}`.",
+    "A byte that a message may not hold, or a broken line end.",
+    "A line that is empty, begins with `-`, or has no right tag; or the first line opens no field.",
+    "A tag that this type of message does not have.",
+    "A field out of order, or a second time.",
+    "A field that must be there is missing.",
+    "A field's content is not as its tag asks.",
+    "A date that is no day of the calendar.",
+    "A currency other than RUB.",
+    "A 56 (intermediary) without a 57.",
+    "A BIK and an account that do not belong together: their last three digits differ.",
+    "A payment to the budget that is not whole: 26T without 77B, or without INN and KPP of both payer and payee; or 77B without 26T.",
+    "A text that does not read back to Russian letters, or a name that would be taken for something else: an account, a new field, a tax line.",
+    "A character that can't be sent: a small Russian letter, an apostrophe in a name or in details; without the sign `+` any Russian letter.",
+    "The details do not fit the lines of their field.",
+    "The room lent is too short (a matter for the program, not for the clerk).",
+    "A type that is neither 103 nor 202.",
+    "The sheet is not built as a sheet must be: a record without its end, an empty part, a wrong tag, VO digits that are not five.",
+];
