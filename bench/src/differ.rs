@@ -10,6 +10,17 @@ use crate::random::Random;
 use std::collections::BTreeMap;
 use std::process::exit;
 
+/// A comparison by its name: it takes how many inputs, and where the generator starts.
+pub fn named(name: &str) -> Option<fn(usize, u64)> {
+    match name {
+        "texts" => Some(texts::run),
+        "checks" => Some(checks::run),
+        "tosheet" => Some(tosheet::run),
+        "tomessage" => Some(tomessage::run),
+        _ => None,
+    }
+}
+
 /// How often each refusal number was seen, by call.
 #[derive(Default)]
 pub struct Seen(BTreeMap<(&'static str, u32), u64>);

@@ -1,8 +1,13 @@
 //! The proved archive against a plain build of the same calls.
 
+// Without the archive some generators have no use.
+#![cfg_attr(not(feature = "archive"), allow(dead_code))]
+
+#[cfg(feature = "archive")]
 mod calls;
 mod cases;
 mod damage;
+#[cfg(feature = "archive")]
 mod differ;
 mod expect;
 mod list;
@@ -11,6 +16,7 @@ mod plain;
 mod random;
 mod sheets;
 mod signs;
+#[cfg(feature = "archive")]
 mod speed;
 mod streams;
 
@@ -27,14 +33,16 @@ fn main() {
     let words: Vec<String> = env::args().skip(1).collect();
     let words: Vec<&str> = words.iter().map(String::as_str).collect();
     match words[..] {
-        ["differ", "texts", ref rest @ ..] => differ::texts::run(count(rest), seed(rest)),
-        ["differ", "checks", ref rest @ ..] => differ::checks::run(count(rest), seed(rest)),
-        ["differ", "tosheet", ref rest @ ..] => differ::tosheet::run(count(rest), seed(rest)),
-        ["differ", "tomessage", ref rest @ ..] => differ::tomessage::run(count(rest), seed(rest)),
-        ["speed", "texts"] => speed::texts::run(),
-        ["speed", "checks"] => speed::checks::run(),
-        ["speed", "tosheet"] => speed::tosheet::run(),
-        ["speed", "tomessage"] => speed::tomessage::run(),
+        #[cfg(feature = "archive")]
+        ["differ", name, ref rest @ ..] => {
+            let run = differ::named(name).unwrap_or_else(|| usage());
+            run(count(rest), seed(rest))
+        }
+        #[cfg(feature = "archive")]
+        ["speed", name] => {
+            let run = speed::named(name).unwrap_or_else(|| usage());
+            run()
+        }
         ["list", "checks"] => list::checks::run_messages(),
         ["list", "writes"] => list::checks::run_sheets(),
         ["expect", "checks" | "writes"] => expect::checks::run(),

@@ -8,6 +8,17 @@ pub mod tosheet;
 use std::hint::black_box;
 use std::time::{Duration, Instant};
 
+/// What is timed, by its name.
+pub fn named(name: &str) -> Option<fn()> {
+    match name {
+        "texts" => Some(texts::run),
+        "checks" => Some(checks::run),
+        "tosheet" => Some(tosheet::run),
+        "tomessage" => Some(tomessage::run),
+        _ => None,
+    }
+}
+
 /// One timed round should take about this long.
 const ROUND: Duration = Duration::from_micros(500);
 /// Rounds of each build, taken in turn; the best one counts.
