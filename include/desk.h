@@ -10,7 +10,7 @@
  * tests for it.
  *
  * An answer is one 64-bit number. Below 2^63 it is accepted, and means what each call says. Else it is
- * 2^63 + number * 2^32 + place: a refusal by a number (`enum desk_number`) at a place. A refused call has changed
+ * 2^63 + number * 2^32 + place: a refusal by a number (`enum desk_refusal`) at a place. A refused call has changed
  * nothing of `out` or `list`; an accepted one only the first units, as many as it reports (for the check three
  * times the count of fields).
  *
@@ -43,7 +43,7 @@ extern "C" {
 #endif
 
 /* The numbers of refusals, in the words of docs/NUMBERS.md, which also says what to do. */
-enum desk_number {
+enum desk_refusal {
   /* The input is longer than 10,000 bytes (a text alone: 5,000 typed, 10,000 in bank letters). Of a sheet
    * with place 0: the message built from it would be too long. */
   DESK_REFUSED_LENGTH = 1,

@@ -33,7 +33,7 @@ static void same(const char *what, uint64_t answer, const uint8_t *wanted, size_
   hold(what, answer == n && memcmp(out, wanted, n) == 0);
 }
 
-static void refused(const char *what, uint64_t answer, enum desk_number number, size_t place) {
+static void refused(const char *what, uint64_t answer, enum desk_refusal number, size_t place) {
   hold(what, desk_refused(answer) && desk_number(answer) == (uint32_t)number && desk_place(answer) == place);
 }
 

@@ -1,9 +1,9 @@
 //! The exports, as `include/desk.h` declares them, and each as a safe call with its answer still one number.
 //! All unsafe code of the crate is here.
 //!
-//! The exports owe nothing but what a slice has. Its pointer is not null, is aligned, and stands before as many units
-//! as its length says, an empty one's too; a shared and a unique borrow lie apart. They read no further, write to the
-//! unique borrow alone, and keep no pointer.
+//! The exports ask for nothing but what slices have, and for 32 KB of stack. A slice's pointer is not null, is aligned
+//! and stands before as many units as its length says, an empty one's too; a shared and a unique borrow lie apart. The
+//! exports read no further, write to the unique borrow alone, and keep no pointer.
 
 mod exports {
     extern "C" {
