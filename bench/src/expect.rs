@@ -1,6 +1,6 @@
 //! What the plain build expects a program to write for its whole input.
 
-pub mod checks;
+pub mod tests;
 pub mod tomessage;
 pub mod tosheet;
 

@@ -25,8 +25,8 @@ use std::process::exit;
 
 const USAGE: &str = "bench differ texts|checks|tosheet|tomessage [N] [SEED]
 bench speed texts|checks|tosheet|tomessage
-bench list checks|writes > LIST
-bench expect checks|returns|writes < LIST > OUTPUT
+bench list > LIST
+bench expect tests < LIST > OUTPUT
 bench expect tosheet|tomessage < INPUT > OUTPUT";
 
 fn main() {
@@ -43,10 +43,8 @@ fn main() {
             let run = speed::named(name).unwrap_or_else(|| usage());
             run()
         }
-        ["list", "checks"] => list::checks::run_messages(),
-        ["list", "writes"] => list::checks::run_sheets(),
-        ["expect", "checks" | "writes"] => expect::checks::run(),
-        ["expect", "returns"] => expect::checks::run_returns(),
+        ["list"] => list::run(),
+        ["expect", "tests"] => expect::tests::run(),
         ["expect", "tosheet"] => expect::tosheet::run(),
         ["expect", "tomessage"] => expect::tomessage::run(),
         _ => usage(),

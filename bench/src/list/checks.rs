@@ -1,59 +1,44 @@
 //! Messages for the check: right ones, and for each number such as it is given
 //! for, at its several places, among them what looks like a fault and is none.
-//! Then sheets for the writer in the same way.
 
 mod contents;
 mod faults;
 mod frame;
 mod orders;
 mod readings;
-mod sheets;
 mod values;
 
-use super::{write, Record, SHEET};
 use crate::cases::{self, Case};
 use crate::messages::{self, Field, Message};
 use crate::plain::types::{places, Place, MOST_FIELDS};
 use crate::random::Random;
-use crate::streams::output;
 
-const KINDS: [u32; 2] = [103, 202];
+/// A message, the type it is given as, and how long a list is lent for it.
+pub struct Record {
+    pub kind: u32,
+    pub room: usize,
+    pub message: Vec<u8>,
+}
+
+pub const KINDS: [u32; 2] = [103, 202];
 
 /// Numbers that are enough for every message.
 const AMPLE: usize = 3 * MOST_FIELDS;
 /// The longest list that is lent.
-const MOST_ROOM: usize = 64;
+pub const MOST_ROOM: usize = 64;
 
-/// The messages, for the program `checks`.
-pub fn run_messages() {
-    output_those(|record| record.kind != SHEET);
-}
-
-/// The sheets, for the program `writes`.
-pub fn run_sheets() {
-    output_those(|record| record.kind == SHEET);
-}
-
-fn output_those(wanted: impl Fn(&Record) -> bool) {
-    let mut records = records();
-    records.retain(wanted);
-    output(&write(&records));
-}
-
-fn records() -> Vec<Record> {
-    let mut random = Random::new(1);
+pub fn records(random: &mut Random) -> Vec<Record> {
     let mut records = Vec::new();
-    payments(&mut random, &mut records);
+    payments(random, &mut records);
     orders::add(&mut records);
     optional_fields(&mut records);
-    frame::add(&mut random, &mut records);
+    frame::add(random, &mut records);
     contents::add(&mut records);
     values::add(&mut records);
     readings::add(&mut records);
     faults::add(&mut records);
     rooms(&mut records);
-    damaged(&mut random, &mut records);
-    sheets::add(&mut random, &mut records);
+    damaged(random, &mut records);
     records
 }
 
@@ -151,12 +136,12 @@ fn short(kind: u32, word: u32, which: usize, sign: bool) -> Message {
 }
 
 /// Every place.
-fn full(kind: u32, sign: bool) -> Message {
+pub fn full(kind: u32, sign: bool) -> Message {
     short(kind, u32::MAX, 1, sign)
 }
 
 /// The mandatory places alone.
-fn least(kind: u32, sign: bool) -> Message {
+pub fn least(kind: u32, sign: bool) -> Message {
     short(kind, mandatory(kind), 1, sign)
 }
 
@@ -176,7 +161,7 @@ fn place_of(kind: u32, tag: &str) -> (usize, usize) {
 
 /// A right message with this tag: with all fields if the tag's is optional,
 /// else with the mandatory ones.
-fn holding(kind: u32, sign: bool, tag: &str) -> Message {
+pub fn holding(kind: u32, sign: bool, tag: &str) -> Message {
     let (place, which) = place_of(kind, tag);
     let word = if forms(kind)[place].mandatory {
         mandatory(kind)
@@ -240,7 +225,7 @@ fn rooms(records: &mut Vec<Record>) {
     }
 }
 
-/// Generated messages, mostly with a fault.
+/// Generated messages, mostly with a fault; long ones and a type of 0 left out.
 fn damaged(random: &mut Random, records: &mut Vec<Record>) {
     for index in 0..100 {
         let case = match index % 4 {
@@ -248,7 +233,7 @@ fn damaged(random: &mut Random, records: &mut Vec<Record>) {
             _ => cases::spoilt_contents(random),
         };
         let Case { kind, bytes, .. } = case;
-        if bytes.len() < 2_000 && kind != SHEET {
+        if bytes.len() < 2_000 && kind != 0 {
             let room = random.below(MOST_ROOM + 1);
             records.push(Record {
                 kind,
@@ -261,24 +246,9 @@ fn damaged(random: &mut Random, records: &mut Vec<Record>) {
 
 #[cfg(test)]
 mod tests {
-    use super::super::read;
     use super::*;
     use crate::plain::check::check;
     use std::collections::BTreeMap;
-
-    #[test]
-    fn the_list_reads_back() {
-        let list = write(&records());
-        assert!(list.len() <= 1_048_576, "{} bytes", list.len());
-        let again = read(&list).expect("the form");
-        let most = |record: &Record| match record.kind {
-            SHEET => sheets::MOST_ROOM,
-            _ => MOST_ROOM,
-        };
-        assert!(again.iter().all(|record| record.room <= most(record)));
-        assert!(write(&again) == list);
-        assert!(read(&list[..list.len() - 1]).is_none());
-    }
 
     /// The number and the place of a record's refusal, 0 and 0 for none.
     fn refusal(record: &Record) -> (u32, usize) {
@@ -290,8 +260,8 @@ mod tests {
     #[test]
     fn every_number_is_given_at_several_places() {
         let mut places: BTreeMap<u32, Vec<usize>> = BTreeMap::new();
-        for record in records().iter().filter(|record| record.kind != SHEET) {
-            let (number, place) = refusal(record);
+        for record in records(&mut Random::new(1)) {
+            let (number, place) = refusal(&record);
             places.entry(number).or_default().push(place);
         }
         for (number, places) in &mut places {
