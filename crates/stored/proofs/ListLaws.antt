@@ -6,10 +6,9 @@ use native.Mathlib.Omega.{arith}
 use lib.ListN.{length, getD, drop-of-length-le}
 use lib.Seq.{drop-cons}
 use borrow.Author.Tests.{eq-eqb, ne-eqb}
-use Rattle.stored.specs.Words.{restOf, wordOf, numberOf}
-use Rattle.stored.specs.Lists.{lineAt, behindAt, bodyFrom, bodyAt, entryAt}
+use Rattle.stored.specs.Words.{restOf, numberOf}
+use Rattle.stored.specs.Lists.{lineAt, behindAt, bodyFrom, bodyAt}
 use Rattle.stored.specs.declared.Body.{Body}
-use Rattle.stored.specs.declared.Entry.{Entry}
 
 module _ (list : List ℕ) (at n : ℕ) where
   pub behind-far : length list ≤ at + n → behindAt list at n ≡ 0
@@ -33,10 +32,3 @@ module _ (list head : List ℕ) (at spaces start : ℕ) (e : head ≡ lineAt lis
       → _≡_ {A = Body} (record { start = start; size = size; next = next }) (bodyAt list at spaces)
   unfolding bodyAt bodyFrom
   body-some tail size next h g k l = rw (← e, ← f, ne-eqb start 0 h, ← g, ← k, ← l)
-
--- a record's words, one after the other
-pub entry-is : (list head first second : List ℕ) (at kind room : ℕ) (b : Body) → head ≡ lineAt list at → first ≡ wordOf 32 0 head → kind ≡ numberOf first
-    → second ≡ wordOf 32 1 head → room ≡ numberOf second → b ≡ bodyAt list at 2
-    → _≡_ {A = Entry} (record { kind = kind; room = room; start = b .start; size = b .size; next = b .next }) (entryAt list at)
-unfolding entryAt
-entry-is list head first second at kind room b e f g h k l = rw (← e, ← f, ← g, ← h, ← k, ← l)

@@ -5,9 +5,8 @@ use lib.Dec.{eqb}
 use lib.ListN.{length, drop}
 use Rattle.base.specs.Choice.{pick}
 use Rattle.base.specs.Bytes.{begins}
-use Rattle.stored.specs.Words.{before, restOf, wordOf, numberOf}
+use Rattle.stored.specs.Words.{before, restOf, numberOf}
 use Rattle.stored.specs.declared.Body.{Body}
-use Rattle.stored.specs.declared.Entry.{Entry}
 
 -- the line from a place on, without its LF
 unfoldable pub lineAt : List ℕ → ℕ → List ℕ
@@ -24,10 +23,3 @@ bodyFrom list start size = pick (eqb start 0) (record { start = 0; size = 0; nex
 -- the raw bytes behind the line at a place: the word behind so many spaces says how many they are
 unfoldable pub bodyAt : List ℕ → ℕ → ℕ → Body
 bodyAt list at spaces = bodyFrom list (behindAt list at (length (lineAt list at))) (numberOf (restOf 32 spaces (lineAt list at)))
-
--- a record whose line has the type, the room and the bytes of what follows
-abbrev pub entryOf : List ℕ → Body → Entry
-entryOf head b = record { kind = numberOf (wordOf 32 0 head); room = numberOf (wordOf 32 1 head); start = b .start; size = b .size; next = b .next }
-
-unfoldable pub entryAt : List ℕ → ℕ → Entry
-entryAt list at = entryOf (lineAt list at) (bodyAt list at 2)

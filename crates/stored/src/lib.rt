@@ -3,7 +3,7 @@ ghost use mathlib.Core.Path.{_≡_};
 ghost use Prim.Native.Nat.{_≤_};
 ghost use lib.ListN.{length, take, drop};
 ghost use Rattle.stored.specs.Words.{before, restOf, wordOf, digitOf, numberOf};
-ghost use Rattle.stored.specs.Lists.{lineAt, behindAt, bodyAt, entryAt};
+ghost use Rattle.stored.specs.Lists.{lineAt, behindAt, bodyAt};
 use base::bytes::front;
 use base::bytes::is_digit;
 use base::bytes::past;
@@ -13,15 +13,6 @@ use base::marks::mark_at;
 // The raw bytes of a record: where they begin, how many there are, and the place behind the LF that ends them. That place is 0
 // where the record is of wrong form.
 pub struct Body {
-    pub start: usize,
-    pub size: usize,
-    pub next: usize,
-}
-
-// A record whose line has the type, the room and the bytes of what follows: these, and its raw bytes.
-pub struct Entry {
-    pub kind: usize,
-    pub room: usize,
     pub start: usize,
     pub size: usize,
     pub next: usize,
@@ -148,20 +139,4 @@ pub fn body_at(list: &[u8], at: usize, spaces: usize) -> Body
     let size = number(rest(b' ', head, spaces));
     let next = behind(list, start, size);
     Body { start, size, next }
-}
-
-pub fn entry_at(list: &[u8], at: usize) -> Entry
-    ensures { λ r. ⌜ r ≡ entryAt (now (list .entry)) at ⌝ }
-{
-    let head = line_at(list, at);
-    let kind = number(word(b' ', head, 0));
-    let room = number(word(b' ', head, 1));
-    let body = body_at(list, at, 2);
-    Entry {
-        kind,
-        room,
-        start: body.start,
-        size: body.size,
-        next: body.next,
-    }
 }
