@@ -3,6 +3,7 @@ pub mod LineLaws
 pub mod StepLaws
 pub mod LayLaws
 pub mod PlaceLaws
+pub mod RoomLaws
 pub mod DivisionTheorems
 pub mod OnceLaws
 pub mod Examples

@@ -59,12 +59,12 @@ small In70 = omega arith
 small In72 = omega arith
 small BehindRpp = omega arith
 
-mark-long : (p : Place) → length (layout p .mark) ≡ shapeOf p .mark
+pub mark-long : (p : Place) → length (layout p .mark) ≡ shapeOf p .mark
 mark-long In70 = refl
 mark-long In72 = refl
 mark-long BehindRpp = refl
 
-next-long : (p : Place) → length (13 ∷ 10 ∷ layout p .next) ≡ shapeOf p .next
+pub next-long : (p : Place) → length (13 ∷ 10 ∷ layout p .next) ≡ shapeOf p .next
 next-long In70 = refl
 next-long In72 = refl
 next-long BehindRpp = refl

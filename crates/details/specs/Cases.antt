@@ -5,7 +5,7 @@ use mathlib.Core.Path.{_≡_}
 use mathlib.Core.List.{List, [], _∷_, _++_, map}
 use lib.ListN.{length, replicate}
 use Rattle.base.specs.Quoted.{bytes}
-use Rattle.details.specs.Layouts.{linesFor, sizeFor}
+use Rattle.details.specs.Layouts.{linesFor, sizeFor, roomFrom}
 use Rattle.details.specs.declared.Place.{Place}
 use Rattle.details.specs.declared.Place.the-variants.{In70, In72, BehindRpp}
 use Rattle.details.specs.declared.Size.the-variants.{Bytes, Unfit}
@@ -19,12 +19,15 @@ pub data Case : Type 0 where
   stays : Place → String → List ℕ → Case
   -- with no code of this length, a text does not fit
   short : Place → ℕ → String → Case
+  -- from this line on there is a mark of so many bytes, and room for so many of text
+  leaves : Place → ℕ → ℕ → ℕ → Case
 
 abbrev pub Holds : Case → Type 0
 Holds (gives p c t ls) = linesFor p (length (bytes c)) (bytes c ++ bytes t) ≡ map bytes ls
 Holds (goes p c t ns n) = (map length (linesFor p (length (bytes c)) (bytes c ++ t)) ≡ ns) × (sizeFor p (length (bytes c)) (bytes c ++ t) ≡ Bytes n)
 Holds (stays p c t) = sizeFor p (length (bytes c)) (bytes c ++ t) ≡ Unfit
 Holds (short p least t) = sizeFor p least (bytes t) ≡ Unfit
+Holds (leaves p i m n) = roomFrom p i ≡ record { mark = m; bytes = n }
 
 abbrev code : String
 code = "(VO10100)"
@@ -62,4 +65,13 @@ cases =
     ∷ short In70 0 ""
     ∷ short In70 10 "(VO10100)"
     ∷ short In72 31 "(VO10100)ABCDEFGHIJKLMNOPQRSTUVWXYZ"
+    -- the room from the first line on, from a later one, from the last, and behind it
+    ∷ leaves In70 0 0 140
+    ∷ leaves In70 3 0 35
+    ∷ leaves In70 4 0 0
+    ∷ leaves In72 0 5 195
+    ∷ leaves In72 1 2 165
+    ∷ leaves BehindRpp 0 5 162
+    ∷ leaves BehindRpp 4 2 33
+    ∷ leaves BehindRpp 5 2 0
     ∷ []

@@ -1,9 +1,9 @@
 -- The places of details as data, and their lines as they stand in a field (B1, B3, C70, C72). Assumes nothing.
-use Prim.Native.Nat.{ℕ, _+_}
+use Prim.Native.Nat.{ℕ, zero, suc, _+_}
 use mathlib.Core.Path.{_≡_}
 use mathlib.Core.List.{List, [], _∷_, _++_, map}
 use lib.Dec.{leb}
-use lib.ListN.{length, replicate}
+use lib.ListN.{length, drop, replicate}
 use Rattle.base.specs.Choice.{pick}
 use Rattle.base.specs.Quoted.{bytes}
 use Rattle.base.specs.Calls.{placed}
@@ -11,6 +11,7 @@ use Rattle.details.specs.Lines.{Division}
 use Rattle.details.specs.Breaking.{Fit, fits, unfit, opens, broken}
 use Rattle.details.specs.declared.Place.{Place}
 use Rattle.details.specs.declared.Place.the-variants.{In70, In72, BehindRpp}
+use Rattle.details.specs.declared.Room.{Room}
 use Rattle.details.specs.declared.Size.{Size}
 use Rattle.details.specs.declared.Size.the-variants.{Bytes, Unfit}
 
@@ -64,6 +65,18 @@ sizeOf v unfit = Unfit
 
 unfoldable pub sizeFor : Place → ℕ → List ℕ → Size
 sizeFor p least text = sizeOf (layout p) (divided (layout p) least text)
+
+-- the room from a line on, lines counted from 0: the bytes of its mark, and of text what it and the lines behind it hold
+abbrev pub markAt : Layout → ℕ → List ℕ
+markAt v zero = v .mark
+markAt v (suc i) = v .next
+
+abbrev pub sum : List ℕ → ℕ
+sum [] = 0
+sum (w ∷ ws) = w + sum ws
+
+unfoldable pub roomFrom : Place → ℕ → Room
+roomFrom p i = record { mark = length (markAt (layout p) i); bytes = sum (drop i (layout p .widths)) }
 
 -- the bytes are put in from `at` on, where there is room for them, and r says how many were put
 pub record Lays (p : Place) (least : ℕ) (text out : List ℕ) (at r : ℕ) (now : List ℕ) : Type 0 where

@@ -6,9 +6,12 @@ ghost use lib.ListN.{length};
 ghost use lib.Seq.{sets};
 ghost use Rattle.base.specs.Calls.{placed};
 ghost use Rattle.details.specs.Breaking.{opens};
-ghost use Rattle.details.specs.Layouts.{sizeFor, Lays};
+ghost use Rattle.details.specs.Layouts.{sizeFor, roomFrom, Lays};
 ghost use Rattle.details.specs.Steps.{shapeOf, Small, barredBy, cutAt, breaksIn, sizeBy, wholeBy, RoomFor};
 use base::bytes::put;
+
+// The bytes of CR LF.
+const LINE_END: usize = 2;
 
 // Where details stand: in 70; in the 72 of a 202, alone or behind its RPP line.
 pub enum Place {
@@ -21,6 +24,12 @@ pub enum Place {
 pub enum Size {
     Bytes(usize),
     Unfit,
+}
+
+// The room of a place from one of its lines on: the bytes of that line's mark, and those of text that it and the lines behind it hold.
+pub struct Room {
+    pub mark: usize,
+    pub bytes: usize,
 }
 
 // A place in numbers: whether a later line may not open with `:` or `-`; the room of the first line and of each later one, and how many of
@@ -156,6 +165,27 @@ fn one_less(n: usize) -> usize
         return 0;
     }
     n - 1
+}
+
+// Lines are counted from 0, and behind the last there is no room. A shape's `next` counts CR LF too.
+pub fn room_from(place: Place, line: usize) -> Room
+    ensures { λ r. ⌜ r ≡ roomFrom place line ⌝ }
+{
+    let s = shape_of(place);
+    if line == 0 {
+        return Room {
+            mark: s.mark,
+            bytes: s.first + s.more * s.later,
+        };
+    }
+    let mark = s.next - LINE_END;
+    if s.more < line {
+        return Room { mark, bytes: 0 };
+    }
+    Room {
+        mark,
+        bytes: (s.more - line + 1) * s.later,
+    }
 }
 
 // How many bytes the lines of a text come to, whose first `least` bytes are the code.
