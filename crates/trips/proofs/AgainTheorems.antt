@@ -15,7 +15,7 @@ use Rattle.base.specs.Calls.{room as left}
 use Rattle.base.specs.declared.Verdict.{Verdict}
 use Rattle.base.specs.declared.Verdict.the-variants.{Fine, Broken}
 use Rattle.base.specs.declared.Outcome.{Outcome}
-use Rattle.base.specs.declared.Outcome.the-variants.{Done, Refused}
+use Rattle.base.specs.declared.Outcome.the-variants.{Done}
 use Rattle.base.proofs.RuleLaws.{first-append, first-last, then-clean}
 use Rattle.base.proofs.CallLaws.{accepted, not-short}
 use Rattle.fields.specs.Field.{Field, field, fields}
@@ -26,14 +26,16 @@ use Rattle.types.specs.Sign.{signOf}
 use Rattle.roles.specs.Role.{shapeOf}
 use Rattle.roles.specs.declared.Shape.{Shape}
 use Rattle.roles.specs.declared.Shape.the-variants.{Plain, Payer, Payee, Agent, Details, Note103, Note202}
+use Rattle.frame.proofs.CallLaws.{taken}
 use Rattle.judge.specs.Message.{messageRules, verdictOf}
+use Rattle.judge.proofs.VerdictTheorems.{frame-clean}
 use Rattle.writer.specs.Sheet.{messageFor, sheetRules, atStart, ownRule, writeRules, MessageTo}
 use Rattle.writer.proofs.RuleLaws.{sheet-rules, rules-write}
 use Rattle.written.specs.Sentences.{Every, OneByOne}
 use Rattle.records.specs.Record.{records}
 use Rattle.sheets.specs.Gather.{recordFor, gather, sheetOf}
 use Rattle.sheets.specs.Calls.{readRules, SheetTo}
-use Rattle.trips.specs.Again.{Crowded70}
+use Rattle.trips.specs.Again.{Crowded70, Returns, back, crowded}
 use Rattle.trips.proofs.Held as held
 use Rattle.trips.specs.Shown as shown
 use Rattle.trips.specs.Shown.{LineByLine, Shown}
@@ -96,6 +98,10 @@ module _ (form : Form) (m : List ℕ) (e : verdictOf form m ≡ Fine) where
     pub own-again : ownRule (sheetOf form m) ≡ Fine
     own-again = ap (λ (k : Form). atStart (verdictOf k (messageFor (sheetOf form m)))) (accepted-type form m e each) ∙ ap atStart accepted-again
 
+    -- it is within the limit: 10,000 bytes have room for it
+    pub again-within : length (messageFor (sheetOf form m)) ≤ limit
+    again-within = taken form (messageFor (sheetOf form m)) (frame-clean form (messageFor (sheetOf form m)) accepted-again) .within
+
     -- and has the same sheet
     pub same-sheet : sheetOf form (messageFor (sheetOf form m)) ≡ sheetOf form m
     same-sheet = ap (λ (k : Form). sheetOf k (messageFor (sheetOf form m))) (sym (accepted-type form m e each)) ∙ sheet-back (sheetOf form m) c
@@ -109,12 +115,7 @@ passes-202 m e = go (sheet-passes Mt202 m e)
     go (inr f) = absurd (omega (arith, ap typeOf (f .1 .type)))
 
 -- ---- carried to the calls
--- what the call on the sheet comes to, with room enough: r, and the room b
-pub data Returns (form : Form) (m room : List ℕ) (r : Outcome) (b : List ℕ) : Type 0 where
-  again : (n : ℕ) → r ≡ Done n → verdictOf form (take n b) ≡ Fine → sheetOf form (take n b) ≡ sheetOf form m → b ≡ take n b ++ drop n room → Returns form m room r b
-  crowded : r ≡ Refused 16 0 → b ≡ room → Crowded70 form (signOf (fields m)) (fields m) → Returns form m room r b
-
-module _ (form : Form) (m room : List ℕ) (e : verdictOf form m ≡ Fine) (r : Outcome) (b : List ℕ) (enough : length (messageFor (sheetOf form m)) ≤ length room) where
+module _ (form : Form) (m room : List ℕ) (e : verdictOf form m ≡ Fine) (r : Outcome) (b : List ℕ) (enough : Clean (sheetRules (sheetOf form m)) → length (messageFor (sheetOf form m)) ≤ length room) where
   abbrev sheet : List ℕ
   sheet = sheetOf form m
 
@@ -125,10 +126,10 @@ module _ (form : Form) (m room : List ℕ) (e : verdictOf form m ≡ Fine) (r : 
   unfolding MessageTo
   passes g c =
       let f : first (writeRules sheet room) ≡ Fine =
-      rules-write sheet room (record { sheet = sheet-rules sheet c; room = not-short built room enough; own = own-again form m e c }) in
+      rules-write sheet room (record { sheet = sheet-rules sheet c; room = not-short built room (enough c); own = own-again form m e c }) in
       let q : b ≡ over built room = g .leaves ∙ ap (λ (v : Verdict). left v built room) f in
       let t : take (length built) b ≡ built = ap (take (length built)) q ∙ take-append-seam built (drop (length built) room) in
-      again (length built) (g .answers ∙ ap (λ (v : Verdict). outcome v (length built)) f) (ap (verdictOf form) t ∙ accepted-again form m e c) (ap (sheetOf form) t ∙ same-sheet form m e c)
+      back (length built) (g .answers ∙ ap (λ (v : Verdict). outcome v (length built)) f) (ap (verdictOf form) t ∙ accepted-again form m e c) (ap (sheetOf form) t ∙ same-sheet form m e c)
       (q ∙ ap (λ (x : List ℕ). x ++ drop (length built) room) (sym t))
 
   stops : MessageTo sheet room r b → first (sheetRules sheet) ≡ Broken 16 0 → Crowded70 form (signOf (fields m)) (fields m) → Returns form m room r b
@@ -158,8 +159,14 @@ module _ (form : Form) (m out a : List ℕ) (n : ℕ) (g : SheetTo form m out (D
   pub read-shows : OneByOne (Shown form (signOf (fields m))) (fields m) (tail (records (take n a)))
   read-shows = subst (λ (x : List ℕ). OneByOne (Shown form (signOf (fields m))) (fields m) (tail (records x))) (sym (read-fine .1)) (sheet-shows form m (read-fine .0))
 
-  -- and handed to `to_message` it comes back
-  pub read-returns : (room : List ℕ) (r : Outcome) (b : List ℕ) → MessageTo (take n a) room r b → length (messageFor (take n a)) ≤ length room → Returns form m room r b
-  read-returns room r b h k =
-      let t = read-fine .1 in
-      returns form m room (read-fine .0) r b (subst (λ (x : List ℕ). length (messageFor x) ≤ length room) t k) (subst (λ (x : List ℕ). MessageTo x room r b) t h)
+  -- and handed to `to_message` it comes back, with room for the message that is written
+  module _ (room : List ℕ) (r : Outcome) (b : List ℕ) (h : MessageTo (take n a) room r b) where
+    written-to : MessageTo (sheetOf form m) room r b
+    written-to = subst (λ (x : List ℕ). MessageTo x room r b) (read-fine .1) h
+
+    pub read-returns : length (messageFor (take n a)) ≤ length room → Returns form m room r b
+    read-returns k = returns form m room (read-fine .0) r b (λ c. subst (λ (x : List ℕ). length (messageFor x) ≤ length room) (read-fine .1) k) written-to
+
+    -- so with 10,000 bytes
+    pub limit-returns : limit ≤ length room → Returns form m room r b
+    limit-returns k = returns form m room (read-fine .0) r b (λ c. omega (arith, again-within form m (read-fine .0) c)) written-to
