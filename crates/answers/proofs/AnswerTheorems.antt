@@ -3,36 +3,28 @@
 -- Assumes nothing.
 use Prim.Native.Nat.{ℕ, _+_, _<_, _≤_}
 use mathlib.Core.Path.{_≡_, refl, sym, ap, _∙_, subst}
-use mathlib.Core.Bool.{Bool, true, false, not}
-use mathlib.Core.List.{List, [], _∷_, _++_}
+use mathlib.Core.List.{List, _++_}
 use mathlib.Core.Logic.{_↔_}
 use native.Mathlib.Omega.{arith}
 use native.Mathlib.Decide.{decLt}
-use lib.ListN.{length, take, drop, length-append}
+use lib.ListN.{length, take, length-append}
 use lib.Seq.{take-all, length-take-le}
-use borrow.Author.Tests.{ne-eqb}
-use Rattle.base.specs.Bytes.{digit, other, without, begins}
-use Rattle.base.specs.Rules.{lastNumber, first}
+use Rattle.base.specs.Rules.{first}
 use Rattle.base.specs.Calls.{over, outcome, Gives}
 use Rattle.base.specs.declared.Verdict.{Verdict}
 use Rattle.base.specs.declared.Verdict.the-variants.{Fine, Broken}
 use Rattle.base.specs.declared.Outcome.{Outcome}
 use Rattle.base.specs.declared.Outcome.the-variants.{Done, Refused}
 use Rattle.base.proofs.RuleLaws.{then-clean, first-clean}
-use Rattle.base.proofs.Bools.{all-imp}
-use Rattle.base.proofs.ByteLaws.{digit-range}
 use Rattle.base.proofs.CallLaws.{gives-one, accepted, refused, within-limit}
-use Rattle.fields.specs.Field.{upto, past, message}
 use Rattle.fields.specs.Frame.{limit, rule1}
-use Rattle.fields.proofs.TagLaws.{upto-at, past-at}
 use Rattle.judge.proofs.RuleLaws.{accepted-rules}
 use Rattle.records.specs.Rule19.{sheetForm}
-use Rattle.values.specs.Number.{number}
 use Rattle.writer.specs.Sheet.{sheetRules, messageFor, ownRule, writeRules, MessageTo}
 use Rattle.written.proofs.OwnLaws.{own-fine}
-use Rattle.answers.specs.Line.{decimal, refusalLine, shown}
+use Rattle.answers.specs.Line.{refusalLine, shown}
 use Rattle.answers.specs.Programs.{messageVerdict, messageAnswer, MessageAnswered, sheetRead}
-use Rattle.answers.proofs.DigitLaws.{decimal-value, decimal-digits, size-most}
+use Rattle.answers.proofs.LineTheorems.{line-one, line-apart, line-fits}
 use Rattle.answers.proofs.VerdictLaws.{verdict-by, over-limit, room-verdict, fine-verdict}
 use Rattle.answers.proofs.PlaceLaws.{refusal-within}
 use Rattle.answers.proofs.CallLaws.{done-held, shows-done, shows-front}
@@ -41,34 +33,6 @@ use Rattle.answers.proofs.CallLaws.{done-held, shows-done, shows-front}
 pub answer-one : (s out : List ℕ) {r q : Outcome} {a b : List ℕ} → MessageAnswered s out r a → MessageAnswered s out q b → (r ≡ q) × (a ≡ b)
 unfolding MessageAnswered
 answer-one s out g h = gives-one g h
-
--- ---- a line stands for one refusal
-no-mark : (c n : ℕ) → c < 48 → without c (decimal n) ≡ true
-no-mark c n k = all-imp digit (other c) (λ x e. let h = digit-range x e in ap not (ne-eqb x c (λ z. omega arith))) (decimal n) (decimal-digits n)
-
-abbrev behindWord : List ℕ → List ℕ
-behindWord l = drop 8 l
-
-pub line-number : (n p : ℕ) → number (upto 9 (behindWord (refusalLine n p))) ≡ n
-unfolding refusalLine
-line-number n p = ap number (upto-at 9 (decimal n) (decimal p ++ 10 ∷ []) (no-mark 9 n (omega arith))) ∙ decimal-value n
-
-pub line-place : (n p : ℕ) → number (upto 10 (past 9 (behindWord (refusalLine n p)))) ≡ p
-unfolding refusalLine
-line-place n p =
-    ap (λ (l : List ℕ). number (upto 10 l)) (past-at 9 (decimal n) (decimal p ++ 10 ∷ []) (no-mark 9 n (omega arith)))
-    ∙ ap number (upto-at 10 (decimal p) [] (no-mark 10 p (omega arith))) ∙ decimal-value p
-
-pub line-one : (n p m q : ℕ) → refusalLine n p ≡ refusalLine m q → (n ≡ m) × (p ≡ q)
-line-one n p m q e = (
-  sym (line-number n p) ∙ ap (λ (l : List ℕ). number (upto 9 (behindWord l))) e ∙ line-number m q,
-  sym (line-place n p) ∙ ap (λ (l : List ℕ). number (upto 10 (past 9 (behindWord l)))) e ∙ line-place m q,
-)
-
--- and is no message
-pub line-apart : (n p : ℕ) (s : List ℕ) → refusalLine n p ≡ messageFor s → ⊥
-unfolding refusalLine messageFor message
-line-apart n p s e = let z : _≡_ {A = Bool} true false = ap (begins 114) e in let y : _≡_ {A = ℕ} 0 1 = cc in omega arith
 
 -- ---- the two ways, whatever room the call has that is enough for the message
 module _ (s out : List ℕ) (r : Outcome) (after : List ℕ) (g : MessageTo s out r after) where
@@ -96,7 +60,7 @@ module _ (s out : List ℕ) (r : Outcome) (after : List ℕ) (g : MessageTo s ou
       where
         go : (v : Verdict) → messageVerdict s ≡ v → shown v (messageFor s) ≡ messageFor s → r ≡ Done (length (messageFor s))
         go Fine e f = by-verdict Fine e
-        go (Broken n p) e f = absurd (line-apart n p s f)
+        go (Broken n p) e f = absurd (line-apart s n p f)
 
         back : (v : Verdict) → messageVerdict s ≡ v → r ≡ Done (length (messageFor s)) → shown v (messageFor s) ≡ messageFor s
         back Fine e f = refl
@@ -107,16 +71,10 @@ module _ (s out : List ℕ) (r : Outcome) (after : List ℕ) (g : MessageTo s ou
     exact-refused n p = (go (messageVerdict s) refl, answer-refused n p)
       where
         go : (v : Verdict) → messageVerdict s ≡ v → shown v (messageFor s) ≡ refusalLine n p → r ≡ Refused n p
-        go Fine e f = absurd (line-apart n p s (sym f))
+        go Fine e f = absurd (line-apart s n p (sym f))
         go (Broken m q) e f = let k = line-one m q n p f in let a = k .0 in let b = k .1 in let x = by-verdict (Broken m q) e in cc
 
 -- ---- 10,000 bytes have room for every answer
--- a line: a number of two digits, a place of five
-pub line-fits : (n p : ℕ) → n ≤ lastNumber → p ≤ limit → length (refusalLine n p) ≤ 17
-unfolding refusalLine
-line-fits n p a b =
-    omega (arith, length-append (decimal n) (9 ∷ (decimal p ++ 10 ∷ [])), length-append (decimal p) (10 ∷ []), size-most 1 n (omega arith), size-most 4 p (omega arith))
-
 module _ (s : List ℕ) where
   message-fits : messageVerdict s ≡ Fine → length (messageFor s) ≤ limit
   unfolding rule1

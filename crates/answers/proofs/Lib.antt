@@ -3,6 +3,7 @@ pub mod LineLaws
 pub mod VerdictLaws
 pub mod PlaceLaws
 pub mod CallLaws
+pub mod LineTheorems
 pub mod AnswerTheorems
 pub mod TypeLaws
 pub mod SheetLaws

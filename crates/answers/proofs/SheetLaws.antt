@@ -33,7 +33,7 @@ use Rattle.answers.specs.Line.{refusalLine, shown, Shows}
 use Rattle.answers.specs.Programs.{namesType, messageIn, typeRule, sheetVerdict, sheetAnswer, SheetAnswered, inputRead, formFor}
 use Rattle.answers.specs.Steps.{ReadsNamed, shownOf}
 use Rattle.answers.proofs.CallLaws.{shown-is, shows-done, shows-front}
-use Rattle.answers.proofs.AnswerTheorems.{line-fits}
+use Rattle.answers.proofs.LineTheorems.{line-fits}
 
 -- any two outcomes are equal, lent units counted
 pub sheet-answer-one : (i out : List ℕ) {r q : Outcome} {a b : List ℕ} → SheetAnswered i out r a → SheetAnswered i out q b → (r ≡ q) × (a ≡ b)

@@ -1,6 +1,7 @@
 -- A refusal as a line: `refused`, number and place in decimal digits, tabs between, LF; and what a verdict and a text are shown as (R3, N17).
 -- Assumes nothing.
 use Prim.Native.Nat.{ℕ, zero, suc, _+_, _/_, _%_}
+use mathlib.Core.Path.{_≡_}
 use mathlib.Core.List.{List, [], _∷_, _++_}
 use lib.Dec.{ltb}
 use Rattle.base.specs.Choice.{pick}
@@ -21,6 +22,10 @@ decimal n = digitsIn (suc n) n
 
 unfoldable pub refusalLine : ℕ → ℕ → List ℕ
 refusalLine number place = bytes "refused" ++ 9 ∷ (decimal number ++ 9 ∷ (decimal place ++ 10 ∷ []))
+
+-- a text that is no refusal's line
+abbrev pub NoLine : List ℕ → Type 0
+NoLine t = (number place : ℕ) → refusalLine number place ≡ t → ⊥
 
 -- the text where no rule is broken, else the line of the first that is
 abbrev pub shown : Verdict → List ℕ → List ℕ
