@@ -2,7 +2,7 @@
 -- equal; 10,000 bytes always have room; and what stands behind the first 10,001 bytes of a sheet changes nothing (R2, R3, O2, K9).
 -- Assumes nothing.
 use Prim.Native.Nat.{ℕ, _+_, _<_, _≤_}
-use mathlib.Core.Path.{_≡_, refl, sym, ap, _∙_, subst}
+use mathlib.Core.Path.{_≡_, refl, sym, ap, _∙_}
 use mathlib.Core.List.{List, _++_}
 use mathlib.Core.Logic.{_↔_}
 use native.Mathlib.Omega.{arith}
@@ -10,13 +10,13 @@ use native.Mathlib.Decide.{decLt}
 use lib.ListN.{length, take, length-append}
 use lib.Seq.{take-all, length-take-le}
 use Rattle.base.specs.Rules.{first}
-use Rattle.base.specs.Calls.{over, outcome, Gives}
+use Rattle.base.specs.Calls.{over, outcome}
 use Rattle.base.specs.declared.Verdict.{Verdict}
 use Rattle.base.specs.declared.Verdict.the-variants.{Fine, Broken}
 use Rattle.base.specs.declared.Outcome.{Outcome}
 use Rattle.base.specs.declared.Outcome.the-variants.{Done, Refused}
 use Rattle.base.proofs.RuleLaws.{then-clean, first-clean}
-use Rattle.base.proofs.CallLaws.{gives-one, accepted, refused, within-limit}
+use Rattle.base.proofs.CallLaws.{gives-one, within-limit}
 use Rattle.fields.specs.Frame.{limit, rule1}
 use Rattle.judge.proofs.RuleLaws.{accepted-rules}
 use Rattle.records.specs.Rule19.{sheetForm}
@@ -24,10 +24,10 @@ use Rattle.writer.specs.Sheet.{sheetRules, messageFor, ownRule, writeRules, Mes
 use Rattle.written.proofs.OwnLaws.{own-fine}
 use Rattle.answers.specs.Line.{refusalLine, shown}
 use Rattle.answers.specs.Programs.{messageVerdict, messageAnswer, MessageAnswered, sheetRead}
-use Rattle.answers.proofs.LineTheorems.{line-one, line-apart, line-fits}
+use Rattle.answers.proofs.LineTheorems.{line-apart, text-exact, line-exact, line-fits}
 use Rattle.answers.proofs.VerdictLaws.{verdict-by, over-limit, room-verdict, fine-verdict}
 use Rattle.answers.proofs.PlaceLaws.{refusal-within}
-use Rattle.answers.proofs.CallLaws.{done-held, shows-done, shows-front}
+use Rattle.answers.proofs.CallLaws.{done-shown, shows-done, shows-front}
 
 -- any two outcomes are equal, lent units counted
 pub answer-one : (s out : List ℕ) {r q : Outcome} {a b : List ℕ} → MessageAnswered s out r a → MessageAnswered s out q b → (r ≡ q) × (a ≡ b)
@@ -38,41 +38,21 @@ answer-one s out g h = gives-one g h
 module _ (s out : List ℕ) (r : Outcome) (after : List ℕ) (g : MessageTo s out r after) where
   pub answer-message : (n : ℕ) → r ≡ Done n → messageAnswer s ≡ take n after
   unfolding MessageTo messageAnswer
-  answer-message n e =
-      let w : Gives (writeRules s out) (messageFor s) out (Done n) after = subst (λ (q : Outcome). Gives (writeRules s out) (messageFor s) out q after) e g in
-      ap (λ (v : Verdict). shown v (messageFor s)) (fine-verdict s out (accepted (writeRules s out) (messageFor s) out n after w .clean)) ∙ sym (done-held (writeRules s out) (messageFor s) out after w .1)
+  answer-message n e = done-shown (writeRules s out) (messageFor s) out after g e (messageVerdict s) (fine-verdict s out)
 
   module _ (h : length (messageFor s) ≤ length out) where
-    pub answer-refused : (n p : ℕ) → r ≡ Refused n p → messageAnswer s ≡ refusalLine n p
-    unfolding MessageTo messageAnswer
-    answer-refused n p e =
-        let w : Gives (writeRules s out) (messageFor s) out (Refused n p) after = subst (λ (q : Outcome). Gives (writeRules s out) (messageFor s) out q after) e g in
-        ap (λ (v : Verdict). shown v (messageFor s)) (sym (room-verdict s out h) ∙ refused (writeRules s out) (messageFor s) out n p after w .0)
-
-    by-verdict : (v : Verdict) → messageVerdict s ≡ v → r ≡ outcome v (length (messageFor s))
+    message-outcome : r ≡ outcome (messageVerdict s) (length (messageFor s))
     unfolding MessageTo
-    by-verdict v e = g .answers ∙ ap (λ (u : Verdict). outcome u (length (messageFor s))) (room-verdict s out h ∙ e)
+    message-outcome = g .answers ∙ ap (λ (u : Verdict). outcome u (length (messageFor s))) (room-verdict s out h)
 
     -- the message exactly if the call writes it, a refusal's line exactly if the call gives that refusal
     pub exact-message : (messageAnswer s ≡ messageFor s) ↔ (r ≡ Done (length (messageFor s)))
     unfolding messageAnswer
-    exact-message = (go (messageVerdict s) refl, back (messageVerdict s) refl)
-      where
-        go : (v : Verdict) → messageVerdict s ≡ v → shown v (messageFor s) ≡ messageFor s → r ≡ Done (length (messageFor s))
-        go Fine e f = by-verdict Fine e
-        go (Broken n p) e f = absurd (line-apart s n p f)
-
-        back : (v : Verdict) → messageVerdict s ≡ v → r ≡ Done (length (messageFor s)) → shown v (messageFor s) ≡ messageFor s
-        back Fine e f = refl
-        back (Broken n p) e f = let x = by-verdict (Broken n p) e in let z : _≡_ {A = ℕ} 0 1 = cc in absurd (omega arith)
+    exact-message = text-exact (messageVerdict s) (messageFor s) (line-apart s) r message-outcome
 
     pub exact-refused : (n p : ℕ) → (messageAnswer s ≡ refusalLine n p) ↔ (r ≡ Refused n p)
     unfolding messageAnswer
-    exact-refused n p = (go (messageVerdict s) refl, answer-refused n p)
-      where
-        go : (v : Verdict) → messageVerdict s ≡ v → shown v (messageFor s) ≡ refusalLine n p → r ≡ Refused n p
-        go Fine e f = absurd (line-apart s n p (sym f))
-        go (Broken m q) e f = let k = line-one m q n p f in let a = k .0 in let b = k .1 in let x = by-verdict (Broken m q) e in cc
+    exact-refused = line-exact (messageVerdict s) (messageFor s) (line-apart s) r message-outcome
 
 -- ---- 10,000 bytes have room for every answer
 module _ (s : List ℕ) where

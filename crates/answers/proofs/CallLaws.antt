@@ -12,7 +12,7 @@ use Rattle.base.specs.Choice.{pick}
 use Rattle.base.specs.Rules.{first}
 use Rattle.base.specs.Calls.{short, over, Gives}
 use Rattle.base.specs.declared.Verdict.{Verdict}
-use Rattle.base.specs.declared.Verdict.the-variants.{Broken}
+use Rattle.base.specs.declared.Verdict.the-variants.{Fine, Broken}
 use Rattle.base.specs.declared.Outcome.{Outcome}
 use Rattle.base.specs.declared.Outcome.the-variants.{Done, Refused}
 use Rattle.base.proofs.CallLaws.{accepted, refused, not-short}
@@ -34,6 +34,12 @@ module _ (rules : List Verdict) (t old m : List ℕ) where
   pub shown-is : {a : Outcome} → Gives rules t old a m → shownOf a m ≡ shown (first rules) t
   shown-is {a = Done n} g = done-held g .1 ∙ ap (λ (v : Verdict). shown v t) (sym (accepted rules t old n m g .clean))
   shown-is {a = Refused n p} g = ap (λ (v : Verdict). shown v t) (sym (refused rules t old n p m g .0))
+
+  -- what an accepted call put is what is shown, by any verdict that is fine where the call's is
+  pub done-shown : {r : Outcome} {n : ℕ} → Gives rules t old r m → r ≡ Done n → (v : Verdict) → (first rules ≡ Fine → v ≡ Fine) → shown v t ≡ take n m
+  done-shown {n = n} g e v f =
+      let w : Gives rules t old (Done n) m = subst (λ (q : Outcome). Gives rules t old q m) e g in
+      ap (λ (u : Verdict). shown u t) (f (accepted rules t old n m w .clean)) ∙ sym (done-held w .1)
 
 -- ---- a text put into the room lent
 pub shows-done : (t out after : List ℕ) (r : Outcome) → length t ≤ length out → Shows t out r after → (r ≡ Done (length t)) × (after ≡ over t out)

@@ -1,13 +1,20 @@
--- A refusal's line stands for one number and one place, is neither a message nor a sheet, and is short (R3). Assumes nothing.
+-- A refusal's line stands for one number and one place, is neither a message nor a sheet, and is short; so what is shown tells whether the call
+-- wrote its text, and if not, its refusal (R3). Assumes nothing.
 use Prim.Native.Nat.{ℕ, _<_, _≤_}
 use mathlib.Core.Path.{_≡_, refl, sym, ap, _∙_}
 use mathlib.Core.Bool.{true, false, not, false≢true}
 use mathlib.Core.List.{List, [], _∷_, _++_}
+use mathlib.Core.Logic.{_↔_}
 use native.Mathlib.Omega.{arith}
 use lib.ListN.{length, drop, length-append}
 use borrow.Author.Tests.{ne-eqb}
 use Rattle.base.specs.Bytes.{digit, other, without, begins}
 use Rattle.base.specs.Rules.{lastNumber}
+use Rattle.base.specs.Calls.{outcome}
+use Rattle.base.specs.declared.Verdict.{Verdict}
+use Rattle.base.specs.declared.Verdict.the-variants.{Fine, Broken}
+use Rattle.base.specs.declared.Outcome.{Outcome}
+use Rattle.base.specs.declared.Outcome.the-variants.{Done, Refused}
 use Rattle.base.proofs.Bools.{all-imp}
 use Rattle.base.proofs.ByteLaws.{digit-range}
 use Rattle.fields.specs.Field.{upto, past, message}
@@ -17,7 +24,7 @@ use Rattle.types.specs.declared.Form.{Form}
 use Rattle.values.specs.Number.{number}
 use Rattle.writer.specs.Sheet.{messageFor}
 use Rattle.sheets.specs.Gather.{recordsOf, sheetOf}
-use Rattle.answers.specs.Line.{decimal, refusalLine, NoLine}
+use Rattle.answers.specs.Line.{decimal, refusalLine, NoLine, shown}
 use Rattle.answers.proofs.DigitLaws.{decimal-value, decimal-digits, size-most}
 
 -- ---- a line stands for one refusal
@@ -55,6 +62,32 @@ line-apart s = unlined (messageFor s) refl
 pub sheet-apart : (form : Form) (m : List ℕ) → NoLine (sheetOf form m)
 unfolding sheetOf recordsOf
 sheet-apart form m = unlined (sheetOf form m) refl
+
+-- ---- a verdict and a text, by what is shown of them and by what a call with that verdict answers, r
+module _ (v : Verdict) (t : List ℕ) (apart : NoLine t) (r : Outcome) (a : r ≡ outcome v (length t)) where
+  -- the text exactly if the call writes it
+  pub text-exact : (shown v t ≡ t) ↔ (r ≡ Done (length t))
+  text-exact = (go v a, back v a)
+    where
+      go : (v : Verdict) → r ≡ outcome v (length t) → shown v t ≡ t → r ≡ Done (length t)
+      go Fine b f = b
+      go (Broken n p) b f = absurd (apart n p f)
+
+      back : (v : Verdict) → r ≡ outcome v (length t) → r ≡ Done (length t) → shown v t ≡ t
+      back Fine b f = refl
+      back (Broken n p) b f = let z : _≡_ {A = ℕ} 0 1 = cc in absurd (omega arith)
+
+  -- a refusal's line exactly if the call gives that refusal
+  pub line-exact : (n p : ℕ) → (shown v t ≡ refusalLine n p) ↔ (r ≡ Refused n p)
+  line-exact n p = (go v a, back v a)
+    where
+      go : (v : Verdict) → r ≡ outcome v (length t) → shown v t ≡ refusalLine n p → r ≡ Refused n p
+      go Fine b f = absurd (apart n p (sym f))
+      go (Broken m q) b f = let k = line-one m q n p f in let x = k .0 in let y = k .1 in cc
+
+      back : (v : Verdict) → r ≡ outcome v (length t) → r ≡ Refused n p → shown v t ≡ refusalLine n p
+      back Fine b f = let z : _≡_ {A = ℕ} 0 1 = cc in absurd (omega arith)
+      back (Broken m q) b f = let x : m ≡ n = cc in let y : q ≡ p = cc in cc
 
 -- ---- its size: a number of two digits, a place of five
 pub line-fits : (n p : ℕ) → n ≤ lastNumber → p ≤ limit → length (refusalLine n p) ≤ 17

@@ -4,6 +4,7 @@ use Prim.Native.Nat.{ℕ, zero, suc, _+_, _<_, _≤_}
 use mathlib.Core.Path.{_≡_, refl, sym, ap, ap₂, _∙_, subst}
 use mathlib.Core.Bool.{Bool, true, false}
 use mathlib.Core.List.{List, [], _∷_}
+use mathlib.Core.Logic.{_↔_}
 use native.Mathlib.Omega.{arith}
 use native.Mathlib.Decide.{decLt}
 use lib.ListN.{length, take, length-drop}
@@ -11,7 +12,7 @@ use lib.Seq.{take-all, length-take-le}
 use Rattle.base.specs.Choice.{pick}
 use Rattle.base.specs.Bytes.{byte}
 use Rattle.base.specs.Rules.{then, first}
-use Rattle.base.specs.Calls.{short, over}
+use Rattle.base.specs.Calls.{short, outcome, over}
 use Rattle.base.specs.declared.Verdict.{Verdict}
 use Rattle.base.specs.declared.Verdict.the-variants.{Fine, Broken}
 use Rattle.base.specs.declared.Outcome.{Outcome}
@@ -26,14 +27,13 @@ use Rattle.judge.specs.Message.{messageRules, verdictOf}
 use Rattle.judge.proofs.SmallLaws.{verdict-small}
 use Rattle.frame.proofs.SmallLaws as verdicts
 use Rattle.records.specs.Rule19.{number}
-use Rattle.sheets.specs.Gather.{sheetOf}
 use Rattle.sheets.specs.Calls.{readRules, SheetTo}
 use Rattle.trips.proofs.AgainTheorems.{sheet-size}
 use Rattle.answers.specs.Line.{refusalLine, shown, Shows}
-use Rattle.answers.specs.Programs.{namesType, messageIn, typeRule, sheetVerdict, sheetAnswer, SheetAnswered, inputRead, formFor}
+use Rattle.answers.specs.Programs.{namesType, messageIn, typeRule, sheetVerdict, sheetIn, sheetAnswer, namedOutcome, SheetAnswered, inputRead, formFor}
 use Rattle.answers.specs.Steps.{ReadsNamed, shownOf}
-use Rattle.answers.proofs.CallLaws.{shown-is, shows-done, shows-front}
-use Rattle.answers.proofs.LineTheorems.{line-fits}
+use Rattle.answers.proofs.CallLaws.{shown-is, done-shown, shows-done, shows-front}
+use Rattle.answers.proofs.LineTheorems.{sheet-apart, text-exact, line-exact, line-fits}
 
 -- any two outcomes are equal, lent units counted
 pub sheet-answer-one : (i out : List ℕ) {r q : Outcome} {a b : List ℕ} → SheetAnswered i out r a → SheetAnswered i out q b → (r ≡ q) × (a ≡ b)
@@ -50,27 +50,63 @@ reads-typed i m {n} {form} {t} {after} {r} e k f q g =
     gives-past (ap (λ (b : Bool). pick b Fine (Broken 18 0)) e)
     (subst (λ (x : List ℕ). SheetTo (formFor i) x m r after) q (subst (λ (x : Form). SheetTo x t m r after) (f ∙ ap formOf k) g))
 
--- ---- with 10,000 bytes the room is never too short
-room-last : (i m : List ℕ) → length m ≡ limit → first (typeRule i ∷ readRules (formFor i) (messageIn i) m) ≡ sheetVerdict i
-unfolding verdictOf
-room-last i m l = first-last (typeRule i ∷ messageRules (formFor i) (messageIn i)) (short (sheetOf (formFor i) (messageIn i)) m) ∙ go (sheetVerdict i) refl
+-- ---- with room enough for a sheet, 17 makes no difference
+room-last : (i m : List ℕ) → (sheetVerdict i ≡ Fine → length (sheetIn i) ≤ length m) → first (typeRule i ∷ readRules (formFor i) (messageIn i) m) ≡ sheetVerdict i
+room-last i m h = first-last (typeRule i ∷ messageRules (formFor i) (messageIn i)) (short (sheetIn i) m) ∙ go (sheetVerdict i) refl
   where
-    go : (v : Verdict) → sheetVerdict i ≡ v → then v (short (sheetOf (formFor i) (messageIn i)) m) ≡ v
+    go : (v : Verdict) → sheetVerdict i ≡ v → then v (short (sheetIn i) m) ≡ v
     go (Broken n p) e = refl
-    go Fine e =
-        not-short (sheetOf (formFor i) (messageIn i)) m
-        (omega (arith, sheet-size (formFor i) (messageIn i) (then-clean (typeRule i) (first (messageRules (formFor i) (messageIn i))) e .1)))
+    go Fine e = not-short (sheetIn i) m (h e)
+
+-- and 10,000 bytes are enough
+fine-size : (i : List ℕ) → sheetVerdict i ≡ Fine → length (sheetIn i) ≤ limit
+unfolding verdictOf
+fine-size i e = sheet-size (formFor i) (messageIn i) (then-clean (typeRule i) (first (messageRules (formFor i) (messageIn i))) e .1)
 
 module _ (i old m : List ℕ) (l : length old ≡ limit) (a : Outcome) (g : ReadsNamed i old a m) where
   pub sheet-answered : {out after : List ℕ} {r : Outcome} → Shows (shownOf a m) out r after → SheetAnswered i out r after
   unfolding SheetAnswered sheetAnswer
   sheet-answered {out} {after} {r} h =
-      subst (λ (t : List ℕ). Shows t out r after) (shown-is _ _ old m g ∙ ap (λ (v : Verdict). shown v (sheetOf (formFor i) (messageIn i))) (room-last i old l)) h
+      subst (λ (t : List ℕ). Shows t out r after) (shown-is _ _ old m g ∙ ap (λ (v : Verdict). shown v (sheetIn i)) (room-last i old (λ e. omega (arith, fine-size i e)))) h
+
+-- ---- the two ways, whatever room the call has that is enough for the sheet
+module _ (i out : List ℕ) (r : Outcome) (after : List ℕ) (g : SheetTo (formFor i) (messageIn i) out r after) where
+  -- the whole call: 18 where no type is named
+  whole-outcome : namedOutcome i r ≡ outcome (first (typeRule i ∷ readRules (formFor i) (messageIn i) out)) (length (sheetIn i))
+  unfolding SheetTo
+  whole-outcome = go (namesType i)
+    where
+      go : (b : Bool) → pick b r (Refused 18 0) ≡ outcome (then (pick b Fine (Broken 18 0)) (first (readRules (formFor i) (messageIn i) out))) (length (sheetIn i))
+      go true = g .answers
+      go false = refl
+
+  pub answer-sheet : (n : ℕ) → namedOutcome i r ≡ Done n → sheetAnswer i ≡ take n after
+  unfolding SheetTo sheetAnswer
+  answer-sheet n = go (namesType i)
+    where
+      go : (b : Bool) → pick b r (Refused 18 0) ≡ Done n → shown (then (pick b Fine (Broken 18 0)) (first (messageRules (formFor i) (messageIn i)))) (sheetIn i) ≡ take n after
+      go true e =
+          done-shown (readRules (formFor i) (messageIn i) out) (sheetIn i) out after g e (first (messageRules (formFor i) (messageIn i)))
+          (λ f. then-clean (first (messageRules (formFor i) (messageIn i))) (short (sheetIn i) out) (sym (first-last (messageRules (formFor i) (messageIn i)) (short (sheetIn i) out)) ∙ f) .0)
+      go false e = let z : _≡_ {A = ℕ} 0 1 = cc in absurd (omega arith)
+
+  module _ (h : length (sheetIn i) ≤ length out) where
+    sheet-outcome : namedOutcome i r ≡ outcome (sheetVerdict i) (length (sheetIn i))
+    sheet-outcome = whole-outcome ∙ ap (λ (v : Verdict). outcome v (length (sheetIn i))) (room-last i out (λ e. h))
+
+    -- the sheet exactly if a type is named and the call writes it, a refusal's line exactly if the call gives that refusal, or 18 for want of a type
+    pub exact-sheet : (sheetAnswer i ≡ sheetIn i) ↔ (namedOutcome i r ≡ Done (length (sheetIn i)))
+    unfolding sheetAnswer
+    exact-sheet = text-exact (sheetVerdict i) (sheetIn i) (sheet-apart (formFor i) (messageIn i)) (namedOutcome i r) sheet-outcome
+
+    pub exact-sheet-refused : (n p : ℕ) → (sheetAnswer i ≡ refusalLine n p) ↔ (namedOutcome i r ≡ Refused n p)
+    unfolding sheetAnswer
+    exact-sheet-refused = line-exact (sheetVerdict i) (sheetIn i) (sheet-apart (formFor i) (messageIn i)) (namedOutcome i r) sheet-outcome
 
 -- ---- it fits 10,000 bytes
-fits-by : (i : List ℕ) (v : Verdict) → sheetVerdict i ≡ v → length (shown v (sheetOf (formFor i) (messageIn i))) ≤ limit
+fits-by : (i : List ℕ) (v : Verdict) → sheetVerdict i ≡ v → length (shown v (sheetIn i)) ≤ limit
 unfolding verdictOf
-fits-by i Fine e = sheet-size (formFor i) (messageIn i) (then-clean (typeRule i) (first (messageRules (formFor i) (messageIn i))) e .1)
+fits-by i Fine e = fine-size i e
 fits-by i (Broken n p) e = go (namesType i) (first (messageRules (formFor i) (messageIn i))) (verdict-small (formFor i) (messageIn i)) e
   where
     go : (b : Bool) (v : Verdict) → verdicts.Small limit v → then (pick b Fine (Broken 18 0)) v ≡ Broken n p → length (refusalLine n p) ≤ limit

@@ -10,6 +10,7 @@ use Rattle.base.specs.Rules.{first}
 use Rattle.base.specs.declared.Verdict.{Verdict}
 use Rattle.base.specs.declared.Verdict.the-variants.{Fine, Broken}
 use Rattle.base.specs.declared.Outcome.{Outcome}
+use Rattle.base.specs.declared.Outcome.the-variants.{Refused}
 use Rattle.fields.specs.Frame.{limit}
 use Rattle.types.specs.declared.Form.{Form}
 use Rattle.types.specs.Form.{formOf}
@@ -48,8 +49,15 @@ abbrev pub sheetVerdict : List ℕ → Verdict
 sheetVerdict i = first (typeRule i ∷ messageRules (formFor i) (messageIn i))
 
 -- the sheet of the message, or its refusal
+abbrev pub sheetIn : List ℕ → List ℕ
+sheetIn i = sheetOf (formFor i) (messageIn i)
+
 unfoldable pub sheetAnswer : List ℕ → List ℕ
-sheetAnswer i = shown (sheetVerdict i) (sheetOf (formFor i) (messageIn i))
+sheetAnswer i = shown (sheetVerdict i) (sheetIn i)
+
+-- what the call on the message answers, r, or 18 where no type is named
+abbrev pub namedOutcome : List ℕ → Outcome → Outcome
+namedOutcome i r = pick (namesType i) r (Refused 18 0)
 
 unfoldable pub SheetAnswered : List ℕ → List ℕ → Outcome → List ℕ → Type 0
 SheetAnswered i out r after = Shows (sheetAnswer i) out r after

@@ -8,10 +8,9 @@ use Rattle.base.specs.Choice.{pick}
 use Rattle.base.specs.declared.Outcome.{Outcome}
 use Rattle.base.specs.declared.Outcome.the-variants.{Done, Refused}
 use Rattle.base.specs.Calls.{Gives}
-use Rattle.sheets.specs.Gather.{sheetOf}
 use Rattle.sheets.specs.Calls.{readRules}
 use Rattle.answers.specs.Line.{refusalLine}
-use Rattle.answers.specs.Programs.{messageIn, typeRule, formFor}
+use Rattle.answers.specs.Programs.{messageIn, typeRule, formFor, sheetIn}
 
 -- a message that 10,000 bytes have no room for is one that 1 refuses, with place 0
 abbrev pub roomless : Outcome → Outcome
@@ -20,7 +19,7 @@ roomless (Refused number place) = pick (eqb number 17) (Refused 1 0) (Refused nu
 
 -- the sheet of the message behind the type, put into the room m
 abbrev pub ReadsNamed : List ℕ → List ℕ → Outcome → List ℕ → Type 0
-ReadsNamed i m r after = Gives (typeRule i ∷ readRules (formFor i) (messageIn i) m) (sheetOf (formFor i) (messageIn i)) m r after
+ReadsNamed i m r after = Gives (typeRule i ∷ readRules (formFor i) (messageIn i) m) (sheetIn i) m r after
 
 -- what a call answered and left in m: its first n bytes, or the refusal as a line
 abbrev pub shownOf : Outcome → List ℕ → List ℕ
