@@ -7,4 +7,5 @@ pub mod LineTheorems
 pub mod AnswerTheorems
 pub mod TypeLaws
 pub mod SheetLaws
+pub mod BackTheorems
 pub mod Examples

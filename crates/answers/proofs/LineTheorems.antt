@@ -89,6 +89,11 @@ module _ (v : Verdict) (t : List ℕ) (apart : NoLine t) (r : Outcome) (a : r �
       back Fine b f = let z : _≡_ {A = ℕ} 0 1 = cc in absurd (omega arith)
       back (Broken m q) b f = let x : m ≡ n = cc in let y : q ≡ p = cc in cc
 
+-- what is shown and is no line is the text, and no rule is broken
+pub shown-fine : (v : Verdict) (t : List ℕ) → NoLine (shown v t) → v ≡ Fine
+shown-fine Fine t h = refl
+shown-fine (Broken n p) t h = absurd (h n p refl)
+
 -- ---- its size: a number of two digits, a place of five
 pub line-fits : (n p : ℕ) → n ≤ lastNumber → p ≤ limit → length (refusalLine n p) ≤ 17
 unfolding refusalLine

@@ -1,4 +1,5 @@
 pub mod Line
 pub mod Programs
+pub mod Back
 pub mod Steps
 pub mod Cases
