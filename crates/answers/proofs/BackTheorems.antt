@@ -13,7 +13,7 @@ use Rattle.base.specs.declared.Verdict.the-variants.{Fine, Broken}
 use Rattle.base.specs.declared.Outcome.{Outcome}
 use Rattle.base.specs.declared.Outcome.the-variants.{Done}
 use Rattle.base.proofs.RuleLaws.{fine-broken, then-clean, first-clean, clean-first}
-use Rattle.fields.specs.Field.{upto, past, fields}
+use Rattle.fields.specs.Field.{fields}
 use Rattle.fields.specs.Frame.{limit}
 use Rattle.types.specs.declared.Form.{Form}
 use Rattle.types.specs.declared.Form.the-variants.{Other, Mt103, Mt202}
@@ -24,9 +24,9 @@ use Rattle.judge.proofs.RuleLaws.{accepted-rules}
 use Rattle.records.specs.Rule19.{sheetForm}
 use Rattle.writer.specs.Sheet.{messageFor, sheetRules, ownRule}
 use Rattle.written.proofs.OwnLaws.{own-fine}
-use Rattle.sheets.specs.Gather.{typeName, recordsOf, sheetOf}
+use Rattle.sheets.specs.Gather.{typeName, sheetOf}
 use Rattle.trips.specs.Again.{Crowded70}
-use Rattle.trips.proofs.BackLaws.{sheet-back}
+use Rattle.trips.proofs.BackLaws.{type-stands, sheet-back}
 use Rattle.trips.proofs.AgainTheorems.{sheet-passes, own-again}
 use Rattle.answers.specs.Line.{NoLine, shown}
 use Rattle.answers.specs.Programs.{messageVerdict, messageAnswer, MessageAnswered, namesType, messageIn, formFor, typeRule, sheetVerdict, sheetIn, sheetAnswer, SheetAnswered}
@@ -36,13 +36,7 @@ use Rattle.answers.proofs.VerdictLaws.{verdict-by}
 use Rattle.answers.proofs.AnswerTheorems.{answer-done, answer-front}
 use Rattle.answers.proofs.SheetLaws.{sheet-done, sheet-front}
 
--- ---- a sheet of one of the two types names it, and `tosheet` takes what is so named
-input-is : (form : Form) (m n : List ℕ) → rule18 form ≡ Fine → inputOf (sheetOf form m) n ≡ typeName form ++ 10 ∷ n
-unfolding rule18 sheetOf recordsOf upto past
-input-is Mt103 m n e = refl
-input-is Mt202 m n e = refl
-input-is Other m n e = absurd (fine-broken 18 0 (sym e))
-
+-- ---- what stands behind the name of one of the two types
 named-answer : (form : Form) (m : List ℕ) → rule18 form ≡ Fine → sheetAnswer (typeName form ++ 10 ∷ m) ≡ shown (verdictOf form m) (sheetOf form m)
 unfolding rule18 sheetAnswer namesType digit verdictOf
 named-answer Mt103 m e = refl
@@ -53,7 +47,7 @@ named-answer Other m e = absurd (fine-broken 18 0 (sym e))
 own-sheet : (form : Form) (m : List ℕ) → verdictOf form m ≡ Fine → sheetAnswer (inputOf (sheetOf form m) m) ≡ sheetOf form m
 own-sheet form m e =
     let t = accepted-rules form m e .pass .type in
-    ap sheetAnswer (input-is form m m t) ∙ named-answer form m t ∙ ap (λ (v : Verdict). shown v (sheetOf form m)) e
+    ap (λ (p : List ℕ). sheetAnswer (p ++ 10 ∷ m)) (type-stands form m t) ∙ named-answer form m t ∙ ap (λ (v : Verdict). shown v (sheetOf form m)) e
 
 -- ---- from a sheet
 module _ (s : List ℕ) (e : messageVerdict s ≡ Fine) where

@@ -7,18 +7,15 @@ use lib.ListN.{length, take}
 use Rattle.base.specs.Calls.{over}
 use Rattle.base.specs.declared.Outcome.{Outcome}
 use Rattle.base.specs.declared.Outcome.the-variants.{Done}
-use Rattle.fields.specs.Field.{upto, past, fields}
+use Rattle.fields.specs.Field.{fields}
 use Rattle.fields.specs.Frame.{limit}
 use Rattle.types.specs.Sign.{signOf}
 use Rattle.trips.specs.Again.{Crowded70}
+use Rattle.trips.specs.Back.{typeIn}
 use Rattle.answers.specs.Line.{refusalLine, NoLine}
 use Rattle.answers.specs.Programs.{SheetAnswered, messageIn, formFor}
 
--- the type that a sheet names stands between its first tab and the LF behind that
-abbrev pub typeIn : List ℕ → List ℕ
-typeIn s = upto 10 (past 9 s)
-
--- that type, LF and a message
+-- the type that the sheet names, LF and a message
 abbrev pub inputOf : List ℕ → List ℕ → List ℕ
 inputOf s m = typeIn s ++ 10 ∷ m
 

@@ -1,2 +1,3 @@
 pub mod Words
 pub mod Sizes
+pub mod BackTheorems

@@ -1,3 +1,4 @@
 pub mod Answer
 pub mod Exports
+pub mod Back
 pub mod Sizes

@@ -1,6 +1,6 @@
 -- What the contract of `to_sheet` says: accepted exactly if no rule is broken, refused by the first that is, and what is in the room then; that
 -- any two outcomes are equal; and that every text of an accepted message reads (N17, O1, K4, K6, K9, D2e). Assumes nothing.
-use Prim.Native.Nat.{ℕ, _<_}
+use Prim.Native.Nat.{ℕ, _<_, _≤_}
 use mathlib.Core.Path.{_≡_, refl, ap, _∙_, subst}
 use mathlib.Core.List.{List}
 use mathlib.Core.Logic.{_↔_}
@@ -12,7 +12,7 @@ use Rattle.base.specs.declared.Verdict.the-variants.{Fine, Broken}
 use Rattle.base.specs.declared.Outcome.{Outcome}
 use Rattle.base.specs.declared.Outcome.the-variants.{Done, Refused}
 use Rattle.base.proofs.RuleLaws.{accepted-iff, refused-iff}
-use Rattle.base.proofs.CallLaws.{gives-one, accepted, refused, is-short}
+use Rattle.base.proofs.CallLaws.{gives-one, accepted, refused, is-short, not-short}
 use Rattle.fields.specs.Field.{fields}
 use Rattle.types.specs.declared.Form.{Form}
 use Rattle.types.specs.Sign.{signOf}
@@ -64,6 +64,10 @@ module _ (form : Form) (m out : List ℕ) (r : Outcome) (after : List ℕ) (g : 
   -- 17 for an accepted one: the room is shorter than the sheet, and the place is the sheet's length
   pub sheet-narrow : verdictOf form m ≡ Fine → length out < length (sheetOf form m) → r ≡ Refused 17 (length (sheetOf form m))
   sheet-narrow e h = by-first (last-17 form m out e (is-short (sheetOf form m) out h))
+
+  -- else the sheet
+  pub sheet-wide : verdictOf form m ≡ Fine → length (sheetOf form m) ≤ length out → (r ≡ Done (length (sheetOf form m))) × (after ≡ over (sheetOf form m) out)
+  sheet-wide e h = let d = by-first (last-17 form m out e (not-short (sheetOf form m) out h)) in (d, sheet-filled (length (sheetOf form m)) d .1)
 
 -- every text of an accepted message reads, so that no part of its sheet stands for a text without a reading
 pub texts-read : (form : Form) (m : List ℕ) → verdictOf form m ≡ Fine → AllReadable form (signOf (fields m)) (fields m)

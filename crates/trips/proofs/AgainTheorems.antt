@@ -147,7 +147,7 @@ module _ (form : Form) (m room : List ℕ) (e : verdictOf form m ≡ Fine) (r : 
 
 -- a message that was read: it is accepted, and the sheet was left
 module _ (form : Form) (m out a : List ℕ) (n : ℕ) (g : SheetTo form m out (Done n) a) where
-  read-fine : (verdictOf form m ≡ Fine) × (take n a ≡ sheetOf form m)
+  pub read-fine : (verdictOf form m ≡ Fine) × (take n a ≡ sheetOf form m)
   unfolding SheetTo verdictOf
   read-fine =
       let w = accepted (readRules form m out) (sheetOf form m) out n a g in (

@@ -1,7 +1,7 @@
 -- A sheet that is written reads back as that sheet: part by part, record by record, whole, and by the two calls (D2d, S2, T7, T12, Cdetails, C72,
 -- N17). Assumes nothing.
 use Prim.Native.Nat.{ℕ, _+_, _*_, _-_, _/_, _%_, _≤_, _<_}
-use mathlib.Core.Path.{_≡_, refl, sym, ap, ap₂, _∙_}
+use mathlib.Core.Path.{_≡_, refl, sym, ap, ap₂, _∙_, subst}
 use mathlib.Core.Bool.{Bool, true, false, false≢true}
 use mathlib.Core.List.{List, [], _∷_, _++_, map, tail}
 use native.Mathlib.Omega.{arith}
@@ -14,20 +14,18 @@ use Rattle.types.specs.Walk.{rule18}
 use Rattle.base.specs.Choice.{all, pick}
 use Rattle.base.specs.Bytes.{digit, same}
 use Rattle.base.specs.Quoted.{bytes}
-use Rattle.base.specs.Rules.{then, first, Clean}
-use Rattle.base.specs.Calls.{textOf, short, outcome, room}
-use Rattle.base.specs.declared.Verdict.{Verdict}
+use Rattle.base.specs.Rules.{Clean}
+use Rattle.base.specs.Calls.{textOf, over}
 use Rattle.base.specs.declared.Verdict.the-variants.{Fine}
 use Rattle.base.specs.declared.Outcome.{Outcome}
 use Rattle.base.specs.declared.Outcome.the-variants.{Done, Refused}
 use Rattle.base.proofs.Bools.{left, right}
 use Rattle.base.proofs.ByteLaws.{digit-range}
-use Rattle.base.proofs.RuleLaws.{fine-broken, first-last}
-use Rattle.base.proofs.CallLaws.{is-short, not-short}
+use Rattle.base.proofs.RuleLaws.{fine-broken}
 use Rattle.alphabets.specs.Bank.{reading}
 use Rattle.alphabets.specs.Best.{writing}
 use Rattle.alphabets.proofs.Theorems.{reads-back}
-use Rattle.fields.specs.Field.{Field, field, fields}
+use Rattle.fields.specs.Field.{Field, field, fields, upto, past}
 use Rattle.types.specs.declared.Form.{Form}
 use Rattle.types.specs.declared.Form.the-variants.{Other, Mt103, Mt202}
 use Rattle.types.specs.Form.{formOf}
@@ -38,7 +36,7 @@ use Rattle.roles.specs.Speech.{Speech, speech, codeSize}
 use Rattle.roles.specs.declared.Shape.{Shape}
 use Rattle.roles.specs.declared.Shape.the-variants.{Plain, Payer, Payee, Agent}
 use Rattle.roles.proofs.BreachLaws.{same-lines}
-use Rattle.judge.specs.Message.{messageRules, verdictOf}
+use Rattle.judge.specs.Message.{verdictOf}
 use Rattle.records.specs.Record.{Record, sheet, records}
 use Rattle.records.specs.Rule19.{digits, number, sheetForm, sheetSign}
 use Rattle.records.specs.Sentences.{Right, plain, agent, payer, payee, details, note103, note202, Sound}
@@ -57,7 +55,9 @@ use Rattle.written.proofs.CastLaws.{turned, cast-again, frontOf, nextOf, told-a
 use Rattle.written.proofs.BuiltLaws.{AllPass, records-pass, built-fields, built-sign}
 use Rattle.written.proofs.ToMessageTheorems as writer
 use Rattle.sheets.specs.Gather.{partFor, codeDigits, toldParts, noteParts, contentParts, gather, typeName, typeRecord, recordsOf, sheetOf}
-use Rattle.sheets.specs.Calls.{readRules, SheetTo}
+use Rattle.sheets.specs.Calls.{SheetTo}
+use Rattle.sheets.proofs.ToSheetTheorems.{sheet-kept, sheet-narrow, sheet-wide}
+use Rattle.trips.specs.Back.{typeIn, kindIn}
 
 -- ---- parts that are copied or names
 module _ (s : Bool) where
@@ -209,6 +209,19 @@ named-back p d e = go (eqb (number p) 103) (eqb (number p) 202) refl refl e
     go false true x y e = ap threeDigits (sym (eqb-true (number p) 202 y)) ∙ digits-number p d
     go false false x y e = absurd (fine-broken 18 0 (sym e))
 
+-- ---- the type that the sheet of a message names
+pub type-stands : (form : Form) (m : List ℕ) → rule18 form ≡ Fine → typeIn (sheetOf form m) ≡ typeName form
+unfolding rule18 sheetOf recordsOf upto past
+type-stands Mt103 m e = refl
+type-stands Mt202 m e = refl
+type-stands Other m e = absurd (fine-broken 18 0 (sym e))
+
+name-form : (form : Form) → rule18 form ≡ Fine → formOf (number (typeName form)) ≡ form
+unfolding rule18
+name-form Mt103 e = refl
+name-form Mt202 e = refl
+name-form Other e = absurd (fine-broken 18 0 (sym e))
+
 -- ---- a sheet that no rule before 17 refuses
 module _ (s : List ℕ) (c : Clean (sheetRules s)) where
   is-sound : Sound s
@@ -231,6 +244,12 @@ module _ (s : List ℕ) (c : Clean (sheetRules s)) where
   unfolding sheetOf recordsOf
   sheet-back = ap₂ (λ (r : Record) (rs : List Record). sheet (r ∷ rs)) type-back records-back ∙ sym (sound-sheet s is-sound)
 
+  -- and names its type
+  pub type-in : formOf (kindIn s) ≡ sheetForm s
+  type-in =
+      ap (λ (x : List ℕ). formOf (kindIn x)) (sym sheet-back)
+      ∙ ap (λ (p : List ℕ). formOf (number p)) (type-stands (sheetForm s) (messageFor s) (sheet-rules s c .type)) ∙ name-form (sheetForm s) (sheet-rules s c .type)
+
 -- ---- the two calls: a sheet that is written
 module _ (s out a : List ℕ) (n : ℕ) (g : MessageTo s out (Done n) a) where
   abbrev is-written : writer.Written s out (Done n) a g n
@@ -244,28 +263,22 @@ module _ (s out a : List ℕ) (n : ℕ) (g : MessageTo s out (Done n) a) where
   pub written-fine : verdictOf (sheetForm s) (take n a) ≡ Fine
   written-fine = ap (verdictOf (sheetForm s)) written-message ∙ is-written .message-fine
 
+  pub written-type : formOf (kindIn s) ≡ sheetForm s
+  written-type = type-in s (is-written .clean)
+
   pub written-sheet : sheetOf (sheetForm s) (take n a) ≡ s
   written-sheet = ap (sheetOf (sheetForm s)) written-message ∙ sheet-back s (is-written .clean)
 
   module _ (back : List ℕ) (r : Outcome) (b : List ℕ) (h : SheetTo (sheetForm s) (take n a) back r b) where
-    -- 17 alone can refuse to read it
-    read-rules : first (readRules (sheetForm s) (take n a) back) ≡ short s back
-    unfolding verdictOf
-    read-rules =
-        first-last (messageRules (sheetForm s) (take n a)) (short (sheetOf (sheetForm s) (take n a)) back)
-        ∙ ap₂ (λ (v : Verdict) (t : List ℕ). then v (short t back)) written-fine written-sheet
-
-    read-as : {v : Verdict} → short s back ≡ v → (r ≡ outcome v (length s)) × (b ≡ room v s back)
-    unfolding SheetTo
-    read-as e = (
-      h .answers ∙ ap₂ (λ (v : Verdict) (t : List ℕ). outcome v (length t)) (read-rules ∙ e) written-sheet,
-      h .leaves ∙ ap₂ (λ (v : Verdict) (t : List ℕ). room v t back) (read-rules ∙ e) written-sheet,
-    )
-
     -- with room enough, the sheet itself is read, and the room behind it is as it was
     pub written-reads : length s ≤ length back → (r ≡ Done (length s)) × (b ≡ s ++ drop (length s) back)
-    written-reads k = read-as (not-short s back k)
+    written-reads k =
+        subst (λ (t : List ℕ). (r ≡ Done (length t)) × (b ≡ over t back)) written-sheet
+        (sheet-wide (sheetForm s) (take n a) back r b h written-fine (subst (λ (t : List ℕ). length t ≤ length back) (sym written-sheet) k))
 
     -- else 17, with the sheet's length
     pub written-narrow : length back < length s → (r ≡ Refused 17 (length s)) × (b ≡ back)
-    written-narrow k = read-as (is-short s back k)
+    written-narrow k =
+        let t : length (sheetOf (sheetForm s) (take n a)) ≡ length s = ap length written-sheet in
+        let d = sheet-narrow (sheetForm s) (take n a) back r b h written-fine (omega arith) in
+        (d ∙ ap (Refused 17) t, sheet-kept (sheetForm s) (take n a) back r b h 17 (length (sheetOf (sheetForm s) (take n a))) d)

@@ -1,3 +1,4 @@
+pub mod Back
 pub mod Again
 pub mod Shown
 pub mod Cases

@@ -1,0 +1,13 @@
+-- The type that a sheet names, as it stands there: what a caller hands over with the message to have the sheet back (D2d, S1, R1). Assumes nothing.
+use Prim.Native.Nat.{ℕ}
+use mathlib.Core.List.{List}
+use Rattle.fields.specs.Field.{upto, past}
+use Rattle.records.specs.Rule19.{number}
+
+-- between the first tab and the LF behind that
+abbrev pub typeIn : List ℕ → List ℕ
+typeIn s = upto 10 (past 9 s)
+
+-- the same as a number
+abbrev pub kindIn : List ℕ → ℕ
+kindIn s = number (typeIn s)
