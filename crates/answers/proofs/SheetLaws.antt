@@ -28,7 +28,7 @@ use Rattle.judge.proofs.SmallLaws.{verdict-small}
 use Rattle.frame.proofs.SmallLaws as verdicts
 use Rattle.records.specs.Rule19.{number}
 use Rattle.sheets.specs.Calls.{readRules, SheetTo}
-use Rattle.trips.proofs.AgainTheorems.{sheet-size}
+use Rattle.sheets.proofs.SizeLaws.{sheet-size}
 use Rattle.answers.specs.Line.{refusalLine, shown, Shows}
 use Rattle.answers.specs.Programs.{namesType, messageIn, typeRule, sheetVerdict, sheetIn, sheetAnswer, namedOutcome, SheetAnswered, inputRead, formFor}
 use Rattle.answers.specs.Steps.{ReadsNamed, shownOf}

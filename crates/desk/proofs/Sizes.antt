@@ -50,7 +50,7 @@ use Rattle.writer.specs.Sheet.{MessageTo}
 use Rattle.written.proofs.SizeLaws.{refused-small, written-small}
 use Rattle.sheets.specs.Gather.{sheetOf}
 use Rattle.sheets.specs.Calls.{SheetTo}
-use Rattle.trips.proofs.AgainTheorems.{sheet-size}
+use Rattle.sheets.proofs.SizeLaws.{sheet-size}
 use Rattle.desk.specs.Sizes.{Fits, SmallOutcome, SmallCheck, SmallSpan, SmallAmount, SmallDay}
 
 -- ---- refusals of messages and texts

@@ -33,6 +33,7 @@ use Rattle.sheets.specs.Gather.{typeRecord, sheetOf}
 use Rattle.sheets.specs.Calls.{readRules, SheetTo}
 use Rattle.sheets.specs.Steps.{sheetBy, Sound}
 use Rattle.sheets.proofs.ReadLaws.{sheet-same}
+use Rattle.sheets.proofs.SizeLaws.{sheet-no-longer}
 
 module _ (form : Form) (m out : List ℕ) where
   -- 17 comes behind the message's refusal
@@ -63,6 +64,10 @@ module _ (form : Form) (m out : List ℕ) where
         subst (λ (o : List ℕ). Gives (readRules form m out) t out (Done n) o) (sym w)
         (subst (λ (j : ℕ). Gives (readRules form m out) t out (Done j) (over t out)) (sym z)
         (gives-done (readRules form m out) t out (last-17 v (not-short t out (omega arith)))))
+
+    -- room for the message is room for the sheet
+    pub sheet-at-once : {after : List ℕ} {r : ℕ} → length m ≤ length out → Puts (sheetOf form m) out 0 r after → SheetTo form m out (Done r) after
+    sheet-at-once h p = sheet-done p (omega (arith, sized p, sheet-no-longer form m v)) p
 
 -- what is put is the sheet
 pub sheet-put : (form : Form) (m : List ℕ) → verdictOf form m ≡ Fine → {b : List ℕ} → b ≡ codes → {g : Bool} → g ≡ begins 43 (firstOf (fields m)) → {out after : List ℕ} {r : ℕ}

@@ -1,5 +1,5 @@
 -- The steps of a field as a record, and of the whole sheet. Assumes nothing.
-use Prim.Native.Nat.{ℕ, zero, suc, _+_, _-_, _*_, _≤_, _<_}
+use Prim.Native.Nat.{ℕ, suc, _+_, _-_, _*_, _≤_, _<_}
 use mathlib.Core.Path.{_≡_, refl, sym, ap, ap₂, subst, _∙_}
 use mathlib.Core.Bool.{Bool, true, false, false≢true}
 use mathlib.Core.List.{List, [], _∷_, _++_, append-assoc}
@@ -8,7 +8,6 @@ use lib.Dec.{eqb}
 use lib.ListN.{length, take, drop, length-append, length-drop, drop-of-length-le}
 use lib.Seq.{take-append-seam, length-take-le}
 use native.Mathlib.Nat.{zero-add}
-use native.Mathlib.Numerals.{add-one}
 use borrow.Author.Tests.{eq-eqb, ne-eqb}
 use Rattle.base.specs.Choice.{pick, all}
 use Rattle.base.specs.Bytes.{byte, capital, without}
@@ -34,7 +33,7 @@ use Rattle.fields.proofs.PlaceLaws.{joined-length}
 use Rattle.roles.specs.Role.{shapeOf}
 use Rattle.roles.specs.declared.Shape as roles
 use Rattle.judge.specs.Parts.{Settled}
-use Rattle.judge.proofs.PartLaws.{Stands, stands, here}
+use Rattle.judge.proofs.PartLaws.{Stands, stands}
 use Rattle.records.specs.Record.{tabbed, line}
 use Rattle.sheets.specs.Gather.{typeRecord}
 use Rattle.sheets.specs.Steps.{contentBy, tagEnd, fieldIn, Part, recordBy, recordLine, sheetBy}
@@ -160,7 +159,7 @@ module _ {m spots : List ℕ} (z : Settled m spots) (k : ℕ) (h : k < length (f
             tag-is = subst (λ (f : List ℕ). unpack (packed f) ≡ take (tagEnd f - 1) (drop 1 f)) (sym (part-is w)) (tag-of t j (w .shape));
           }
 
-  -- a record has at most five bytes more than its field
+  -- places stay small: a record is counted as at most five bytes more than its field (by SizeLaws it has no more)
   pub at-on : {at r : ℕ} → at ≤ byte spots k + 2 + 5 * k → r ≤ at + length part + 7 → r ≤ byte spots (k + 1) + 2 + 5 * (k + 1)
   at-on a b = let w = stands z k h in omega (arith, take-few (byte spots (k + 1) - 2 - byte spots k) (drop (byte spots k) m), w .far)
 
@@ -171,13 +170,6 @@ module _ {m spots : List ℕ} (z : Settled m spots) (k : ℕ) (h : k < length (f
       let l = line (recordBy b form g (fieldIn part)) in
       let u = sheetBy b form g (drop (k + 1) (fields m)) in
       leads-on (l ++ 10 ∷ []) u (append-assoc l (10 ∷ []) u ∙ ap (sheetBy b form g) field-step) f p
-
-last-spot : {m spots : List ℕ} → Settled m spots → (n : ℕ) → n ≡ length (fields m) → byte spots n + 2 ≤ length m
-last-spot z zero e = omega (arith, z .start, (z .stand 0 (omega arith)) .dash)
-last-spot {m} {spots} z (suc k) e = subst (λ (j : ℕ). byte spots j + 2 ≤ length m) (add-one k) (stands z k (omega arith) .end)
-
-pub at-end : {m spots : List ℕ} → Settled m spots → {k n at : ℕ} → n ≡ length (fields m) → n ≤ k → k ≤ n → at ≤ byte spots k + 2 + 5 * k → at ≤ length m + 70
-at-end {m} {spots} z {k} {n} e h j a = omega (arith, a, z .few, last-spot z k (omega arith))
 
 pub sheet-end : (m : List ℕ) (k n : ℕ) → n ≡ length (fields m) → n ≤ k → (b : List ℕ) (form : Form) (g : Bool) {out mid now : List ℕ} {at j : ℕ} → Puts (line (typeRecord form) ++ 10 ∷ []) out 0 at mid
     → Leads (sheetBy b form g (fields m)) mid at (sheetBy b form g (drop k (fields m))) now j → Puts (line (typeRecord form) ++ 10 ∷ sheetBy b form g (fields m)) out 0 j now

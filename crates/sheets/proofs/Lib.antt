@@ -3,5 +3,7 @@ pub mod TextLaws
 pub mod ContentLaws
 pub mod FieldLaws
 pub mod ReadLaws
+pub mod SizeLaws
+pub mod NumberLaws
 pub mod CallLaws
 pub mod ToSheetTheorems

@@ -1,12 +1,14 @@
 -- What the contract of `to_sheet` says: accepted exactly if no rule is broken, refused by the first that is, and what is in the room then; that
--- any two outcomes are equal; and that every text of an accepted message reads (N17, O1, K4, K6, K9, D2e). Assumes nothing.
+-- any two outcomes are equal; that room of the message's length is always enough; and that every text of an accepted message reads (N17, O1, K4,
+-- K6, K9, D2e). Assumes nothing.
 use Prim.Native.Nat.{ℕ, _<_, _≤_}
 use mathlib.Core.Path.{_≡_, refl, ap, _∙_, subst}
 use mathlib.Core.List.{List}
 use mathlib.Core.Logic.{_↔_}
+use native.Mathlib.Omega.{arith}
 use lib.ListN.{length}
 use Rattle.base.specs.Rules.{first, Clean, FirstOf}
-use Rattle.base.specs.Calls.{outcome, over, Gives}
+use Rattle.base.specs.Calls.{outcome, over, room, Gives}
 use Rattle.base.specs.declared.Verdict.{Verdict}
 use Rattle.base.specs.declared.Verdict.the-variants.{Fine, Broken}
 use Rattle.base.specs.declared.Outcome.{Outcome}
@@ -20,6 +22,8 @@ use Rattle.judge.specs.Message.{verdictOf}
 use Rattle.sheets.specs.Gather.{sheetOf}
 use Rattle.sheets.specs.Calls.{readRules, SheetTo}
 use Rattle.sheets.proofs.ReadLaws.{AllReadable, readable}
+use Rattle.sheets.proofs.SizeLaws.{sheet-no-longer}
+use Rattle.sheets.proofs.NumberLaws.{verdict-never}
 use Rattle.sheets.proofs.CallLaws.{last-17}
 
 -- any two outcomes are equal, lent units counted
@@ -68,6 +72,19 @@ module _ (form : Form) (m out : List ℕ) (r : Outcome) (after : List ℕ) (g : 
   -- else the sheet
   pub sheet-wide : verdictOf form m ≡ Fine → length (sheetOf form m) ≤ length out → (r ≡ Done (length (sheetOf form m))) × (after ≡ over (sheetOf form m) out)
   sheet-wide e h = let d = by-first (last-17 form m out e (not-short (sheetOf form m) out h)) in (d, sheet-filled (length (sheetOf form m)) d .1)
+
+  -- room of the message's length is enough for any message, so there 17 never comes: the message's refusal, or the sheet
+  module _ (h : length m ≤ length out) where
+    pub sheet-by : {v : Verdict} → verdictOf form m ≡ v → (r ≡ outcome v (length (sheetOf form m))) × (after ≡ room v (sheetOf form m) out)
+    sheet-by {v = Fine} e = sheet-wide e (omega (arith, sheet-no-longer form m e))
+    sheet-by {v = Broken n p} e = let d = sheet-own n p e in (d, sheet-kept n p d)
+
+    pub sheet-never-17 : (p : ℕ) → r ≡ Refused 17 p → ⊥
+    sheet-never-17 p e = go (verdictOf form m) refl
+      where
+        go : (v : Verdict) → verdictOf form m ≡ v → ⊥
+        go Fine f = let d = sheet-by f .0 in let z : _≡_ {A = ℕ} 0 1 = cc in omega arith
+        go (Broken k q) f = let d = sheet-by f .0 in let z : k ≡ 17 = cc in verdict-never form m q (f ∙ ap (λ (i : ℕ). Broken i q) z)
 
 -- every text of an accepted message reads, so that no part of its sheet stands for a text without a reading
 pub texts-read : (form : Form) (m : List ℕ) → verdictOf form m ≡ Fine → AllReadable form (signOf (fields m)) (fields m)

@@ -80,7 +80,7 @@ fn put_records(
     out: &mut [u8],
 ) -> usize
     requires { ⌜ (rule18 form ≡ Fine) × Settled (now m) (now spots) × (n ≡ length (fields (now m))) ⌝ }
-    ensures { λ r. ⌜ (r ≤ length (now (m .entry)) + 70) × Puts (line (typeRecord form) ++ 10 ∷ sheetBy (now (back .entry)) form sign (fields (now (m .entry)))) (now (out .entry)) 0 r (now (out .exit)) ⌝ }
+    ensures { λ r. ⌜ Puts (line (typeRecord form) ++ 10 ∷ sheetBy (now (back .entry)) form sign (fields (now (m .entry)))) (now (out .entry)) 0 r (now (out .exit)) ⌝ }
 {
     let mut at = put_type(form, out);
     let mut k = 0;
@@ -93,7 +93,7 @@ fn put_records(
     at
 }
 
-// The sheet of an accepted message, at most 70 bytes longer than it; a place counts on where the room has ended.
+// The sheet of an accepted message; a place counts on where the room has ended.
 pub(crate) fn put_sheet(
     form: Form,
     m: &[u8],
@@ -102,7 +102,7 @@ pub(crate) fn put_sheet(
     out: &mut [u8],
 ) -> usize
     requires { ⌜ Sound form (now m) (now spots) n ⌝ }
-    ensures { λ r. ⌜ (r ≤ length (now (m .entry)) + 70) × Puts (sheetOf form (now (m .entry))) (now (out .entry)) 0 r (now (out .exit)) ⌝ }
+    ensures { λ r. ⌜ Puts (sheetOf form (now (m .entry))) (now (out .entry)) 0 r (now (out .exit)) ⌝ }
 {
     let back = back_table();
     let sign = is_signed(m);

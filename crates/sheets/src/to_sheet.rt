@@ -28,12 +28,12 @@ fn read_measured(form: Form, m: &[u8], spots: &[u32; SPOTS], n: usize, out: &mut
     Outcome::Done(size)
 }
 
-// An accepted message: its sheet is put at once where there is surely room.
+// An accepted message: its sheet is put at once where there is room for the message, since it is no longer.
 fn read_sound(form: Form, m: &[u8], spots: &[u32; SPOTS], n: usize, out: &mut [u8]) -> Outcome
     requires { ⌜ Sound form (now m) (now spots) n ⌝ }
     ensures { λ r. ⌜ SheetTo form (now (m .entry)) (now (out .entry)) r (now (out .exit)) ⌝ }
 {
-    if out.len() < m.len() + 70 {
+    if out.len() < m.len() {
         return read_measured(form, m, spots, n, out);
     }
     Outcome::Done(put_sheet(form, m, spots, n, out))

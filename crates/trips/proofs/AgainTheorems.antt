@@ -44,7 +44,7 @@ use Rattle.trips.proofs.NameLaws.{sheeted-names}
 use Rattle.trips.proofs.ToldLaws.{sheeted-noted}
 use Rattle.trips.proofs.HeldLaws.{all-held}
 use Rattle.trips.proofs.BackLaws.{sheet-back}
-use Rattle.trips.proofs.SheetLaws.{accepted-type, accepted-sign, accepted-records, accepted-size, accepted-passes}
+use Rattle.trips.proofs.SheetLaws.{accepted-type, accepted-sign, accepted-records, accepted-passes}
 use Rattle.trips.proofs.VerdictLaws.{verdict-again}
 
 -- ---- every shape goes line by line, or holds details or an RPP line
@@ -86,9 +86,6 @@ module _ (form : Form) (m : List ℕ) (e : verdictOf form m ≡ Fine) where
   pub sheet-shows : OneByOne (Shown form (signOf (fields m))) (fields m) (tail (records (sheetOf form m)))
   unfolding gather
   sheet-shows = subst (OneByOne (Shown form (signOf (fields m))) (fields m)) (sym (accepted-records form m e each)) (all-shown form (signOf (fields m)) (fields m) each)
-
-  pub sheet-size : length (sheetOf form m) ≤ limit
-  sheet-size = accepted-size form m e each
 
   module _ (c : Clean (sheetRules (sheetOf form m))) where
     -- the message built from it is accepted again

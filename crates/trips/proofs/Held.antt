@@ -1,6 +1,6 @@
 -- What is known of a field of an accepted message, what its names keep when they are read and written again, and what its record on the sheet
 -- is. Assumes nothing.
-use Prim.Native.Nat.{ℕ, _+_, _≤_}
+use Prim.Native.Nat.{ℕ, _≤_}
 use mathlib.Core.Path.{_≡_}
 use mathlib.Core.Bool.{Bool, true, false}
 use mathlib.Core.List.{List}
@@ -10,7 +10,7 @@ use Rattle.base.specs.Choice.{all}
 use Rattle.base.specs.Bytes.{begins, empty}
 use Rattle.base.specs.Calls.{said, textOf}
 use Rattle.alphabets.specs.Bank.{reading}
-use Rattle.fields.specs.Field.{Field, field, lined, laid}
+use Rattle.fields.specs.Field.{Field, field}
 use Rattle.fields.specs.Shapes.{shaped}
 use Rattle.contents.specs.Rule8.{rightField}
 use Rattle.contents.specs.Tests.{looksTax}
@@ -19,7 +19,7 @@ use Rattle.roles.specs.Speech.{speeches}
 use Rattle.roles.specs.Sentences.{Heard}
 use Rattle.roles.specs.declared.Shape.{Shape}
 use Rattle.roles.specs.declared.Shape.the-variants.{Details, Note103, Note202}
-use Rattle.records.specs.Record.{plainText, line}
+use Rattle.records.specs.Record.{plainText}
 use Rattle.records.specs.Rule19.{sound}
 use Rattle.writer.specs.Spread.{castParts}
 use Rattle.writer.specs.Sheet.{crowded}
@@ -65,13 +65,12 @@ pub data Noted : Shape → Type 0 where
   note103 : Noted Note103
   note202 : Noted Note202
 
--- ---- its record: it says what the field does; right by 19, written by 15, without tab and LF, no longer than the field; it fits, but for details with the sign
+-- ---- its record: it says what the field does; right by 19, written by 15, without tab and LF; it fits, but for details with the sign
 pub record Sheeted (form : Form) (s : Bool) (t : List ℕ) (ls : List (List ℕ)) : Type 0 where
   pub shows : Shows s (shapeOf form t) ls (contentParts s (shapeOf form t) ls)
   pub is-sound : sound s (shapeOf form t) (contentParts s (shapeOf form t) ls) ≡ true
   pub says : all (speaks s) (castParts (shapeOf form t) (contentParts s (shapeOf form t) ls)) ≡ true
   pub textual : all plainText (contentParts s (shapeOf form t) ls) ≡ true
-  pub no-longer : length (line (field t (contentParts s (shapeOf form t) ls))) + 1 ≤ length (laid (lined (field t ls)))
   pub fits : crowded s (shapeOf form t) (contentParts s (shapeOf form t) ls) ≡ true → (s ≡ true) × (shapeOf form t ≡ Details)
 
 abbrev pub SheetedField : Form → Bool → Field → Type 0

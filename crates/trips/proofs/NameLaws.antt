@@ -1,19 +1,17 @@
 -- Lines that are copied or names: what they keep when they are read and written again, and the record that they make on the sheet (T7, N14,
 -- S6, S7). Assumes nothing.
-use Prim.Native.Nat.{ℕ, _+_, _≤_}
+use Prim.Native.Nat.{ℕ, _+_}
 use mathlib.Core.Path.{_≡_, refl, sym, ap, ap₂, _∙_, subst}
 use mathlib.Core.Bool.{Bool, true, false, not, _&&_, true≢false}
-use mathlib.Core.List.{List, [], _∷_, _++_, map, tail}
-use native.Mathlib.Omega.{arith}
+use mathlib.Core.List.{List, [], _∷_, map, tail}
 use lib.Dec.{eqb}
-use lib.ListN.{length, length-append}
+use lib.ListN.{length}
 use borrow.Author.Tests.{eqb-true}
 use Rattle.base.specs.Choice.{pick, all}
 use Rattle.base.specs.Bytes.{begins, empty, digit, xset, same}
 use Rattle.base.specs.Quoted.{bytes}
 use Rattle.base.proofs.Bools.{left, right, both, isnt}
 use Rattle.alphabets.proofs.Theorems.{plain-iff, no-shorter}
-use Rattle.fields.specs.Field.{field, lined, laid}
 use Rattle.fields.specs.Shapes.{goesOn}
 use Rattle.types.specs.declared.Form.{Form}
 use Rattle.types.specs.Sign.{firstLine}
@@ -27,7 +25,7 @@ use Rattle.roles.specs.declared.Shape.{Shape}
 use Rattle.roles.specs.declared.Shape.the-variants.{Plain, Payer, Payee, Agent}
 use Rattle.roles.proofs.BreachLaws.{same-lines}
 use Rattle.roles.proofs.CastLaws.{turned, Lines, Steady, AllSteady, untaxed, cast-untaxed, cast-turned}
-use Rattle.records.specs.Record.{plainText, tabbed, line}
+use Rattle.records.specs.Record.{plainText}
 use Rattle.records.specs.Rule19 as rule19
 use Rattle.records.specs.Rule19.{general, taxPart, sound}
 use Rattle.writer.specs.Spread.{lineFor, castParts, contentLines}
@@ -255,16 +253,6 @@ module _ (s : Bool) where
       one (name l) w = w .reads
       one (taxName l) w = w .as-name .reads
 
-  part-size : (x : Part) → ClearPart s x → length (partFor s x) ≤ length (lineOf x)
-  part-size (copy l) w = omega arith
-  part-size (name l) w = w .slim
-  part-size (taxName l) w = w .as-name .slim
-
-  parts-size : (xs : List Part) → Every (ClearPart s) xs → length (tabbed (map (partFor s) xs)) ≤ length (laid (map lineOf xs))
-  parts-size [] w = omega arith
-  parts-size (x ∷ xs) w =
-      omega (arith, part-size x (w .0), parts-size xs (w .1), length-append (partFor s x) (tabbed (map (partFor s) xs)), length-append (lineOf x) (13 ∷ 10 ∷ laid (map lineOf xs)))
-
   -- S5: what is read in the tax place
   placed-inn : (b : Bool) (l : List ℕ) → looksTax l ≡ b → s ≡ true → ClearPart s (pick b (copy l) (taxName l)) → isInn (partFor s (pick b (copy l) (taxName l))) ≡ false
   placed-inn true l e q w = tax-inn l e
@@ -314,12 +302,6 @@ module _ (s : Bool) where
   not-crowded _ ps payee = refl
   not-crowded _ ps agent = refl
 
--- a tab for CR LF, and the tag with a tab for the tag between colons
-record-size : (t : List ℕ) (ls ps : List (List ℕ)) → empty ls ≡ false → length (tabbed ps) ≤ length (laid ls) → length (line (field t ps)) + 1 ≤ length (laid (lined (field t ls)))
-record-size t [] ps e h = absurd (true≢false e)
-record-size t (l ∷ ls) ps e h =
-    omega (arith, length-append t (tabbed ps), length-append l (13 ∷ 10 ∷ laid ls), length-append (58 ∷ t ++ 58 ∷ l) (13 ∷ 10 ∷ laid ls), length-append t (58 ∷ l))
-
 pub sheeted-names : (form : Form) (s : Bool) (t : List ℕ) (ls : List (List ℕ)) → LineByLine (shapeOf form t) → Held form s t ls → Sheeted form s t ls
 sheeted-names form s t ls v h =
     let sh : Shape = shapeOf form t in
@@ -328,12 +310,10 @@ sheeted-names form s t ls v h =
     let i : ps ≡ map (partFor s) xs = parts-are s sh ls v in
     let w : Every (ClearPart s) xs = held-clear form s t ls v h in
     let is : castParts sh ps ≡ map (turned (readAs s)) xs = cast-parts sh ps v ∙ ap (cast sh) i ∙ cast-read s sh ls w in
-    let n : length (tabbed ps) ≤ length (laid ls) = omega (arith, ap (λ (k : List (List ℕ)). length (tabbed k)) i, parts-size s xs w, ap (λ (k : List (List ℕ)). length (laid k)) (same-lines sh ls)) in
     record {
       shows = subst (Shows s sh ls) (sym i) (shown.each v (parts-shown s xs w));
       is-sound = ap (sound s sh) i ∙ parts-sound s sh ls v (h .fair) (right-nonempty form s t ls (h .right)) w;
       says = ap (all (speaks s)) is ∙ parts-say s xs w;
       textual = ap (all plainText) i ∙ parts-textual s xs w;
-      no-longer = record-size t ls ps (h .fair .some) n;
       fits = λ q. absurd (true≢false (sym q ∙ not-crowded s sh ps v));
     }

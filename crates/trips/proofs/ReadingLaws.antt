@@ -1,12 +1,10 @@
--- What a name says that 14 lets pass: its text begins with / : or - exactly if the name does, has no tab and no LF, and is no longer; and it can
--- be written (T3-T11, N14a-N14c, S7). Assumes nothing.
-use Prim.Native.Nat.{ℕ, _≤_}
+-- What a name says that 14 lets pass: its text begins with / : or - exactly if the name does, and has no tab and no LF; and it can be
+-- written (T3-T11, N14a-N14c, S7). Assumes nothing.
+use Prim.Native.Nat.{ℕ}
 use mathlib.Core.Path.{_≡_, refl, sym, ap, _∙_}
 use mathlib.Core.Bool.{Bool, true, false, _&&_, _||_, true≢false, false≢true}
 use mathlib.Core.List.{List, [], _∷_}
-use native.Mathlib.Omega.{arith}
 use lib.Dec.{eqb}
-use lib.ListN.{length}
 use borrow.Author.Tests.{eqb-true, eqb-false}
 use Rattle.base.specs.Choice.{all}
 use Rattle.base.specs.Bytes.{byte, begins, empty, isIn, xset}
@@ -22,7 +20,7 @@ use Rattle.contents.specs.Tests.{looksTax}
 use Rattle.roles.specs.Speech.{named, taxPlaced}
 use Rattle.roles.specs.Rule14.{mute, hidden, isInn, taxLike, clauses, breaks}
 use Rattle.records.specs.Record.{plainText}
-use Rattle.trips.proofs.SaidLaws.{says-written, says-short, says-text}
+use Rattle.trips.proofs.SaidLaws.{says-written, says-text}
 use Rattle.written.proofs.SpeltLaws.{said-is, Mark, slash, colon, dash, mark-kind, mark-sign, not-apostrophe, not-none}
 
 -- ---- the first byte
@@ -78,7 +76,6 @@ pub record Clear (s : Bool) (l : List ℕ) : Type 0 where
   pub means : empty (readAs s l) ≡ false
   pub heads : (c : ℕ) → Mark c → begins c (readAs s l) ≡ begins c l
   pub textual : plainText (readAs s l) ≡ true
-  pub slim : length (readAs s l) ≤ length l
 
 pub record ClearTax (s : Bool) (l : List ℕ) : Type 0 where
   pub as-name : Clear s l
@@ -94,7 +91,6 @@ clear-by s l d r m h =
       means = ap empty e ∙ m;
       heads = λ c k. ap (begins c) e ∙ h c k;
       textual = ap plainText e ∙ says-text s l d r;
-      slim = omega (arith, ap length e, says-short s l d r);
     }
 
 pub plain-clear : (l : List ℕ) → all xset l ≡ true → empty l ≡ false → Clear false l

@@ -1,11 +1,9 @@
--- A text that says something: what it says can be written, is no longer than it, and has no tab and no LF (T3, T9, N14a, N15, S1). Assumes nothing.
-use Prim.Native.Nat.{ℕ, _≤_}
+-- A text that says something: what it says can be written, and has no tab and no LF (T3, T9, N14a, N15, S1). Assumes nothing.
+use Prim.Native.Nat.{ℕ}
 use mathlib.Core.Path.{_≡_, refl, sym, ap, _∙_}
 use mathlib.Core.Bool.{Bool, true, false, not, _||_, true≢false, false≢true}
 use mathlib.Core.List.{List, [], _∷_}
-use native.Mathlib.Omega.{arith}
 use lib.Dec.{eqb}
-use lib.ListN.{length}
 use borrow.Author.Tests.{eqb-true}
 use Rattle.base.specs.Choice.{all}
 use Rattle.base.specs.Bytes.{empty, other, without, isIn, digit, capital, letter, marks, shared, xset}
@@ -50,21 +48,6 @@ says-written s b d r = go (writing s d) refl
 
 pub plain-said : (b : List ℕ) → all xset b ≡ true → isSaid (plainly b) ≡ true
 plain-said b e = ap isSaid (plain-iff b .1 e)
-
--- ---- it is no longer
-reads-short : (s : Bool) (b d : List ℕ) → reads s b ≡ said d → length d ≤ length b
-unfolding reads
-reads-short false [] d r = let e : d ≡ [] = cc in omega (arith, ap length e)
-reads-short true [] d r = absurd (not-said 0 d r)
-reads-short s (x ∷ b) d r = go (came s x b d r) (λ t u q. reads-short t b u q)
-  where
-    go : Came s x b d → ((t : Bool) (u : List ℕ) → reads t b ≡ said u → length u ≤ length b) → length d ≤ length (x ∷ b)
-    go (turned e q) ih = omega (arith, ih (not s) d q)
-    go (signed y t e n a p q) ih = omega (arith, ap length e, ih s t q)
-
-pub says-short : (s : Bool) (b d : List ℕ) → reading s b ≡ said d → length d ≤ length b
-says-short true b d r = reads-short false b d r
-says-short false b d r = omega (arith, ap length (plain-only b d r))
 
 -- ---- a sign that is not written is not in it
 reads-without : (c : ℕ) → kind c ≡ unwritable → (s : Bool) (b d : List ℕ) → reads s b ≡ said d → without c d ≡ true

@@ -1,12 +1,11 @@
 -- The rules of writing over the sheet of a message: where each field has its record (Held), none refuses it but 16, and that only for field 70
 -- with the sign (K7, S2, S8, S10, N1, N15, N16, N18, N19). Assumes nothing.
 use Prim.Native.Nat.{ℕ, _+_, _≤_}
-use mathlib.Core.Path.{_≡_, refl, sym, ap, ap₂, subst, _∙_}
+use mathlib.Core.Path.{_≡_, refl, sym, ap, ap₂, _∙_}
 use mathlib.Core.Bool.{Bool, true, false, _||_, true≢false, false≢true}
 use mathlib.Core.List.{List, [], _∷_, _++_, map, tail}
 use mathlib.Core.Logic.{_⊎_, inl, inr}
-use native.Mathlib.Omega.{arith}
-use lib.ListN.{length, length-append}
+use lib.ListN.{length}
 use Rattle.base.specs.Choice.{pick, all}
 use Rattle.base.specs.Bytes.{begins, empty, same, digit, capital, letter, shared, xset}
 use Rattle.base.specs.Quoted.{bytes}
@@ -17,13 +16,13 @@ use Rattle.base.specs.declared.Verdict.the-variants.{Fine, Broken}
 use Rattle.base.proofs.Bools.{left, right, both}
 use Rattle.base.proofs.ByteLaws.{same-is}
 use Rattle.base.proofs.RuleLaws.{fine-broken}
-use Rattle.base.proofs.CallLaws.{not-long, within-limit}
+use Rattle.base.proofs.CallLaws.{not-long}
 use Rattle.alphabets.specs.Bank.{plainly}
-use Rattle.fields.specs.Field.{Field, field, laid, lined, linesOf, message, closing, fields}
-use Rattle.fields.specs.Frame.{limit, rule1}
+use Rattle.fields.specs.Field.{Field, field, fields}
+use Rattle.fields.specs.Frame.{limit}
 use Rattle.fields.specs.Shapes.{shaped, shapedTag}
 use Rattle.fields.proofs.TagLaws.{shaped-without}
-use Rattle.fields.proofs.FieldLaws.{fields-shaped, message-fields}
+use Rattle.fields.proofs.FieldLaws.{fields-shaped}
 use Rattle.types.specs.declared.Form.{Form}
 use Rattle.types.specs.declared.Form.the-variants.{Other, Mt103, Mt202}
 use Rattle.types.specs.Walk.{rule18}
@@ -36,13 +35,11 @@ use Rattle.frame.specs.Frame.{EachFrameRule}
 use Rattle.judge.specs.Message.{verdictOf}
 use Rattle.judge.proofs.RuleLaws.{accepted-rules}
 use Rattle.records.specs.Record.{Record, sheet, pieces, front, final, recordOf, records, rest, begun, plainText, writable}
-use Rattle.records.specs.Places.{sizeOf}
 use Rattle.records.specs.Rule19.{digits, good, typed, formIn, namedForm, sheetForm, sheetSign, rule19}
 use Rattle.records.specs.Sentences.{Sound}
 use Rattle.records.proofs.PieceLaws.{some-piece}
-use Rattle.records.proofs.PlaceLaws.{size-sheet}
 use Rattle.records.proofs.SheetLaws.{records-sheet, rest-sheet}
-use Rattle.records.proofs.RuleLaws.{sound-fine, named-size}
+use Rattle.records.proofs.RuleLaws.{sound-fine}
 use Rattle.writer.specs.Sheet.{crowded, someCrowded, rule15, rule16, sheetRules}
 use Rattle.writer.proofs.RuleLaws.{rules-sheet}
 use Rattle.written.specs.Sentences.{Every}
@@ -50,6 +47,7 @@ use Rattle.written.proofs.BuiltLaws.{shape-20}
 use Rattle.written.proofs.ReadyLaws.{speaking, rule15-fine}
 use Rattle.written.proofs.ExactLaws.{crowded-none}
 use Rattle.sheets.specs.Gather.{partFor, contentParts, recordFor, gather, typeRecord, recordsOf, sheetOf}
+use Rattle.sheets.proofs.SizeLaws.{sheet-size}
 use Rattle.trips.specs.Again.{Crowded70}
 use Rattle.trips.proofs.Held.{SheetedField}
 use Rattle.trips.proofs.ValueLaws.{details-70}
@@ -107,24 +105,6 @@ sign-end : (rs : List Record) → signOf (rs ++ recordOf [] ∷ []) ≡ signOf r
 unfolding signOf recordOf pieces same
 sign-end [] = refl
 sign-end (field t ps ∷ rs) = ap (pick (same t (bytes "20")) (begins 43 (firstLine ps))) (sign-end rs)
-
--- ---- how many bytes
-laid-both : (ks ls : List (List ℕ)) → length (laid (ks ++ ls)) ≡ length (laid ks) + length (laid ls)
-laid-both [] ls = omega arith
-laid-both (k ∷ ks) ls =
-    let n = laid-both ks ls in
-    omega (arith, length-append k (13 ∷ 10 ∷ laid (ks ++ ls)), length-append k (13 ∷ 10 ∷ laid ks), n)
-
-message-size : (fs : List Field) → length (message fs) ≡ length (laid (linesOf fs)) + 7
-unfolding message
-message-size fs = omega (arith, length-append (laid (linesOf fs)) closing)
-
-records-size : (form : Form) (s : Bool) (fs : List Field) → Every (SheetedField form s) fs → sizeOf (map (recordFor form s) fs) ≤ length (laid (linesOf fs))
-records-size form s [] w = omega arith
-records-size form s (field t ls ∷ fs) w =
-    let n = records-size form s fs (w .1) in
-    let m = w .0 .no-longer in
-    omega (arith, n, m, laid-both (lined (field t ls)) (linesOf fs))
 
 -- ---- records of fields that have theirs
 tag-plain : (t : List ℕ) → shaped t ≡ true → plainText t ≡ true
@@ -230,17 +210,10 @@ module _ (form : Form) (s : Bool) (fs : List Field) (eighteen : rule18 form ≡ 
       go true q e = inr (e ∙ ap (λ (b : Bool). pick b (Broken 16 0) Fine) q, which-crowded form s fs each q)
       go false q e = inl (e ∙ ap (λ (b : Bool). pick b (Broken 16 0) Fine) q)
 
-  -- ---- a message within the limit: its sheet passes, or is refused by 16, and then for 70 of a 103 with the sign
-  module _ (within : length (message fs) ≤ limit) where
-    pub its-size : length sheetFor ≤ limit
-    unfolding gather
-    its-size =
-        let n = size-sheet (typeRecord form ∷ gather form s fs) in
-        let m = records-size form s fs each in
-        omega (arith, n, m, named-size (typeRecord form) (head .names), message-size fs)
-
+  -- ---- a sheet within the limit passes, or is refused by 16, and then for 70 of a 103 with the sign
+  module _ (within : length sheetFor ≤ limit) where
     pub its-1 : long limit sheetFor ≡ Fine
-    its-1 = not-long limit sheetFor its-size
+    its-1 = not-long limit sheetFor within
 
     pub sheet-passes : Clean (sheetRules sheetFor) ⊎ ((first (sheetRules sheetFor) ≡ Broken 16 0) × Crowded70 form s fs)
     sheet-passes = go fits-or-not
@@ -260,11 +233,6 @@ module _ (form : Form) (m : List ℕ) (fine : verdictOf form m ≡ Fine) (each :
   tags : all shapedTag (fields m) ≡ true
   tags = fields-shaped m (clean .lines)
 
-  within : length (message (fields m)) ≤ limit
-  unfolding rule1
-  within =
-      subst (λ (k : List ℕ). length k ≤ limit) (sym (message-fields m (clean .frame) (clean .bytes) (clean .lines))) (within-limit limit m (clean .size))
-
   pub accepted-type : sheetForm (sheetOf form m) ≡ form
   unfolding sheetOf recordsOf
   accepted-type = its-type form (signOf (fields m)) (fields m) (clean .type) refl tags each
@@ -275,12 +243,7 @@ module _ (form : Form) (m : List ℕ) (fine : verdictOf form m ≡ Fine) (each :
 
   pub accepted-passes : Clean (sheetRules (sheetOf form m)) ⊎ ((first (sheetRules (sheetOf form m)) ≡ Broken 16 0) × Crowded70 form (signOf (fields m)) (fields m))
   unfolding sheetOf recordsOf
-  accepted-passes = sheet-passes form (signOf (fields m)) (fields m) (clean .type) refl tags each within
-
-  -- it is no longer than a message may be
-  pub accepted-size : length (sheetOf form m) ≤ limit
-  unfolding sheetOf recordsOf
-  accepted-size = its-size form (signOf (fields m)) (fields m) (clean .type) refl tags each within
+  accepted-passes = sheet-passes form (signOf (fields m)) (fields m) (clean .type) refl tags each (sheet-size form m fine)
 
   pub accepted-records : tail (records (sheetOf form m)) ≡ gather form (signOf (fields m)) (fields m)
   unfolding sheetOf recordsOf

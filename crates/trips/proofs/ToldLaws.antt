@@ -1,5 +1,5 @@
--- The record of a field that holds details or an RPP line: right by 19, written by 15, without tab and LF, no longer than the field; what it
--- holds fits, but for details of 70 with the sign (S4, K7, N15, N16, B1-B3, C70, C72). Assumes nothing.
+-- The record of a field that holds details or an RPP line: right by 19, written by 15, without tab and LF; what it holds fits,
+-- but for details of 70 with the sign (S4, K7, N15, N16, B1-B3, C70, C72). Assumes nothing.
 use Prim.Native.Nat.{ℕ, _+_, _≤_, _<_}
 use mathlib.Core.Path.{_≡_, refl, sym, ap, ap₂, _∙_, subst}
 use mathlib.Core.Bool.{Bool, true, false, not, true≢false, false≢true}
@@ -18,7 +18,7 @@ use Rattle.base.proofs.Bools.{left, right, both, all-append, all-behind}
 use Rattle.alphabets.specs.Bank.{plainly, reading}
 use Rattle.alphabets.specs.Best.{writing}
 use Rattle.alphabets.proofs.Theorems.{plain-only, no-shorter}
-use Rattle.fields.specs.Field.{field, lined, laid}
+use Rattle.fields.specs.Field.{field}
 use Rattle.contents.specs.declared.Content.{Content}
 use Rattle.contents.specs.declared.Content.the-variants as holds
 use Rattle.contents.specs.Fields.{Right}
@@ -31,7 +31,7 @@ use Rattle.roles.specs.Rule14.{breaks}
 use Rattle.roles.specs.Sentences.{Heard}
 use Rattle.roles.specs.declared.Shape.{Shape}
 use Rattle.roles.specs.declared.Shape.the-variants.{Details, Note103, Note202}
-use Rattle.records.specs.Record.{plainText, line}
+use Rattle.records.specs.Record.{plainText}
 use Rattle.records.specs.Rule19.{digits, detailed, sound}
 use Rattle.details.specs.Lines.{together, lines}
 use Rattle.details.specs.Layouts.{layout, DivisionIn, marked, sizeFor}
@@ -50,7 +50,7 @@ use Rattle.trips.specs.Shown.{ToldAs, Shows}
 use Rattle.trips.specs.Shown as shown
 use Rattle.trips.proofs.Held.{Held, Noted, Sheeted}
 use Rattle.trips.proofs.DetailLaws.{Told, told-lines, rpp-alone, Note, with-rpp, without, note-lines}
-use Rattle.trips.proofs.SaidLaws.{Means, says-plain, says-signed, says-written, plain-said, says-short, set-text, says-text, digits-set}
+use Rattle.trips.proofs.SaidLaws.{Means, says-plain, says-signed, says-written, plain-said, set-text, says-text, digits-set}
 
 -- ---- details: code and text over their lines
 code-least : (s : Bool) → 9 ≤ codeSize s
@@ -69,12 +69,7 @@ pub code-digits : (s : Bool) (vo w : List ℕ) → digits 5 vo ≡ true → code
 code-digits true vo w d = ap (take 5) (append-assoc vo (bytes ")'") w) ∙ take-at vo (bytes ")'" ++ w) 5 (vo-five vo d)
 code-digits false vo w d = ap (take 5) (append-assoc vo (bytes ")") w) ∙ take-at vo (bytes ")" ++ w) 5 (vo-five vo d)
 
--- later lines: their texts, how long they are, and that their bytes are of the x set
-marks-long : (m : List ℕ) (ls : List (List ℕ)) → length (together ls) ≤ length (laid (map (λ (k : List ℕ). m ++ k) ls))
-marks-long m [] = omega arith
-marks-long m (l ∷ ls) =
-    omega (arith, marks-long m ls, length-append l (together ls), length-append m l, length-append (m ++ l) (13 ∷ 10 ∷ laid (map (λ (k : List ℕ). m ++ k) ls)))
-
+-- later lines: their texts are of the x set
 marks-set : (m : List ℕ) (ls : List (List ℕ)) → all (all xset) (map (λ (k : List ℕ). m ++ k) ls) ≡ true → all xset (together ls) ≡ true
 marks-set m [] e = refl
 marks-set m (l ∷ ls) e = all-append xset l (together ls) (all-behind xset m l (left (all xset (m ++ l)) _ e)) (marks-set m ls (right (all xset (m ++ l)) _ e))
@@ -120,21 +115,6 @@ module _ {p : Place} {s : Bool} {ls : List (List ℕ)} (w : Told p s ls) where
       all-append xset (w .text) (together (w .texts)) (all-behind xset (code s (w .vo)) (w .text) (all-behind xset (layout p .mark) (code s (w .vo) ++ w .text) g))
       (marks-set (layout p .next) (w .texts) (right (all xset (layout p .mark ++ (code s (w .vo) ++ w .text))) _ f))
 
-  told-long : markSize p + codeSize s + length whole + 2 ≤ length (laid ls)
-  told-long =
-      let l : List ℕ = layout p .mark ++ (code s (w .vo) ++ w .text) in
-      let ks = map (λ (k : List ℕ). layout p .next ++ k) (w .texts) in
-      omega (
-        arith,
-        ap (λ (x : List (List ℕ)). length (laid x)) (w .is),
-        length-append l (13 ∷ 10 ∷ laid ks),
-        length-append (layout p .mark) (code s (w .vo) ++ w .text),
-        length-append (code s (w .vo)) (w .text),
-        code-size s (w .vo) (w .five),
-        length-append (w .text) (together (w .texts)),
-        marks-long (layout p .next) (w .texts),
-      )
-
   -- the lines divide code and text as the field's place asks
   told-divides : DivisionIn (layout p) (codeSize s) (code s (w .vo) ++ whole) ((code s (w .vo) ++ w .text) ∷ w .texts)
   told-divides =
@@ -150,8 +130,6 @@ record Gathered (p : Place) (s : Bool) (ls : List (List ℕ)) (vo d : List ℕ) 
   right-parts : detailed (vo ∷ d ∷ []) ≡ true
   written : all (speaks s) (coded (vo ∷ d ∷ [])) ≡ true
   plain : all plainText (vo ∷ d ∷ []) ≡ true
-  five : length vo ≡ 5
-  short : markSize p + codeSize s + length d + 2 ≤ length (laid ls)
 
 gathered : {p : Place} {s : Bool} {ls : List (List ℕ)} (w : Told p s ls) (h : Means s (whole w)) → Gathered p s ls (w .vo) (h .desk)
 gathered {p} {s} {ls} w h = record {
@@ -159,8 +137,6 @@ gathered {p} {s} {ls} w h = record {
   right-parts = both (w .five) (ap not (h .means));
   written = both (plain-said (w .vo) (vo-set (w .vo) (w .five))) (both (says-written s (whole w) (h .desk) (h .reads)) refl);
   plain = both (set-text (w .vo) (vo-set (w .vo) (w .five))) (both (says-text s (whole w) (h .desk) (h .reads)) refl);
-  five = vo-five (w .vo) (w .five);
-  short = omega (arith, told-long w, says-short s (whole w) (h .desk) (h .reads));
 }
 
 -- what it says, by 3 or by 14
@@ -217,21 +193,15 @@ note-free [] = refl
 note-free (x ∷ r) = refl
 
 -- ---- the record
-lined-size : (t : List ℕ) (ls : List (List ℕ)) → empty ls ≡ false → length (laid (lined (field t ls))) ≡ length t + 2 + length (laid ls)
-lined-size t [] e = absurd (true≢false e)
-lined-size t (l ∷ ls) e =
-    omega (arith, length-append (58 ∷ t ++ 58 ∷ l) (13 ∷ 10 ∷ laid ls), length-append t (58 ∷ l), length-append l (13 ∷ 10 ∷ laid ls))
-
 -- from the parts that it comes to
-sheeted-as : (form : Form) (s : Bool) (t : List ℕ) (ls : List (List ℕ)) (sh : Shape) (ps : List (List ℕ)) → shapeOf form t ≡ sh → contentParts s sh ls ≡ ps → Shows s sh ls ps → empty ls ≡ false
-    → sound s sh ps ≡ true → all (speaks s) (castParts sh ps) ≡ true → all plainText ps ≡ true → length (line (field t ps)) ≤ length t + 1 + length (laid ls) → (crowded s sh ps ≡ true → (s ≡ true) × (sh ≡ Details))
+sheeted-as : (form : Form) (s : Bool) (t : List ℕ) (ls : List (List ℕ)) (sh : Shape) (ps : List (List ℕ)) → shapeOf form t ≡ sh → contentParts s sh ls ≡ ps → Shows s sh ls ps
+    → sound s sh ps ≡ true → all (speaks s) (castParts sh ps) ≡ true → all plainText ps ≡ true → (crowded s sh ps ≡ true → (s ≡ true) × (sh ≡ Details))
     → Sheeted form s t ls
-sheeted-as form s t ls sh ps e f y z a b c d g = record {
+sheeted-as form s t ls sh ps e f y a b c g = record {
   shows = rw (e, f) y;
   is-sound = rw (e, f) a;
   says = rw (e, f) b;
   textual = rw (e, f) c;
-  no-longer = rw (e, f) (omega (arith, lined-size t ls z));
   fits = rw (e, f) g;
 }
 
@@ -244,37 +214,22 @@ module _ (form : Form) (s : Bool) (t : List ℕ) (ls : List (List ℕ)) (h : Hel
   sheeted-70 e w =
       let y : Means s (whole w) = told-says s w 0 (h .fair .inside) (heard-as e) in
       let g = gathered w y in
-      let n : length (line (field t (w .vo ∷ y .desk ∷ []))) ≤ length t + 1 + length (laid ls) =
-      omega (arith, length-append t (9 ∷ (w .vo ++ 9 ∷ (y .desk ++ []))), length-append (w .vo) (9 ∷ (y .desk ++ [])), length-append (y .desk) [], g .five, g .short, code-least s) in
-      sheeted-as form s t ls Details (w .vo ∷ y .desk ∷ []) e (g .parts) (shown.details (shown-told w y)) (h .fair .some) (g .right-parts) (g .written) (g .plain) n (λ q. (unfit-signed s w y q, refl))
+      sheeted-as form s t ls Details (w .vo ∷ y .desk ∷ []) e (g .parts) (shown.details (shown-told w y)) (g .right-parts) (g .written) (g .plain) (λ q. (unfit-signed s w y q, refl))
 
   sheeted-103 : shapeOf form t ≡ Note103 → (r : List ℕ) → ls ≡ rppLine r ∷ [] → empty r ≡ false → Sheeted form s t ls
   unfolding contentParts sound crowded cast
   sheeted-103 e r i z =
       let x : all xset r ≡ true = all-behind xset (bytes "/RPP/") r (left (all xset (rppLine r)) true (rw i at (h .fair .inside))) in
-      let n : length (line (field t (r ∷ []))) ≤ length t + 1 + length (laid ls) =
-      omega (arith, ap (λ (k : List (List ℕ)). length (laid k)) i, length-append t (9 ∷ (r ++ [])), length-append r [], length-append (rppLine r) (13 ∷ 10 ∷ [])) in
-      sheeted-as form s t ls Note103 (r ∷ []) e (ap (map (drop 5)) i) (subst (λ (k : List (List ℕ)). Shows s Note103 k (r ∷ [])) (sym i) shown.note103) (h .fair .some) (ap not z) (both (plain-said r x) refl) (both (set-text r x) refl) n (λ q. absurd (false≢true q))
+      sheeted-as form s t ls Note103 (r ∷ []) e (ap (map (drop 5)) i) (subst (λ (k : List (List ℕ)). Shows s Note103 k (r ∷ [])) (sym i) shown.note103) (ap not z) (both (plain-said r x) refl) (both (set-text r x) refl) (λ q. absurd (false≢true q))
 
   -- r is what follows /RPP/, or nothing
   noted-by : shapeOf form t ≡ Note202 → (r : List ℕ) (ks : List (List ℕ)) (w : Told (notePlace r) s ks) (y : Means s (whole w)) → Shows s Note202 ls (r ∷ w .vo ∷ y .desk ∷ [])
-      → noteParts s ls ≡ r ∷ toldParts s (markSize (notePlace r)) (nextSize (notePlace r)) ks → all xset r ≡ true → length r + length (laid ks) ≤ length (laid ls) → Sheeted form s t ls
+      → noteParts s ls ≡ r ∷ toldParts s (markSize (notePlace r)) (nextSize (notePlace r)) ks → all xset r ≡ true → Sheeted form s t ls
   unfolding contentParts sound crowded
-  noted-by e r ks w y v i x k =
+  noted-by e r ks w y v i x =
       let g = gathered w y in
-      let n : length (line (field t (r ∷ w .vo ∷ y .desk ∷ []))) ≤ length t + 1 + length (laid ls) =
-      omega (
-        arith,
-        length-append t (9 ∷ (r ++ 9 ∷ (w .vo ++ 9 ∷ (y .desk ++ [])))),
-        length-append r (9 ∷ (w .vo ++ 9 ∷ (y .desk ++ []))),
-        length-append (w .vo) (9 ∷ (y .desk ++ [])),
-        length-append (y .desk) [],
-        g .five,
-        g .short,
-        code-least s,
-      ) in
-      sheeted-as form s t ls Note202 (r ∷ w .vo ∷ y .desk ∷ []) e (i ∙ ap (λ (ps : List (List ℕ)). r ∷ ps) (g .parts)) v (h .fair .some) (g .right-parts)
-      (both (plain-said r x) (g .written)) (both (set-text r x) (g .plain)) n (λ q. absurd (true≢false (sym q ∙ free-fits w y (note-free r))))
+      sheeted-as form s t ls Note202 (r ∷ w .vo ∷ y .desk ∷ []) e (i ∙ ap (λ (ps : List (List ℕ)). r ∷ ps) (g .parts)) v (g .right-parts)
+      (both (plain-said r x) (g .written)) (both (set-text r x) (g .plain)) (λ q. absurd (true≢false (sym q ∙ free-fits w y (note-free r))))
 
   sheeted-202 : shapeOf form t ≡ Note202 → Note s ls → Sheeted form s t ls
   unfolding same speeches speech.noted
@@ -282,19 +237,18 @@ module _ (form : Form) (s : Bool) (t : List ℕ) (ls : List (List ℕ)) (h : Hel
       let u : s ≡ true → Heard (speech.details 16 2 0 ls) = λ q. subst Heard (ap (speech.noted true 0) (w .is) ∙ ap (speech.details 16 2 0) (sym (w .is))) (heard-as e q) in
       let i : noteParts s ls ≡ [] ∷ toldParts s 5 2 ls = ap (noteParts s) (w .is) ∙ ap (λ (k : List (List ℕ)). [] ∷ toldParts s 5 2 k) (sym (w .is)) in
       let y : Means s (whole w) = told-says s w 0 (h .fair .inside) u in
-      noted-by e [] ls w y (shown.note202 (shown-told w y)) i refl (omega arith)
+      noted-by e [] ls w y (shown.note202 (shown-told w y)) i refl
   sheeted-202 e (with-rpp r ks j z w) =
       let o : ℕ = 0 + length (rppLine r) + 2 in
       let f : all (all xset) (rppLine r ∷ ks) ≡ true = rw j at (h .fair .inside) in
       let y : Means s (whole w) = told-says s w o (right (all xset (rppLine r)) _ f) (λ q. subst Heard (ap (speech.noted true 0) j) (heard-as e q)) in
-      let k : length r + length (laid ks) ≤ length (laid ls) = omega (arith, ap (λ (x : List (List ℕ)). length (laid x)) j, length-append (rppLine r) (13 ∷ 10 ∷ laid ks)) in
-      by r z (ap (noteParts s) j) (all-behind xset (bytes "/RPP/") r (left (all xset (rppLine r)) _ f)) k w y
+      by r z (ap (noteParts s) j) (all-behind xset (bytes "/RPP/") r (left (all xset (rppLine r)) _ f)) w y
       (subst (λ (x : List (List ℕ)). Shows s Note202 x (r ∷ w .vo ∷ y .desk ∷ [])) (sym j) (shown.behindRpp z (shown-told w y)))
     where
-      by : (r : List ℕ) {ks : List (List ℕ)} → empty r ≡ false → noteParts s ls ≡ r ∷ toldParts s 5 2 ks → all xset r ≡ true → length r + length (laid ks) ≤ length (laid ls)
+      by : (r : List ℕ) {ks : List (List ℕ)} → empty r ≡ false → noteParts s ls ≡ r ∷ toldParts s 5 2 ks → all xset r ≡ true
           → (w : Told BehindRpp s ks) (y : Means s (whole w)) → Shows s Note202 ls (r ∷ w .vo ∷ y .desk ∷ []) → Sheeted form s t ls
-      by [] z i x k w y v = absurd (true≢false z)
-      by (c ∷ r) {ks} z i x k w y v = noted-by e (c ∷ r) ks w y v i x k
+      by [] z i x w y v = absurd (true≢false z)
+      by (c ∷ r) {ks} z i x w y v = noted-by e (c ∷ r) ks w y v i x
 
   -- by what the field holds
   held-sheeted : (c : Content) → shapeOf form t ≡ shapeFor c → Noted (shapeFor c) → Right c s ls → Sheeted form s t ls

@@ -1,7 +1,7 @@
 -- `sheets::built::put_records` meets its contract: from each field on as from the first. Assumes nothing.
 use borrow.Author.Needs.{needs}
 use Rattle.base.proofs.Room.{Leads}
-use Rattle.sheets.proofs.FieldLaws.{part, part-within, part-sound, at-on, at-end, sheet-on, sheet-end}
+use Rattle.sheets.proofs.FieldLaws.{part, part-within, part-sound, at-on, sheet-on, sheet-end}
 use Rattle.sheets.specs.Steps.{Part, sheetBy}
 use Rattle.fields.specs.Field.{fields}
 use Rattle.base.specs.Bytes.{byte}
@@ -83,7 +83,7 @@ same-length : tie.Need-same-length Inv-loop μ-loop
 same-length c = search needs
 
 returns : tie.Need-returns Inv-loop μ-loop
-returns c = (at-end (c .before .before .before .before .before .before .before .before .pre .1) (c .before .before .before .before .before .before .before .before .pre .2) (c .loop-test .left) (c .before .loop .inv .1) (c .before .loop .inv .2), sheet-end (c .before .before .before .before .before .before .before .before .args .m .now) (c .before .loop .k) (c .before .before .before .before .before .before .before .before .args .n) (c .before .before .before .before .before .before .before .before .pre .2) (c .loop-test .left) (c .before .before .before .before .before .before .before .before .args .back .now) (c .before .before .before .before .before .before .before .before .args .form) (c .before .before .before .before .before .before .before .before .args .sign) (c .before .before .before .before .put-type .ensures .1) (c .before .loop .inv .3))
+returns c = sheet-end (c .before .before .before .before .before .before .before .before .args .m .now) (c .before .loop .k) (c .before .before .before .before .before .before .before .before .args .n) (c .before .before .before .before .before .before .before .before .pre .2) (c .loop-test .left) (c .before .before .before .before .before .before .before .before .args .back .now) (c .before .before .before .before .before .before .before .before .args .form) (c .before .before .before .before .before .before .before .before .args .sign) (c .before .before .before .before .put-type .ensures .1) (c .before .loop .inv .3)
 
 pub put-records-spec : {M : Type 1} → statement M
 put-records-spec =

@@ -19,7 +19,7 @@ same-length : tie.Need-same-length
 same-length c = search needs
 
 returns : tie.Need-returns
-returns c = let s = c .before .before .before .before .before .before .before .before .before in (c .before .before .put-records .ensures .0, sheet-put (s .args .form) (s .args .m .now) (s .pre .fine) (c .before .before .before .before .before .before .back-table .ensures) (c .before .before .before .before .before .is-signed .ensures ∙ signed-is (s .pre .settled)) (c .before .before .put-records .ensures .1))
+returns c = let s = c .before .before .before .before .before .before .before .before .before in sheet-put (s .args .form) (s .args .m .now) (s .pre .fine) (c .before .before .before .before .before .before .back-table .ensures) (c .before .before .before .before .before .is-signed .ensures ∙ signed-is (s .pre .settled)) (c .before .before .put-records .ensures)
 
 pub put-sheet-spec : {M : Type 1} → statement M
 put-sheet-spec =

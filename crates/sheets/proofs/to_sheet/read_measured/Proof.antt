@@ -11,7 +11,7 @@ put-sheet-requires : tie.Need-put-sheet-requires
 put-sheet-requires c κs = search needs
 
 returns : tie.Need-returns
-returns c = let s = c .before .before .before .before .before .before in sheet-short (s .args .form) (s .args .m .now) (s .args .out .now) (s .pre .fine) (c .before .before .put-sheet .ensures .1) (c .if1 .taken)
+returns c = let s = c .before .before .before .before .before .before in sheet-short (s .args .form) (s .args .m .now) (s .args .out .now) (s .pre .fine) (c .before .before .put-sheet .ensures) (c .if1 .taken)
 
 put-sheet-requires-2 : tie.Need-put-sheet-requires-2
 put-sheet-requires-2 c κs = search needs
@@ -20,7 +20,7 @@ same-length : tie.Need-same-length
 same-length c = search needs
 
 returns-2 : tie.Need-returns-2
-returns-2 c = let s = c .before .before .before .before .before .before .before .before .before .before in sheet-done (s .args .form) (s .args .m .now) (s .args .out .now) (s .pre .fine) (c .before .before .before .before .before .before .put-sheet .ensures .1) (c .before .before .before .before .if1 .left) (c .before .before .put-sheet2 .ensures .1)
+returns-2 c = let s = c .before .before .before .before .before .before .before .before .before .before in sheet-done (s .args .form) (s .args .m .now) (s .args .out .now) (s .pre .fine) (c .before .before .before .before .before .before .put-sheet .ensures) (c .before .before .before .before .if1 .left) (c .before .before .put-sheet2 .ensures)
 
 pub read-measured-spec : {M : Type 1} → statement M
 read-measured-spec =
