@@ -1,27 +1,16 @@
 -- Worked examples of sheets, as one list (S1-S11, N18, N19). That they hold is proved in proofs/Examples.antt. Assumes nothing.
-use Prim.Native.Nat.{ℕ, _-_}
-use Prim.Native.Char.{code}
-use Prim.Native.String as string
+use Prim.Native.Nat.{ℕ}
 use Prim.Native.String.{String}
 use mathlib.Core.Path.{_≡_}
 use mathlib.Core.Bool.{Bool, true, false}
 use mathlib.Core.List.{List, [], _∷_, _++_}
-use lib.Dec.{eqb, leb}
-use Rattle.base.specs.Choice.{pick}
+use Rattle.base.specs.Quoted.{desk}
 use Rattle.base.specs.declared.Verdict.the-variants.{Fine, Broken}
 use Rattle.fields.specs.Field.{field}
 use Rattle.types.specs.Form.{formOf}
 use Rattle.records.specs.Record.{Record, sheet, records, rest}
 use Rattle.records.specs.Places.{startsOf, partsOf}
 use Rattle.records.specs.Rule19.{sheetVerdict, sheetForm, sheetSign}
-
--- a text in windows-1251
-abbrev pub byteOf : ℕ → ℕ
-byteOf c = pick (leb 1040 c) (c - 848) (pick (eqb c 1025) 168 c)
-
-abbrev pub desk : String → List ℕ
-desk string.[] = []
-desk (string._∷_ c s) = byteOf (code c) ∷ desk s
 
 pub data Case : Type 0 where
   -- the sheet is refused, of 19 and 18, by this number at this place

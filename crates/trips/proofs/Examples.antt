@@ -10,7 +10,7 @@ use Rattle.base.specs.Examples.{AllHold, _also_}
 use Rattle.base.specs.Choice.{pick}
 use Rattle.base.specs.Calls.{Answer, said, textOf, long, short}
 use Rattle.base.specs.Bytes.{empty, isIn, digit, capital, letter, marks, shared, xset, same}
-use Rattle.base.specs.Quoted.{bytes}
+use Rattle.base.specs.Quoted.{bytes, desk}
 use Rattle.base.specs.Rules.{then, first}
 use Rattle.base.specs.declared.Verdict.{Verdict}
 use Rattle.base.specs.declared.Verdict.the-variants.{Fine, Broken}
@@ -47,7 +47,6 @@ use Rattle.alphabets.specs.Grid as signs
 use Rattle.alphabets.specs.Bank.{after, reads, plainly, reading}
 use Rattle.alphabets.specs.Best.{latinNext, best, bad, writes}
 use Rattle.alphabets.proofs.Back.{reads-best}
-use Rattle.records.specs.Cases.{desk}
 use Rattle.records.specs.Record.{Record, sheet, pieces, recordOf, records, rest, begun}
 use Rattle.records.specs.Rule19.{digits, general, untaxed, sound, badFrom, judge, sheetSign, sheetForm, rule19}
 use Rattle.details.specs.Breaking.{opens, last, broken}
