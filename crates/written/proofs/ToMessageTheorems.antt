@@ -17,7 +17,7 @@ use Rattle.base.specs.declared.Verdict.the-variants.{Fine, Broken}
 use Rattle.base.specs.declared.Outcome.{Outcome}
 use Rattle.base.specs.declared.Outcome.the-variants.{Done, Refused}
 use Rattle.base.proofs.RuleLaws.{fine-broken, same-broken, then-fine, first-clean, broken-first}
-use Rattle.base.proofs.CallLaws.{gives-one, accepted, refused, is-long, not-long, is-short, not-short, enough}
+use Rattle.base.proofs.CallLaws.{gives-one, accepted, refused, is-long, not-long, is-short, not-short, short-within}
 use Rattle.fields.specs.Field.{fields}
 use Rattle.fields.specs.Frame.{limit}
 use Rattle.types.specs.declared.Form.{Form}
@@ -256,7 +256,7 @@ module _ (s out : List ℕ) (r : Outcome) (after : List ℕ) (g : MessageTo s ou
       let a = accepted (writeRules s out) (messageFor s) out n after (subst (λ (q : Outcome). Gives (writeRules s out) (messageFor s) out q after) e g) in
       let c = write-rules s out (a .clean) in
       let k : Clean (sheetRules s) = rules-sheet s (c .sheet) in
-      record { clean = k; count = a .count; room = enough (messageFor s) out (c .room); filled = a .filled; message-fine = own-fine s k (c .own); made = built-made s k }
+      record { clean = k; count = a .count; room = short-within (messageFor s) out (c .room); filled = a .filled; message-fine = own-fine s k (c .own); made = built-made s k }
 
   -- written exactly if the message is accepted, where the sheet is fine and there is room
   pub exact-done : Clean (sheetRules s) → length (messageFor s) ≤ length out
