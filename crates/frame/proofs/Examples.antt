@@ -12,4 +12,4 @@ use Rattle.frame.specs.Cases.{Holds, cases}
 
 pub worked : AllHold Holds cases
 unfolding cases long isIn digit capital letter marks shared xset same body cut upto past grouped fields rule1 framed rule2 scan rule3 tagged lineBad badLine rule4 places103 places202 find wrong walk rule18 walked word refusal spotsOf frameBy frameOf
-worked = refl also refl also refl also refl also refl also refl also refl also refl also refl also tt
+worked = refl also refl also refl also refl also refl also refl also refl also refl also refl also refl also refl also tt
