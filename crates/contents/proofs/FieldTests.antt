@@ -10,11 +10,12 @@ use Rattle.base.specs.Bytes.{digit, empty, same}
 use Rattle.base.specs.Quoted.{bytes}
 use Rattle.base.specs.Says.{Not, _or_, Says}
 use Rattle.base.proofs.SaysLaws.{says-so, says-not, says-as, says-and, says-or, says-no, says-le, says-text, says-empty}
+use Rattle.base.specs.Examples.{AllHold}
 use Rattle.contents.specs.declared.Content.{Content}
 use Rattle.contents.specs.declared.Content.the-variants as holds
 use Rattle.contents.specs.Words.{Text, Line, Size, Digits, join}
 use Rattle.contents.specs.Lines.{Name, opening, closing}
-use Rattle.contents.specs.Fields.{One, Then, Any, Each, Several, Names, Beside, Customer, Payer, Details, Right}
+use Rattle.contents.specs.Fields.{One, Then, Any, Several, Names, Beside, Customer, Payer, Details, Right}
 use Rattle.contents.specs.Tests.{sized, piece, sizes, isName, one, after, any, several, beside, customer, payer, codeParts, codeTest, laterTest, details, right}
 use Rattle.contents.proofs.CutLaws.{cut-whole, cut-once}
 use Rattle.contents.proofs.LineTests.{size-says, just-says, starts-says, begins-says, reference-says, purpose-says, payment-says, own-says, account-says, looks-says, party-says, bic-says, tax-says, rpp-says}
@@ -30,7 +31,7 @@ module _ (P : Line → Type 0) (p : Line → Bool) (h : (l : Line) → Says (P l
   then-says Q q g [] = says-not (λ x. x)
   then-says Q q g (l ∷ ls) = says-and (h l) (g ls)
 
-  pub each-says : (ls : List Line) → Says (Each P ls) (all p ls)
+  pub each-says : (ls : List Line) → Says (AllHold P ls) (all p ls)
   each-says [] = says-so tt
   each-says (l ∷ ls) = says-and (h l) (each-says ls)
 
@@ -81,13 +82,13 @@ Marked later rest l = (s : Text) × (l ≡ bytes later ++ s) × Size 1 rest s
 abbrev on : String → List Text → List Line
 on later ts = map (λ (s : Text). bytes later ++ s) ts
 
-marked-texts : (later : String) (rest : ℕ) (ls : List Line) → Each (Marked later rest) ls → (ts : List Text) × (ls ≡ on later ts) × Each (Size 1 rest) ts
+marked-texts : (later : String) (rest : ℕ) (ls : List Line) → AllHold (Marked later rest) ls → (ts : List Text) × (ls ≡ on later ts) × AllHold (Size 1 rest) ts
 marked-texts later rest [] e = ([], refl, tt)
 marked-texts later rest (l ∷ ls) e =
     let w = marked-texts later rest ls (e .1) in
     (e .0 .0 ∷ w .0, ap₂ (λ (x : Line) (y : List Line). x ∷ y) (e .0 .1) (w .1), (e .0 .2, w .2))
 
-texts-marked : (later : String) (rest : ℕ) (ts : List Text) → Each (Size 1 rest) ts → Each (Marked later rest) (on later ts)
+texts-marked : (later : String) (rest : ℕ) (ts : List Text) → AllHold (Size 1 rest) ts → AllHold (Marked later rest) (on later ts)
 texts-marked later rest [] e = tt
 texts-marked later rest (t ∷ ts) e = ((t, refl, e .0), texts-marked later rest ts (e .1))
 
@@ -103,7 +104,7 @@ module _ (first later : String) (room rest most : ℕ) (sign : Bool) where
   abbrev Parts : Line → List Line → Type 0
   Parts l ls =
       CodeTests first room sign (codeParts (bytes first) sign l)
-      × (Each (Marked later rest) ls × ((length (l ∷ ls) ≤ most) × Not ((piece 4 (codeParts (bytes first) sign l) ≡ []) × (ls ≡ []))))
+      × (AllHold (Marked later rest) ls × ((length (l ∷ ls) ≤ most) × Not ((piece 4 (codeParts (bytes first) sign l) ≡ []) × (ls ≡ []))))
 
   made : (l : Line) (ls : List Line) → Parts l ls → IsDetails first later room rest most sign (l ∷ ls)
   made l ls p =
@@ -135,7 +136,7 @@ module _ (first later : String) (room rest most : ℕ) (sign : Bool) where
       let g = ap (codeParts (bytes first) sign) e ∙ code-parts first sign code t (d .number) in
       let h : piece 4 (codeParts (bytes first) sign l) ≡ t = ap (piece 4) g in (
         subst (CodeTests first room sign) (sym g) (refl, (refl, (d .number, (refl, simp (length-append, d .number .size) at (d .front))))),
-        (subst (Each (Marked later rest)) (sym f) (texts-marked later rest ts (d .back)), (d .count, λ z. d .text (sym h ∙ z .0, on-empty later ls ts f (z .1)))),
+        (subst (AllHold (Marked later rest)) (sym f) (texts-marked later rest ts (d .back)), (d .count, λ z. d .text (sym h ∙ z .0, on-empty later ls ts f (z .1)))),
       )
 
   pub details-says : (ls : List Line) → Says (IsDetails first later room rest most sign ls) (details (bytes first) (bytes later) room rest most sign ls)

@@ -10,6 +10,7 @@ use lib.ListN.{length, length-append}
 use Rattle.base.specs.Bytes.{empty}
 use Rattle.base.specs.Quoted.{bytes}
 use Rattle.base.specs.Says.{_or_}
+use Rattle.base.specs.Examples.{AllHold}
 use Rattle.fields.specs.Field.{field}
 use Rattle.fields.specs.Places.{sizeOf}
 use Rattle.types.specs.declared.Form.{Form}
@@ -18,7 +19,7 @@ use Rattle.contents.specs.declared.Content.{Content}
 use Rattle.contents.specs.declared.Content.the-variants as holds
 use Rattle.contents.specs.Words.{Text, Line, Size, Just, Perhaps, join, behind}
 use Rattle.contents.specs.Lines.{Reference, Name, opening, closing}
-use Rattle.contents.specs.Fields.{Is, IsPurpose, IsPayment, IsOwnAccount, IsParty, IsBic, IsAccount, IsTax, IsRpp, One, Then, Each, Names, Beside, Customer, Details, Right}
+use Rattle.contents.specs.Fields.{Is, IsPurpose, IsPayment, IsOwnAccount, IsParty, IsBic, IsAccount, IsTax, IsRpp, One, Then, Names, Beside, Customer, Details, Right}
 use Rattle.contents.specs.Tags.{heldBy}
 use Rattle.contents.specs.Rule8.{rightField}
 use Rattle.contents.proofs.LineLaws.{account-size}
@@ -115,7 +116,7 @@ beside-names twelve ls (inr p) = p .1
 customer-names : (twelve : Bool) (ls : List Line) → Customer twelve ls → Names 5 ls
 customer-names twelve ls p = then-names account-name (beside-names twelve) ls p
 
-marked-names : (later : String) (rest : ℕ) (ts : List Text) → length (bytes later) + rest ≤ 35 → Each (Size 1 rest) ts → Each Name (map (λ (s : Text). bytes later ++ s) ts)
+marked-names : (later : String) (rest : ℕ) (ts : List Text) → length (bytes later) + rest ≤ 35 → AllHold (Size 1 rest) ts → AllHold Name (map (λ (s : Text). bytes later ++ s) ts)
 marked-names later rest [] h e = tt
 marked-names later rest (t ∷ ts) h e =
     let n = length-append (bytes later) t in
@@ -163,7 +164,7 @@ names-some ((x ∷ l) ∷ ls) p = refl
 pub right-nonempty : (form : Form) (sign : Bool) (t : List ℕ) (ls : List (List ℕ)) → rightField form sign (field t ls) ≡ true → empty (firstLine ls) ≡ false
 right-nonempty form sign t ls e = names-some ls (right-names (heldBy form t) sign ls (field-says form sign (field t ls) .0 e))
 
-lines-size : (ls : List Line) → Each Name ls → sizeOf ls ≤ 37 * length ls
+lines-size : (ls : List Line) → AllHold Name ls → sizeOf ls ≤ 37 * length ls
 lines-size [] e = omega arith
 lines-size (l ∷ ls) e = omega (arith, e .0 .most, lines-size ls (e .1))
 

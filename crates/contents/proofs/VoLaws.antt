@@ -10,11 +10,12 @@ use lib.ListN.{length, drop, length-map, length-drop, take-append-drop}
 use Rattle.base.specs.Quoted.{bytes}
 use Rattle.contents.specs.Words.{Text, Line, Size, Digits, join}
 use Rattle.contents.specs.Lines.{opening, closing}
-use Rattle.contents.specs.Fields.{Names, Each, Several, In70, In72}
+use Rattle.contents.specs.Fields.{Names, Several, In70, In72}
 use Rattle.contents.specs.Answers.{cut, VoFirst, textAt, IsMarked, NzpFirst, RppWith}
 use Rattle.contents.proofs.Laws.{Spot, spot, laid, made}
 use Rattle.contents.proofs.RppLaws.{rpp-front}
 use Rattle.base.specs.Bytes.{byte}
+use Rattle.base.specs.Examples.{AllHold}
 
 -- where the code's digits begin, and where the text behind it
 abbrev pub codeAt : Bool → ℕ
@@ -119,11 +120,11 @@ module _ (sign : Bool) (l : Line) where
 abbrev mark : Text → Line
 mark s = bytes "//" ++ s
 
-marked-of : (ts : List Text) → Each (Size 1 33) ts → Each IsMarked (map (λ (s : Text). bytes "//" ++ s) ts)
+marked-of : (ts : List Text) → AllHold (Size 1 33) ts → AllHold IsMarked (map (λ (s : Text). bytes "//" ++ s) ts)
 marked-of [] e = tt
 marked-of (t ∷ ts) e = ((t, refl, e .0), marked-of ts (e .1))
 
-texts-of : (ms : List Line) → Each IsMarked ms → (ts : List Text) × (ms ≡ map (λ (s : Text). bytes "//" ++ s) ts) × Each (Size 1 33) ts
+texts-of : (ms : List Line) → AllHold IsMarked ms → (ts : List Text) × (ms ≡ map (λ (s : Text). bytes "//" ++ s) ts) × AllHold (Size 1 33) ts
 texts-of [] e = ([], refl, tt)
 texts-of (m ∷ ms) e =
     let r = texts-of ms (e .1) in

@@ -7,6 +7,7 @@ use mathlib.Core.List.{List, [], _∷_, _++_, map}
 use lib.ListN.{length}
 use Rattle.base.specs.Quoted.{bytes}
 use Rattle.base.specs.Says.{Not, _or_}
+use Rattle.base.specs.Examples.{AllHold}
 use Rattle.contents.specs.declared.Content.{Content}
 use Rattle.contents.specs.declared.Content.the-variants as holds
 use Rattle.contents.specs.Words.{Text, Line, Size, Digits, join, BeginsWith}
@@ -59,15 +60,11 @@ Then P Q (l ∷ ls) = P l × Q ls
 abbrev pub Any : List Line → Type 0
 Any ls = Unit {0}
 
-abbrev pub Each : (Line → Type 0) → List Line → Type 0
-Each P [] = Unit {0}
-Each P (l ∷ ls) = P l × Each P ls
-
 -- from one to n lines, each of this kind
 pub record Several (P : Line → Type 0) (n : ℕ) (ls : List Line) : Type 0 where
   pub least : 1 ≤ length ls
   pub most : length ls ≤ n
-  pub each : Each P ls
+  pub each : AllHold P ls
 
 abbrev pub Names : ℕ → List Line → Type 0
 Names n ls = Several Name n ls
@@ -96,7 +93,7 @@ pub record Details (first later : String) (room rest most : ℕ) (sign : Bool) (
   pub number : Digits 5 code
   pub lines : ls ≡ join (bytes first ∷ opening sign ∷ code ∷ closing sign ∷ t ∷ []) ∷ map (λ (s : Text). bytes later ++ s) ts
   pub front : length (join (opening sign ∷ code ∷ closing sign ∷ t ∷ [])) ≤ room
-  pub back : Each (Size 1 rest) ts
+  pub back : AllHold (Size 1 rest) ts
   pub count : length ls ≤ most
   pub text : Not ((t ≡ []) × (ts ≡ []))
 

@@ -18,6 +18,7 @@ use Rattle.base.specs.declared.Outcome.{Outcome}
 use Rattle.base.specs.declared.Outcome.the-variants.{Done, Refused}
 use Rattle.base.proofs.RuleLaws.{first-append, first-last, then-clean}
 use Rattle.base.proofs.CallLaws.{accepted, not-short}
+use Rattle.base.specs.Examples.{AllHold}
 use Rattle.fields.specs.Field.{Field, field, fields}
 use Rattle.fields.specs.Frame.{limit}
 use Rattle.types.specs.declared.Form.the-variants.{Mt202}
@@ -29,7 +30,7 @@ use Rattle.roles.specs.declared.Shape.the-variants.{Plain, Payer, Payee, Agent,
 use Rattle.judge.specs.Message.{messageRules, verdictOf}
 use Rattle.writer.specs.Sheet.{messageFor, sheetRules, atStart, ownRule, writeRules, MessageTo}
 use Rattle.writer.proofs.RuleLaws.{sheet-rules, rules-write}
-use Rattle.written.specs.Sentences.{Every, OneByOne}
+use Rattle.written.specs.Sentences.{OneByOne}
 use Rattle.records.specs.Record.{records}
 use Rattle.sheets.specs.Gather.{recordFor, gather, sheetOf}
 use Rattle.sheets.specs.Calls.{readRules, SheetTo}
@@ -63,17 +64,17 @@ module _ (form : Form) (s : Bool) where
       go (inl v) = sheeted-names form s t ls v h
       go (inr v) = sheeted-noted form s t ls v h
 
-  all-sheeted : (fs : List Field) → Every (HeldField form s) fs → Every (SheetedField form s) fs
+  all-sheeted : (fs : List Field) → AllHold (HeldField form s) fs → AllHold (SheetedField form s) fs
   all-sheeted [] h = tt
   all-sheeted (field t ls ∷ fs) h = (one-sheeted t ls (h .0), all-sheeted fs (h .1))
 
-  all-shown : (fs : List Field) → Every (SheetedField form s) fs → OneByOne (Shown form s) fs (map (recordFor form s) fs)
+  all-shown : (fs : List Field) → AllHold (SheetedField form s) fs → OneByOne (Shown form s) fs (map (recordFor form s) fs)
   all-shown [] h = tt
   all-shown (field t ls ∷ fs) h = ((refl, h .0 .shows), all-shown fs (h .1))
 
 -- ---- an accepted message
 module _ (form : Form) (m : List ℕ) (e : verdictOf form m ≡ Fine) where
-  each : Every (SheetedField form (signOf (fields m))) (fields m)
+  each : AllHold (SheetedField form (signOf (fields m))) (fields m)
   each = all-sheeted form (signOf (fields m)) (fields m) (all-held form m e)
 
   -- the rules of writing let its sheet pass, or 16 refuses it, and then for field 70 of a 103 with the sign

@@ -17,11 +17,12 @@ use Rattle.base.specs.Bytes.{empty, isIn}
 use Rattle.base.specs.Quoted.{bytes}
 use Rattle.base.specs.Says.{Not}
 use Rattle.base.proofs.Bools.{left, right, both}
+use Rattle.base.specs.Examples.{AllHold}
 use Rattle.fields.specs.Shapes.{goesOn}
 use Rattle.contents.specs.Words.{Size, join, behind}
 use Rattle.contents.specs.Lines.{opening, closing}
 use Rattle.contents.specs.Fields as fields
-use Rattle.contents.specs.Fields.{Each, One, IsRpp, Details, RppAndDetails}
+use Rattle.contents.specs.Fields.{One, IsRpp, Details, RppAndDetails}
 use Rattle.roles.specs.Speech.{codeSize}
 use Rattle.records.specs.Rule19.{digits}
 use Rattle.details.specs.Lines.{together, Later, none, line, Division, lines}
@@ -83,7 +84,7 @@ lawful In70 x l e = go (eqb x 58) (eqb x 45) e
 lawful In72 x l e = refl
 lawful BehindRpp x l e = refl
 
-later-of : (p : Place) (n w : ℕ) (ts : List (List ℕ)) → Each (Size 1 w) ts → length ts ≤ n → all goesOn (map (λ (k : List ℕ). layout p .next ++ k) ts) ≡ true
+later-of : (p : Place) (n w : ℕ) (ts : List (List ℕ)) → AllHold (Size 1 w) ts → length ts ≤ n → all goesOn (map (λ (k : List ℕ). layout p .next ++ k) ts) ≡ true
     → Later (opens (layout p .barred)) (replicate n w) ts
 later-of p n w [] e h g = none
 later-of p n w ([] ∷ ts) e h g = absurd (omega (arith, e .0 .least))
@@ -91,12 +92,12 @@ later-of p zero w ((x ∷ l) ∷ ts) e h g = absurd (omega arith)
 later-of p (suc n) w ((x ∷ l) ∷ ts) e h g =
     line (e .0 .most) (lawful p x l (left (goesOn (layout p .next ++ x ∷ l)) _ g)) (later-of p n w ts (e .1) (omega arith) (right (goesOn (layout p .next ++ x ∷ l)) _ g))
 
-later-each : {ok : ℕ → Bool} (n w : ℕ) {ts : List (List ℕ)} → Later ok (replicate n w) ts → Each (Size 1 w) ts × (length ts ≤ n)
+later-each : {ok : ℕ → Bool} (n w : ℕ) {ts : List (List ℕ)} → Later ok (replicate n w) ts → AllHold (Size 1 w) ts × (length ts ≤ n)
 later-each zero w none = (tt, omega arith)
 later-each (suc n) w none = (tt, omega arith)
 later-each (suc n) w (line h o m) = let r = later-each n w m in ((record { least = omega arith; most = h }, r .0), omega (arith, r .1))
 
-some-text : (w : ℕ) (t : List ℕ) (ts : List (List ℕ)) → Each (Size 1 w) ts → Not ((t ≡ []) × (ts ≡ [])) → empty (t ++ together ts) ≡ false
+some-text : (w : ℕ) (t : List ℕ) (ts : List (List ℕ)) → AllHold (Size 1 w) ts → Not ((t ≡ []) × (ts ≡ [])) → empty (t ++ together ts) ≡ false
 some-text w (x ∷ t) ts e n = refl
 some-text w [] [] e n = absurd (n (refl, refl))
 some-text w [] ([] ∷ ts) e n = absurd (omega (arith, e .0 .least))

@@ -18,6 +18,7 @@ use Rattle.base.proofs.Bools.{left, right, both}
 use Rattle.base.proofs.ByteLaws.{same-is}
 use Rattle.base.proofs.RuleLaws.{fine-broken}
 use Rattle.base.proofs.CallLaws.{not-long, within-limit}
+use Rattle.base.specs.Examples.{AllHold}
 use Rattle.alphabets.specs.Bank.{plainly}
 use Rattle.fields.specs.Field.{Field, field, laid, lined, linesOf, message, closing, fields}
 use Rattle.fields.specs.Frame.{limit, rule1}
@@ -45,7 +46,6 @@ use Rattle.records.proofs.SheetLaws.{records-sheet, rest-sheet}
 use Rattle.records.proofs.RuleLaws.{sound-fine, named-size}
 use Rattle.writer.specs.Sheet.{crowded, someCrowded, rule15, rule16, sheetRules}
 use Rattle.writer.proofs.RuleLaws.{rules-sheet}
-use Rattle.written.specs.Sentences.{Every}
 use Rattle.written.proofs.BuiltLaws.{shape-20}
 use Rattle.written.proofs.ReadyLaws.{speaking, rule15-fine}
 use Rattle.written.proofs.ExactLaws.{crowded-none}
@@ -119,7 +119,7 @@ message-size : (fs : List Field) → length (message fs) ≡ length (laid (lines
 unfolding message
 message-size fs = omega (arith, length-append (laid (linesOf fs)) closing)
 
-records-size : (form : Form) (s : Bool) (fs : List Field) → Every (SheetedField form s) fs → sizeOf (map (recordFor form s) fs) ≤ length (laid (linesOf fs))
+records-size : (form : Form) (s : Bool) (fs : List Field) → AllHold (SheetedField form s) fs → sizeOf (map (recordFor form s) fs) ≤ length (laid (linesOf fs))
 records-size form s [] w = omega arith
 records-size form s (field t ls ∷ fs) w =
     let n = records-size form s fs (w .1) in
@@ -132,21 +132,21 @@ unfolding digit capital
 tag-plain t e = both (shaped-without 9 refl refl t e) (shaped-without 10 refl refl t e)
 
 module _ (form : Form) (s : Bool) where
-  all-writable : (fs : List Field) → all shapedTag fs ≡ true → Every (SheetedField form s) fs → all writable (map (recordFor form s) fs) ≡ true
+  all-writable : (fs : List Field) → all shapedTag fs ≡ true → AllHold (SheetedField form s) fs → all writable (map (recordFor form s) fs) ≡ true
   all-writable [] e w = refl
   all-writable (field t ls ∷ fs) e w =
       both (both (tag-plain t (left (shaped t) _ e)) (w .0 .textual)) (all-writable fs (right (shaped t) _ e) (w .1))
 
-  all-good : (fs : List Field) → all shapedTag fs ≡ true → Every (SheetedField form s) fs → all (good form s) (map (recordFor form s) fs) ≡ true
+  all-good : (fs : List Field) → all shapedTag fs ≡ true → AllHold (SheetedField form s) fs → all (good form s) (map (recordFor form s) fs) ≡ true
   all-good [] e w = refl
   all-good (field t ls ∷ fs) e w = both (both (left (shaped t) _ e) (w .0 .is-sound)) (all-good fs (right (shaped t) _ e) (w .1))
 
-  all-speaking : (fs : List Field) → Every (SheetedField form s) fs → all (speaking form s) (map (recordFor form s) fs) ≡ true
+  all-speaking : (fs : List Field) → AllHold (SheetedField form s) fs → all (speaking form s) (map (recordFor form s) fs) ≡ true
   all-speaking [] w = refl
   all-speaking (field t ls ∷ fs) w = both (w .0 .says) (all-speaking fs (w .1))
 
   -- what 16 refuses of them is 70 of a 103, with the sign
-  which-crowded : (fs : List Field) → Every (SheetedField form s) fs → someCrowded form s (map (recordFor form s) fs) ≡ true → Crowded70 form s fs
+  which-crowded : (fs : List Field) → AllHold (SheetedField form s) fs → someCrowded form s (map (recordFor form s) fs) ≡ true → Crowded70 form s fs
   which-crowded [] w e = absurd (false≢true e)
   which-crowded (field t ls ∷ fs) w e = go (crowded s (shapeOf form t) (contentParts s (shapeOf form t) ls)) refl e (which-crowded fs (w .1))
     where
@@ -162,7 +162,7 @@ module _ (form : Form) (s : Bool) where
           record { type = v .type; sign = v .sign; before = field t ls ∷ v .before; lines = v .lines; behind = v .behind; list = ap (λ (l : List Field). field t ls ∷ l) (v .list); no-way = v .no-way }
 
 -- ---- the sheet
-module _ (form : Form) (s : Bool) (fs : List Field) (eighteen : rule18 form ≡ Fine) (sign : s ≡ signOf fs) (tags : all shapedTag fs ≡ true) (each : Every (SheetedField form s) fs) where
+module _ (form : Form) (s : Bool) (fs : List Field) (eighteen : rule18 form ≡ Fine) (sign : s ≡ signOf fs) (tags : all shapedTag fs ≡ true) (each : AllHold (SheetedField form s) fs) where
   abbrev pub sheetFor : List ℕ
   sheetFor = sheet (typeRecord form ∷ gather form s fs)
 
@@ -253,7 +253,7 @@ module _ (form : Form) (s : Bool) (fs : List Field) (eighteen : rule18 form ≡ 
         )
 
 -- ---- the sheet of an accepted message whose fields all have their records
-module _ (form : Form) (m : List ℕ) (fine : verdictOf form m ≡ Fine) (each : Every (SheetedField form (signOf (fields m))) (fields m)) where
+module _ (form : Form) (m : List ℕ) (fine : verdictOf form m ≡ Fine) (each : AllHold (SheetedField form (signOf (fields m))) (fields m)) where
   clean : EachFrameRule (λ v. v ≡ Fine) form m
   clean = accepted-rules form m fine .pass
 

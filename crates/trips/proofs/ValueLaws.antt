@@ -12,6 +12,7 @@ use Rattle.base.specs.declared.Verdict.the-variants.{Fine, Broken}
 use Rattle.base.proofs.Bools.{left, right}
 use Rattle.base.proofs.ByteLaws.{same-is}
 use Rattle.base.proofs.RuleLaws.{fine-broken}
+use Rattle.base.specs.Examples.{AllHold}
 use Rattle.fields.specs.Field.{Field, field}
 use Rattle.fields.specs.Places.{startOf, nextOf}
 use Rattle.types.specs.declared.Form.{Form}
@@ -30,7 +31,6 @@ use Rattle.roles.specs.Speech.{codeSize}
 use Rattle.roles.specs.declared.Shape.{Shape}
 use Rattle.roles.specs.declared.Shape.the-variants.{Plain, Payer, Payee, Agent, Details, Note103, Note202}
 use Rattle.details.specs.declared.Place.the-variants.{In72}
-use Rattle.written.specs.Sentences.{Every}
 use Rattle.writer.specs.Spread.{told, rppLine, noteLines, contentLines}
 use Rattle.writer.specs.Sheet.{crowded}
 use Rattle.written.proofs.ReadyLaws.{Ready, Laid, laid}
@@ -99,16 +99,16 @@ module _ (s : Bool) (t : List ℕ) where
   one-tax false p ks ls e w =
       ap (λ (q : Bool). pick q (tax t (taxInn (again s p)) (taxKpp (again s p)) ∷ []) []) (w .untaxed-again) ∙ sym (ap (λ (q : Bool). pick q (tax t (taxInn p) (taxKpp p) ∷ []) []) e)
 
-  tax-again : (ps : List (List ℕ)) → Every (KeptPart s) (taxed ps) → taxKinds t (map (lineAgain s) (taxed ps)) ≡ taxKinds t ps
+  tax-again : (ps : List (List ℕ)) → AllHold (KeptPart s) (taxed ps) → taxKinds t (map (lineAgain s) (taxed ps)) ≡ taxKinds t ps
   tax-again [] w = refl
   tax-again (p ∷ ps) w = one-tax (looksTax p) p (map (lineAgain s) (map name ps)) ps refl (w .0)
 
   -- beside an account
-  beside-again : (k l : List ℕ) (ps : List (List ℕ)) → Every (KeptPart s) (taxed ps) → kinds customerTaxes (k ∷ map (lineAgain s) (taxed ps)) ≡ kinds customerTaxes (l ∷ ps)
+  beside-again : (k l : List ℕ) (ps : List (List ℕ)) → AllHold (KeptPart s) (taxed ps) → kinds customerTaxes (k ∷ map (lineAgain s) (taxed ps)) ≡ kinds customerTaxes (l ∷ ps)
   unfolding customerTaxes
   beside-again k l ps w = tax-kinds t _ (map (lineAgain s) (taxed ps)) ∙ tax-again ps w ∙ sym (tax-kinds t _ ps)
 
-  payee-again : (ls : List (List ℕ)) → Every (KeptPart s) (cast Payee ls) → kinds customerTaxes (map (lineAgain s) (cast Payee ls)) ≡ kinds customerTaxes ls
+  payee-again : (ls : List (List ℕ)) → AllHold (KeptPart s) (cast Payee ls) → kinds customerTaxes (map (lineAgain s) (cast Payee ls)) ≡ kinds customerTaxes ls
   unfolding cast
   payee-again [] w = refl
   payee-again (p ∷ ps) w = beside-again (lineAgain s (pick (begins 47 p) (copy p) (name p))) p ps (w .1)
@@ -117,7 +117,7 @@ module _ (s : Bool) (t : List ℕ) where
   front-again true p w = refl
   front-again false p w = w .as-name .slash
 
-  payer-by : (b : Bool) (p : List ℕ) (ps : List (List ℕ)) → begins 47 p ≡ b → Every (KeptPart s) (pick b (copy p ∷ taxed ps) (taxed (p ∷ ps)))
+  payer-by : (b : Bool) (p : List ℕ) (ps : List (List ℕ)) → begins 47 p ≡ b → AllHold (KeptPart s) (pick b (copy p ∷ taxed ps) (taxed (p ∷ ps)))
       → kinds payerTaxes (map (lineAgain s) (pick b (copy p ∷ taxed ps) (taxed (p ∷ ps)))) ≡ kinds payerTaxes (p ∷ ps)
   unfolding payerTaxes
   payer-by true p ps e w =
@@ -130,7 +130,7 @@ module _ (s : Bool) (t : List ℕ) where
       ∙ tax-kinds t 0 (l ∷ ks) ∙ one-tax (looksTax p) p ks ps refl (w .0) ∙ sym (tax-kinds t 0 (p ∷ ps))
       ∙ sym (ap (λ (q : Bool). map kindOf (pick q (customerTaxes t (p ∷ ps)) (taxes t 0 (p ∷ ps)))) e)
 
-  payer-again : (ls : List (List ℕ)) → Every (KeptPart s) (cast Payer ls) → kinds payerTaxes (map (lineAgain s) (cast Payer ls)) ≡ kinds payerTaxes ls
+  payer-again : (ls : List (List ℕ)) → AllHold (KeptPart s) (cast Payer ls) → kinds payerTaxes (map (lineAgain s) (cast Payer ls)) ≡ kinds payerTaxes ls
   unfolding cast payerTaxes
   payer-again [] w = refl
   payer-again (p ∷ ps) w = payer-by (begins 47 p) p ps refl w
@@ -186,8 +186,8 @@ module _ (form : Form) (s : Bool) (t : List ℕ) (ls : List (List ℕ)) (h : Hel
       by-line : linesAgain form s t ls ≡ map (lineAgain s) (cast sh ls)
       by-line = held-lines form s t ls (subst LineByLine (sym e) v) h ∙ ap (λ (x : Shape). map (lineAgain s) (cast x ls)) e
 
-      each-kept : Every (KeptPart s) (cast sh ls)
-      each-kept = subst (λ (x : Shape). Every (KeptPart s) (cast x ls)) e (held-kept form s t ls (subst LineByLine (sym e) v) h)
+      each-kept : AllHold (KeptPart s) (cast sh ls)
+      each-kept = subst (λ (x : Shape). AllHold (KeptPart s) (cast x ls)) e (held-kept form s t ls (subst LineByLine (sym e) v) h)
 
     as-shaped : linesAgain form s t ls ≡ contentLines s sh (contentParts s sh ls)
     as-shaped = ap (λ (x : Shape). contentLines s x (contentParts s x ls)) e
@@ -242,7 +242,7 @@ kinds-append n [] ws = refl
 kinds-append n (at p k ∷ vs) ws = ap (λ (ks : List Kind). k ∷ ks) (kinds-append n vs ws)
 
 -- wherever the fields begin
-pub kinds-again : (form : Form) (s : Bool) (o p : ℕ) (fs : List Field) → Every (HeldField form s) fs → Every (ReadyField form s) fs
+pub kinds-again : (form : Form) (s : Bool) (o p : ℕ) (fs : List Field) → AllHold (HeldField form s) fs → AllHold (ReadyField form s) fs
     → map kindOf (valuesIn form o (map (fieldAgain form s) fs)) ≡ map kindOf (valuesIn form p fs)
 kinds-again form s o p [] h w = refl
 kinds-again form s o p (field t ls ∷ fs) h w =

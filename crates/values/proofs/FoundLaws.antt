@@ -39,7 +39,7 @@ use Rattle.values.specs.Steps.{finds, heldFound, bankFound, LedBy, isNot
 use Rattle.values.specs.declared.Finds.{Finds}
 use Rattle.values.specs.declared.Found.{Found}
 use Rattle.values.specs.declared.Found.the-variants.{Wrong, Has, Plain}
-use Rattle.values.proofs.ValueLaws.{Every, every-first, every-rpp, every-party}
+use Rattle.values.proofs.ValueLaws.{EveryKind, every-first, every-rpp, every-party}
 use Rattle.values.proofs.StepLaws.{has-none, fault-none}
 use Rattle.values.proofs.FrontLaws.{swap}
 use Rattle.values.proofs.GrammarLaws.{note-values, nzp-values, bic-values, tax-values, untaxed-values}
@@ -145,7 +145,7 @@ module _ (content : Content) (ls : List Line) where
       let vs = ofFirst rppDates ls in
       finding-of (λ t. vs) e (λ t. q) (λ t. sym (fault-none foreign vs (dates foreign (λ s. refl)))) (λ t. sym (fault-none apart vs (dates apart (λ s. refl)))) (λ t. sym (has-none hasKpp vs (dates hasKpp (λ s. refl))))
     where
-      dates : (u : Kind → Bool) → ((s : Text) → u (date s) ≡ false) → Every (λ k. u k ≡ false) (ofFirst rppDates ls)
+      dates : (u : Kind → Bool) → ((s : Text) → u (date s) ≡ false) → EveryKind (λ k. u k ≡ false) (ofFirst rppDates ls)
       dates u h = every-first (λ k. u k ≡ false) rppDates (every-rpp (λ k. u k ≡ false) h) ls
 
   finding-party : ((t : Text) → valuesOf t content ls ≡ ofFirst parties ls) → Finding content ls (finds 0 0 (faultOf apart (ofFirst parties ls)) false)
@@ -153,7 +153,7 @@ module _ (content : Content) (ls : List Line) where
       let vs = ofFirst parties ls in
       finding-of (λ t. vs) e (λ t. sym (fault-none noDay vs (pairs noDay (λ b a. refl)))) (λ t. sym (fault-none foreign vs (pairs foreign (λ b a. refl)))) (λ t. refl) (λ t. sym (has-none hasKpp vs (pairs hasKpp (λ b a. refl))))
     where
-      pairs : (u : Kind → Bool) → ((b a : Text) → u (kinds.party b a) ≡ false) → Every (λ k. u k ≡ false) (ofFirst parties ls)
+      pairs : (u : Kind → Bool) → ((b a : Text) → u (kinds.party b a) ≡ false) → EveryKind (λ k. u k ≡ false) (ofFirst parties ls)
       pairs u h = every-first (λ k. u k ≡ false) parties (every-party (λ k. u k ≡ false) h) ls
 
 -- ---- 32A

@@ -22,7 +22,7 @@ use Rattle.values.specs.Values.{Kind, tag, Value, at, placeOf, kindOf, m
 use Rattle.values.specs.Judged.{firstBad, has, tagged, hasKpp, kppIn, is56, is57, is26T, is77B, taxWhole, rule11, rule13}
 use Rattle.values.specs.Answers.{faultOf, answered}
 use Rattle.values.proofs.JudgedLaws.{first-append, has-append}
-use Rattle.values.proofs.ValueLaws.{Every, every-value}
+use Rattle.values.proofs.ValueLaws.{EveryKind, every-value}
 
 -- ---- two tags as numbers
 pub among-two : (n a b : ℕ) {r : Bool} → r ≡ (eqb n a || eqb n b) → r ≡ among (unpack n) (unpack a ∷ unpack b ∷ [])
@@ -33,20 +33,20 @@ and-or : (b x y : Bool) → ((b && x) || (b && y)) ≡ (b && (x || y))
 and-or true x y = refl
 and-or false x y = refl
 
-has-every : (u w : Kind → Bool) (b : Bool) (vs : List Value) → Every (λ k. u k ≡ (b && w k)) vs → has u vs ≡ (b && has w vs)
+has-every : (u w : Kind → Bool) (b : Bool) (vs : List Value) → EveryKind (λ k. u k ≡ (b && w k)) vs → has u vs ≡ (b && has w vs)
 has-every u w b [] e = sym (and-false b)
 has-every u w b (v ∷ vs) e = ap₂ _||_ (e .0) (has-every u w b vs (e .1)) ∙ and-or b (w (kindOf v)) (has w vs)
 
-pub has-none : (u : Kind → Bool) (vs : List Value) → Every (λ k. u k ≡ false) vs → has u vs ≡ false
+pub has-none : (u : Kind → Bool) (vs : List Value) → EveryKind (λ k. u k ≡ false) vs → has u vs ≡ false
 has-none u vs e = has-every u u false vs e
 
-pub fault-none : (bad : Kind → Bool) (vs : List Value) → Every (λ k. bad k ≡ false) vs → faultOf bad vs ≡ 0
+pub fault-none : (bad : Kind → Bool) (vs : List Value) → EveryKind (λ k. bad k ≡ false) vs → faultOf bad vs ≡ 0
 unfolding faultOf
 fault-none bad [] e = refl
 fault-none bad (v ∷ vs) e = ap (λ (b : Bool). pick b (suc (placeOf v)) (faultOf bad vs)) (e .0) ∙ fault-none bad vs (e .1)
 
 -- ---- no content has a tag, and its tax lines are in its own field
-no-tag : (ts : List Text) (t : Text) (content : Content) (ls : List Line) → Every (λ k. tagged ts k ≡ false) (valuesOf t content ls)
+no-tag : (ts : List Text) (t : Text) (content : Content) (ls : List Line) → EveryKind (λ k. tagged ts k ≡ false) (valuesOf t content ls)
 no-tag ts t content ls = every-value (λ k. tagged ts k ≡ false) t (λ s. refl) (λ s. refl) (λ b a. refl) (λ i k. refl) content ls
 
 pub kpp-in : (u t : Text) (content : Content) (ls : List Line) → has (kppIn u) (valuesOf t content ls) ≡ (same t u && has hasKpp (valuesOf t content ls))

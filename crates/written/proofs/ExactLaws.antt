@@ -17,6 +17,7 @@ use Rattle.base.specs.declared.Verdict.the-variants.{Fine, Broken}
 use Rattle.base.proofs.Bools.{left, right, both}
 use Rattle.base.proofs.RuleLaws.{fine-broken}
 use Rattle.base.proofs.CallLaws.{not-said}
+use Rattle.base.specs.Examples.{AllHold}
 use Rattle.alphabets.specs.Sentences.{FirstFails}
 use Rattle.alphabets.specs.Bank.{plainly, reading}
 use Rattle.alphabets.specs.Best.{writing}
@@ -37,7 +38,7 @@ use Rattle.details.specs.declared.Size.the-variants.{Bytes, Unfit}
 use Rattle.details.proofs.DivisionTheorems.{unfit-none, none-unfit}
 use Rattle.writer.specs.Spread.{saidPart, castParts, told}
 use Rattle.writer.specs.Sheet.{stoppedAt, unsaid, rule15, isUnfit, crowded, someCrowded, rule16}
-use Rattle.written.specs.Sentences.{Every, Writable, Unwritable, canWrite, partsSize, StuckPart, WritableRecord, StuckAt, Undivided, NoWay, in70, in72, pastRpp, CrowdedIn}
+use Rattle.written.specs.Sentences.{Writable, Unwritable, canWrite, partsSize, StuckPart, WritableRecord, StuckAt, Undivided, NoWay, in70, in72, pastRpp, CrowdedIn}
 use Rattle.written.proofs.SpeltLaws.{isSaid, said-is, plain-set}
 use Rattle.written.proofs.ReadyLaws.{speaks, said-all, all-said}
 
@@ -71,7 +72,7 @@ module _ (s : Bool) where
   speaks-writable (name p) = (says-text p, text-says p (writing s p) refl)
   speaks-writable (taxName p) = (says-text p, text-says p (writing s p) refl)
 
-  every-speaks : (xs : List Part) → Every (Writable s) xs → all (speaks s) xs ≡ true
+  every-speaks : (xs : List Part) → AllHold (Writable s) xs → all (speaks s) xs ≡ true
   every-speaks [] w = refl
   every-speaks (x ∷ xs) w = both (speaks-writable x .1 (w .0)) (every-speaks xs (w .1))
 
@@ -122,7 +123,7 @@ module _ (s : Bool) where
 
   -- ---- records one behind another
   module _ (form : Form) where
-    all-writable : (xs : List Part) → all (speaks s) xs ≡ true → Every (Writable s) xs
+    all-writable : (xs : List Part) → all (speaks s) xs ≡ true → AllHold (Writable s) xs
     all-writable [] e = tt
     all-writable (x ∷ xs) e = (speaks-writable x .0 (left (speaks s x) _ e), all-writable xs (right (speaks s x) _ e))
 
@@ -165,7 +166,7 @@ module _ (s : Bool) where
     rule15-broken o (field t ps ∷ rs) n p e =
         record-broken o t ps rs n p (unsaid s (o + length t + 1) (castParts (shapeOf form t) ps)) refl e (rule15-broken (nextOf o (field t ps)) rs n p)
 
-    hit : (o : ℕ) (us : List Record) (t : List ℕ) (ps : List (List ℕ)) (vs : List Record) (p : ℕ) → Every (WritableRecord form s) us
+    hit : (o : ℕ) (us : List Record) (t : List ℕ) (ps : List (List ℕ)) (vs : List Record) (p : ℕ) → AllHold (WritableRecord form s) us
         → StuckPart s (o + sizeOf us + length t + 1) (castParts (shapeOf form t) ps) p → rule15 form s o (us ++ field t ps ∷ vs) ≡ Broken 15 p
     unfolding rule15
     hit o [] t ps vs p w h =

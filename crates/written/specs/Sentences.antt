@@ -11,6 +11,7 @@ use Rattle.types.specs.declared.Form.the-variants.{Other}
 use Rattle.base.specs.Choice.{all}
 use Rattle.base.specs.Bytes.{empty, xset}
 use Rattle.base.specs.Calls.{said}
+use Rattle.base.specs.Examples.{AllHold}
 use Rattle.base.specs.declared.Verdict.the-variants.{Broken}
 use Rattle.alphabets.specs.Sentences.{canSay, FirstFails, Shortest}
 use Rattle.alphabets.specs.Sentences as texts
@@ -35,10 +36,6 @@ use Rattle.writer.specs.Spread.{castParts, code, told, rppLine}
 use Rattle.writer.specs.Sheet.{messageFor}
 
 -- ---- lists
-abbrev pub Every : {A : Type 0} → (A → Type 0) → List A → Type 0
-Every P [] = Unit {0}
-Every P (x ∷ xs) = P x × Every P xs
-
 -- as many on both sides, each with its own
 abbrev pub OneByOne : {A B : Type 0} → (A → B → Type 0) → List A → List B → Type 0
 OneByOne P [] [] = Unit {0}
@@ -107,14 +104,14 @@ pub record StuckPart (s : Bool) (o : ℕ) (xs : List Part) (p : ℕ) : Type 0 wh
   pub this : Part
   pub behind : List Part
   pub list : xs ≡ before ++ this ∷ behind
-  pub fine : Every (Writable s) before
+  pub fine : AllHold (Writable s) before
   pub bad : Unwritable s this
   pub at : ℕ
   pub first : FirstFails (canWrite s this) (lineOf this) at
   pub place : p ≡ o + partsSize before + at
 
 abbrev pub WritableRecord : Form → Bool → Record → Type 0
-WritableRecord form s (field t ps) = Every (Writable s) (castParts (shapeOf form t) ps)
+WritableRecord form s (field t ps) = AllHold (Writable s) (castParts (shapeOf form t) ps)
 
 -- of records one behind another, the first at o: p is that byte, in the first record that can't be written
 pub record StuckAt (form : Form) (s : Bool) (o : ℕ) (rs : List Record) (p : ℕ) : Type 0 where
@@ -123,7 +120,7 @@ pub record StuckAt (form : Form) (s : Bool) (o : ℕ) (rs : List Record) (p : �
   pub parts : List (List ℕ)
   pub behind : List Record
   pub list : rs ≡ before ++ field tag parts ∷ behind
-  pub fine : Every (WritableRecord form s) before
+  pub fine : AllHold (WritableRecord form s) before
   pub stuck : StuckPart s (o + sizeOf before + length tag + 1) (castParts (shapeOf form tag) parts) p
 
 -- ---- 16
