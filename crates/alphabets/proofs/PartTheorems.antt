@@ -18,7 +18,7 @@ use Rattle.alphabets.specs.Best.{writing}
 use Rattle.alphabets.specs.Steps.{codes}
 use Rattle.alphabets.specs.Runs.{floorOf, heardOf}
 use Rattle.alphabets.specs.Pieces.{pieceAfter, pieceIn, pieceOn, whole}
-use Rattle.alphabets.specs.Parts.{extentOf, extent, written, ToldLong, ToldHalt, spoken, pieceText}
+use Rattle.alphabets.specs.Parts.{extentOf, extent, written, WhenTakes, WhenHalts, spoken, pieceText}
 use Rattle.alphabets.specs.declared.parts.Extent.the-variants.{Takes, Halts, Long}
 use Rattle.alphabets.specs.declared.pieces.Piece.{Piece}
 use Rattle.alphabets.specs.declared.pieces.Piece.the-variants.{Read, Stops}
@@ -34,10 +34,10 @@ pub put-one : {A : Type 0} {r q x : A} {a b after : List ℕ} → (r ≡ x) × (
 put-one e f = (one-answer (e .0) (f .0), one-answer (e .1) (f .1))
 
 -- ---- the size
-pub size-takes : (s : Bool) (desk : List ℕ) (n : ℕ) → extent s desk ≡ Takes n → ToldLong s desk n
+pub size-takes : (s : Bool) (desk : List ℕ) (n : ℕ) → extent s desk ≡ Takes n → WhenTakes s desk n
 size-takes s desk n e = go (decLt 10000 (length desk))
   where
-    by : (h : length desk ≤ 10000) (a : Answer) → writing s desk ≡ a → extentOf a ≡ Takes n → ToldLong s desk n
+    by : (h : length desk ≤ 10000) (a : Answer) → writing s desk ≡ a → extentOf a ≡ Takes n → WhenTakes s desk n
     by h (stuck k) p f = absurd (takes-halts n k (sym f))
     by h (said t) p f =
         let m : length t ≡ n = cc in
@@ -51,21 +51,21 @@ size-takes s desk n e = go (decLt 10000 (length desk))
           small = omega (arith, twice-at-most 5000 s desk t p (omega arith));
         }
 
-    go : Dec (10000 < length desk) → ToldLong s desk n
+    go : Dec (10000 < length desk) → WhenTakes s desk n
     go (yes h) = absurd (takes-long n (sym e ∙ sym (extent-long s desk h)))
     go (no h) = by (omega arith) (writing s desk) refl (sym (extent-is s desk (omega arith)) ∙ e)
 
-pub size-halts : (s : Bool) (desk : List ℕ) (k : ℕ) → extent s desk ≡ Halts k → ToldHalt s desk k
+pub size-halts : (s : Bool) (desk : List ℕ) (k : ℕ) → extent s desk ≡ Halts k → WhenHalts s desk k
 size-halts s desk k e = go (decLt 10000 (length desk))
   where
-    by : (h : length desk ≤ 10000) (a : Answer) → writing s desk ≡ a → extentOf a ≡ Halts k → ToldHalt s desk k
+    by : (h : length desk ≤ 10000) (a : Answer) → writing s desk ≡ a → extentOf a ≡ Halts k → WhenHalts s desk k
     by h (said t) p f = absurd (takes-halts (length t) k f)
     by h (stuck j) p f =
         let m : j ≡ k = cc in
         let q : writing s desk ≡ stuck k = p ∙ ap stuck m in
         record { within = h; is = q; unsaid = unwritable-iff s desk .0 (k, q); first = unwritable-at s desk k .0 q; none = written-is s desk h ∙ ap textOf p }
 
-    go : Dec (10000 < length desk) → ToldHalt s desk k
+    go : Dec (10000 < length desk) → WhenHalts s desk k
     go (yes h) = absurd (halts-long k (sym e ∙ sym (extent-long s desk h)))
     go (no h) = by (omega arith) (writing s desk) refl (sym (extent-is s desk (omega arith)) ∙ e)
 

@@ -61,15 +61,15 @@ start-at m o t r e d = go (shape-of t e)
 -- and the tag stands behind its colon
 pub tag-at : (m : List ℕ) (o : ℕ) (t r : List ℕ) → shaped t ≡ true → drop o m ≡ 58 ∷ (t ++ 58 ∷ r) → tagAt m o ≡ pack t
 unfolding tagAt
-tag-at m o t r e d = ap (λ (b : Bool). pick b (told (byte m (o + 1)) (byte m (o + 2)) (byte m (o + 3))) 0) (lt-ltb (o + 3) (length m) (omega (arith, tag-long t (shape-of t e), length-drop o m, ap length d, length-append t (58 ∷ r)))) ∙ go (shape-of t e)
+tag-at m o t r e d = ap (λ (b : Bool). pick b (tagNumber (byte m (o + 1)) (byte m (o + 2)) (byte m (o + 3))) 0) (lt-ltb (o + 3) (length m) (omega (arith, tag-long t (shape-of t e), length-drop o m, ap length d, length-append t (58 ∷ r)))) ∙ go (shape-of t e)
   where
-    told : ℕ → ℕ → ℕ → ℕ
-    told x y z = x * 65536 + y * 256 + pick (eqb z 58) 0 z
+    tagNumber : ℕ → ℕ → ℕ → ℕ
+    tagNumber x y z = x * 65536 + y * 256 + pick (eqb z 58) 0 z
 
-    by : (u : List ℕ) → t ≡ u → told (byte m (o + 1)) (byte m (o + 2)) (byte m (o + 3)) ≡ told (byte (u ++ 58 ∷ r) 0) (byte (u ++ 58 ∷ r) 1) (byte (u ++ 58 ∷ r) 2)
-    by u q = ap₂ (λ (x y : ℕ). told x y (byte m (o + 3))) (tag-byte m o t r d u 1 q) (tag-byte m o t r d u 2 q) ∙ ap (told (byte (u ++ 58 ∷ r) 0) (byte (u ++ 58 ∷ r) 1)) (tag-byte m o t r d u 3 q)
+    by : (u : List ℕ) → t ≡ u → tagNumber (byte m (o + 1)) (byte m (o + 2)) (byte m (o + 3)) ≡ tagNumber (byte (u ++ 58 ∷ r) 0) (byte (u ++ 58 ∷ r) 1) (byte (u ++ 58 ∷ r) 2)
+    by u q = ap₂ (λ (x y : ℕ). tagNumber x y (byte m (o + 3))) (tag-byte m o t r d u 1 q) (tag-byte m o t r d u 2 q) ∙ ap (tagNumber (byte (u ++ 58 ∷ r) 0) (byte (u ++ 58 ∷ r) 1)) (tag-byte m o t r d u 3 q)
 
-    go : Shape t → told (byte m (o + 1)) (byte m (o + 2)) (byte m (o + 3)) ≡ pack t
+    go : Shape t → tagNumber (byte m (o + 1)) (byte m (o + 2)) (byte m (o + 3)) ≡ pack t
     go (plain a b q x y) = by (a ∷ b ∷ []) q ∙ ap pack (sym q)
     go (lettered a b c q x y k) =
         by (a ∷ b ∷ c ∷ []) q ∙ ap (λ (p : Bool). a * 65536 + b * 256 + pick p 0 c) (no-colon c k) ∙ ap pack (sym q)

@@ -25,7 +25,7 @@ use Rattle.judge.specs.declared.facts.Read.{Read}
 use Rattle.judge.specs.declared.facts.Read.the-variants.{Wrong, Right}
 use Rattle.judge.specs.Facts.{nothingYet, factsFrom, ReadOf, valueRules}
 use Rattle.judge.specs.Message.{innerRules, contentRules, verdictOf, judgedOf}
-use Rattle.judge.proofs.FactLaws.{values-told}
+use Rattle.judge.proofs.FactLaws.{values-verdict}
 
 -- ---- what was read, by its cases
 module _ (form : Form) (sign : Bool) (fs : List Field) {r : Read} (e : ReadOf form sign fs r) where
@@ -40,7 +40,7 @@ module _ (form : Form) (fs : List Field) {f : Facts} (e : f ≡ factsFrom form n
   inner-by : first (innerRules form fs) ≡ then v (rule14 form fs)
   inner-by =
       first-last (rule9 form fs ∷ rule10 form fs ∷ rule11 form fs ∷ rule12 form fs ∷ rule13 form fs ∷ []) (rule14 form fs)
-      ∙ ap (λ (u : Verdict). then u (rule14 form fs)) (sym (q ∙ ap valueRules e ∙ values-told form fs))
+      ∙ ap (λ (u : Verdict). then u (rule14 form fs)) (sym (q ∙ ap valueRules e ∙ values-verdict form fs))
 
   pub inner-refused : {n p : ℕ} → v ≡ Broken n p → Broken n p ≡ first (innerRules form fs)
   inner-refused z = sym (inner-by ∙ ap (λ (u : Verdict). then u (rule14 form fs)) z)

@@ -1,4 +1,4 @@
--- What 9 to 13 need of the fields, found in one turn a field. A place is told as one more than it is, 0 for none. Assumes nothing.
+-- What 9 to 13 need of the fields, found in one turn a field. A place is kept as one more than it is, 0 for none. Assumes nothing.
 use Prim.Native.Nat.{ℕ, zero, suc, _+_}
 use mathlib.Core.Path.{_≡_}
 use mathlib.Core.Bool.{Bool, false, _&&_, _||_}
@@ -44,9 +44,9 @@ abbrev pub kppAt : Bool → List ℕ → List ℕ → Bool
 kppAt kpp t u = same t u && kpp
 
 -- as a rule's answer
-abbrev pub toldAs : ℕ → ℕ → Verdict
-toldAs number zero = Fine
-toldAs number (suc p) = Broken number p
+abbrev pub asVerdict : ℕ → ℕ → Verdict
+asVerdict number zero = Fine
+asVerdict number (suc p) = Broken number p
 
 -- ---- field by field
 unfoldable pub nothingYet : Facts
@@ -112,8 +112,8 @@ openBank through bank = pick through 0 bank
 
 -- 13: a 26T with 77B and what is whole, a KPP in 50K and 59; a 77B with 26T
 unfoldable pub taxRule : ℕ → ℕ → Bool → Verdict
-taxRule purpose budget whole = pick (eqb purpose 0) (toldAs 13 budget) (pick (eqb budget 0) (toldAs 13 purpose) (pick whole Fine (toldAs 13 purpose)))
+taxRule purpose budget whole = pick (eqb purpose 0) (asVerdict 13 budget) (pick (eqb budget 0) (asVerdict 13 purpose) (pick whole Fine (asVerdict 13 purpose)))
 
 unfoldable pub valueRules : Facts → Verdict
 valueRules f =
-    first (toldAs 9 (f .day) ∷ toldAs 10 (f .currency) ∷ toldAs 11 (openBank (f .through) (f .bank)) ∷ toldAs 12 (f .party) ∷ taxRule (f .purpose) (f .budget) (f .payer && f .payee) ∷ [])
+    first (asVerdict 9 (f .day) ∷ asVerdict 10 (f .currency) ∷ asVerdict 11 (openBank (f .through) (f .bank)) ∷ asVerdict 12 (f .party) ∷ taxRule (f .purpose) (f .budget) (f .payer && f .payee) ∷ [])

@@ -1,4 +1,4 @@
-// 8 to 13: each content is read once; 8 at the first that isn't right, else what 9 to 13 need of the fields. A place is told as one more than it
+// 8 to 13: each content is read once; 8 at the first that isn't right, else what 9 to 13 need of the fields. A place is kept as one more than it
 // is, 0 for none.
 ghost use mathlib.Core.Path.{_≡_};
 ghost use mathlib.Core.Bool.{true, false, _||_};

@@ -36,7 +36,7 @@ use Rattle.values.specs.Judged.{firstBad, rule9, rule10, rule11, rule12, rule13
 use Rattle.values.specs.Answers.{dateOf, kopecksOf, faultOf}
 use Rattle.contents.specs.Tags.{tags103, tags202, heldBy}
 use Rattle.roles.specs.Role.{shapeOf, cast}
-use Rattle.roles.specs.Speech.{named, told, speech, names, details, noted, speeches}
+use Rattle.roles.specs.Speech.{asName, asDetails, speech, names, details, noted, speeches}
 use Rattle.roles.specs.Speech as roles-speech
 use Rattle.roles.specs.Sentences.{Heard}
 use Rattle.roles.proofs.BreachLaws.{rule14-fine}
@@ -128,11 +128,11 @@ signed-easy e =
       inside = record { contents = refl; days = refl; currency = refl; banks = refl; parties = refl; taxes = refl; texts = e };
     }
 
-signed-texts : spoken Mt202 5 (fields (bytes signed202)) ≡ speech named 120 (bytes "'OOO' SBERBANK") ∷ speech told 185 (bytes "PEREVOD SREDSTVPO DOGOVORU 'A'") ∷ []
+signed-texts : spoken Mt202 5 (fields (bytes signed202)) ≡ speech asName 120 (bytes "'OOO' SBERBANK") ∷ speech asDetails 185 (bytes "PEREVOD SREDSTVPO DOGOVORU 'A'") ∷ []
 unfolding spoken speeches names details noted roles-speech.behind shapeOf heldBy tags103 tags202 cast tests.looksTax same digit body cut upto past grouped fields isIn
 signed-texts = refl
 
-name-heard : breaks named (bytes "'OOO' SBERBANK") ≡ false
+name-heard : breaks asName (bytes "'OOO' SBERBANK") ≡ false
 unfolding breaks hidden isIn reads alphabets-grid.sign grid marks digit capital letter shared
 name-heard = refl
 
@@ -140,7 +140,7 @@ name-heard = refl
 abbrev details-read : List ℕ
 details-read = 207 ∷ 197 ∷ 208 ∷ 197 ∷ 194 ∷ 206 ∷ 196 ∷ 32 ∷ 209 ∷ 208 ∷ 197 ∷ 196 ∷ 209 ∷ 210 ∷ 194 ∷ 207 ∷ 206 ∷ 32 ∷ 196 ∷ 206 ∷ 195 ∷ 206 ∷ 194 ∷ 206 ∷ 208 ∷ 211 ∷ 32 ∷ 65 ∷ []
 
-details-heard : breaks told (bytes "PEREVOD SREDSTVPO DOGOVORU 'A'") ≡ false
+details-heard : breaks asDetails (bytes "PEREVOD SREDSTVPO DOGOVORU 'A'") ≡ false
 unfolding breaks best bad latinNext kind grid marks isIn digit capital letter shared
 details-heard = ap mute (reads-best false details-read refl)
 

@@ -50,7 +50,7 @@ use Rattle.listing.specs.Lists.{partAt}
 use Rattle.message.specs.Paid.{PaidIn}
 use Rattle.message.specs.Calls.{spanBy, spanOf, partOf, contentOf, paid, amountBy, amountOf, daySplit, dayBy, dayOf}
 use Rattle.message.specs.declared.Amount.the-variants as amounts
-use Rattle.message.specs.declared.Day.the-variants as told
+use Rattle.message.specs.declared.Day.the-variants as dayAnswer
 use Rattle.listing.proofs.SpanLaws.{part-listed}
 use Rattle.frame.proofs.CallLaws.{taken}
 use Rattle.judge.specs.Message.{verdictOf}
@@ -213,11 +213,11 @@ month-long y m = go (eqb m 2) (days.leap y) (isIn m (4 ∷ 6 ∷ 9 ∷ 11 ∷ []
     go false b true = omega arith
     go false b false = omega arith
 
-split-dated : (date : Text) → OfCalendar (days.year date) (days.month date) (days.day date) → daySplit (days.dated date) ≡ told.On (days.year date) (days.month date) (days.day date)
+split-dated : (date : Text) → OfCalendar (days.year date) (days.month date) (days.day date) → daySplit (days.dated date) ≡ dayAnswer.On (days.year date) (days.month date) (days.day date)
 unfolding days.dated
 split-dated date c = go (days.year date) (days.month date) (days.day date) (c .last-month) (omega (arith, c .last-day, month-long (days.year date) (days.month date)))
   where
-    go : (y m d : ℕ) → m ≤ 12 → d ≤ 31 → daySplit (y * 10000 + m * 100 + d) ≡ told.On y m d
+    go : (y m d : ℕ) → m ≤ 12 → d ≤ 31 → daySplit (y * 10000 + m * 100 + d) ≡ dayAnswer.On y m d
     go y m d h k =
         let n : ℕ = y * 10000 + m * 100 + d in
         let a : n / 10000 ≡ y = omega arith in

@@ -21,7 +21,7 @@ use Rattle.fields.proofs.PlaceLaws.{size-append}
 use Rattle.contents.specs.Tests.{looksTax}
 use Rattle.contents.specs.Parts.{opensRpp}
 use Rattle.roles.specs.Role.{Part, copy, name, taxName, lineOf, shapeOf, taxed, cast}
-use Rattle.roles.specs.Speech.{Manner, named, taxPlaced, told, Speech, speech, saidAt, names, details, codeSize, noted, speeches}
+use Rattle.roles.specs.Speech.{Manner, asName, asTaxName, asDetails, Speech, speech, saidAt, names, details, codeSize, noted, speeches}
 use Rattle.types.specs.declared.Form.{Form}
 use Rattle.types.specs.Sign.{signOf}
 use Rattle.roles.specs.Rule14.{texts, mute, hidden, taxLike, clauses, breaks, unheard, spoken, rule14}
@@ -44,26 +44,26 @@ breaks-breach m b e = go m (reading true b) refl e
     go : (m : Manner) (a : Answer) → reading true b ≡ a → clauses m (mute a) b (textOf a) ≡ true → Breach m b
     go m (stuck k) r e = unreadable k r
     go m (said []) r e = wordless r
-    go told (said (x ∷ d)) r e = absurd (false≢true e)
-    go named (said (x ∷ d)) r e = nameHides (x ∷ d) r e
-    go taxPlaced (said (x ∷ d)) r e = by (hidden b (x ∷ d)) refl e
+    go asDetails (said (x ∷ d)) r e = absurd (false≢true e)
+    go asName (said (x ∷ d)) r e = nameHides (x ∷ d) r e
+    go asTaxName (said (x ∷ d)) r e = by (hidden b (x ∷ d)) refl e
       where
-        by : (q : Bool) → hidden b (x ∷ d) ≡ q → (q || taxLike (x ∷ d)) ≡ true → Breach taxPlaced b
+        by : (q : Bool) → hidden b (x ∷ d) ≡ q → (q || taxLike (x ∷ d)) ≡ true → Breach asTaxName b
         by true h e = taxHides (x ∷ d) r h
         by false h e = likeTax (x ∷ d) r e
 
 pub first-clause : (m : Manner) (b d : List ℕ) → clauses m true b d ≡ true
-first-clause told b d = refl
-first-clause named b d = refl
-first-clause taxPlaced b d = refl
+first-clause asDetails b d = refl
+first-clause asName b d = refl
+first-clause asTaxName b d = refl
 
 pub breach-breaks : (m : Manner) (b : List ℕ) → Breach m b → breaks m b ≡ true
 unfolding breaks
 breach-breaks m b (unreadable k r) = ap (λ (a : Answer). clauses m (mute a) b (textOf a)) r ∙ first-clause m b []
 breach-breaks m b (wordless r) = ap (λ (a : Answer). clauses m (mute a) b (textOf a)) r ∙ first-clause m b []
-breach-breaks named b (nameHides d r h) = ap (λ (a : Answer). clauses named (mute a) b (textOf a)) r ∙ or-right (empty d) (hidden b d) h
-breach-breaks taxPlaced b (taxHides d r h) = ap (λ (a : Answer). clauses taxPlaced (mute a) b (textOf a)) r ∙ or-right (empty d) (hidden b d || taxLike d) (or-left (hidden b d) (taxLike d) h)
-breach-breaks taxPlaced b (likeTax d r h) = ap (λ (a : Answer). clauses taxPlaced (mute a) b (textOf a)) r ∙ or-right (empty d) (hidden b d || taxLike d) (or-right (hidden b d) (taxLike d) h)
+breach-breaks asName b (nameHides d r h) = ap (λ (a : Answer). clauses asName (mute a) b (textOf a)) r ∙ or-right (empty d) (hidden b d) h
+breach-breaks asTaxName b (taxHides d r h) = ap (λ (a : Answer). clauses asTaxName (mute a) b (textOf a)) r ∙ or-right (empty d) (hidden b d || taxLike d) (or-left (hidden b d) (taxLike d) h)
+breach-breaks asTaxName b (likeTax d r h) = ap (λ (a : Answer). clauses asTaxName (mute a) b (textOf a)) r ∙ or-right (empty d) (hidden b d || taxLike d) (or-right (hidden b d) (taxLike d) h)
 
 -- ---- over placed texts
 pub unheard-heard : (xs : List Speech) → unheard xs ≡ Fine → Heard xs

@@ -11,12 +11,12 @@ use Rattle.base.specs.Choice.{pick}
 use Rattle.base.specs.Bytes.{byte, isIn, begins}
 use Rattle.alphabets.specs.Pieces.{pieceIn, signsFrom}
 use Rattle.contents.specs.Tests.{looksTax}
-use Rattle.roles.specs.Speech.{named, taxPlaced}
+use Rattle.roles.specs.Speech.{asName, asTaxName}
 use Rattle.roles.specs.Rule14.{hidden, isInn, taxLike}
 use Rattle.roles.specs.Found.{muteIn, breaksIn}
 
 -- ---- the clauses one after another
-pub named-is : (t b : List ℕ) → pick (muteIn (pieceIn t false b)) true (pick (begins 39 b) (isIn (byte (signsFrom t 4 false b 0) 0) (47 ∷ 58 ∷ 45 ∷ [])) false) ≡ breaksIn t named b
+pub named-is : (t b : List ℕ) → pick (muteIn (pieceIn t false b)) true (pick (begins 39 b) (isIn (byte (signsFrom t 4 false b 0) 0) (47 ∷ 58 ∷ 45 ∷ [])) false) ≡ breaksIn t asName b
 unfolding breaksIn hidden
 named-is t b = go (muteIn (pieceIn t false b)) (begins 39 b)
   where
@@ -28,7 +28,7 @@ named-is t b = go (muteIn (pieceIn t false b)) (begins 39 b)
     go false true = refl
     go false false = refl
 
-pub tax-is : (t b : List ℕ) → pick (breaksIn t named b) true (pick (looksTax (signsFrom t 4 false b 0)) true (isInn (signsFrom t 4 false b 0))) ≡ breaksIn t taxPlaced b
+pub tax-is : (t b : List ℕ) → pick (breaksIn t asName b) true (pick (looksTax (signsFrom t 4 false b 0)) true (isInn (signsFrom t 4 false b 0))) ≡ breaksIn t asTaxName b
 unfolding breaksIn taxLike
 tax-is t b = go (muteIn (pieceIn t false b)) (hidden b (signsFrom t 4 false b 0)) (looksTax (signsFrom t 4 false b 0))
   where

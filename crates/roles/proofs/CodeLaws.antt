@@ -29,7 +29,7 @@ use Rattle.fields.proofs.PlaceLaws.{joined-length}
 use Rattle.contents.specs.Tests.{numbered, looksTax}
 use Rattle.contents.specs.Parts.{opensRpp}
 use Rattle.roles.specs.Role.{Part, copy, name, taxName, lineOf, shapeOf, cast}
-use Rattle.roles.specs.Speech.{Manner, named, taxPlaced, told, Speech, speech, saidAt, names, behind, details, codeSize, noted, speeches}
+use Rattle.roles.specs.Speech.{Manner, asName, asTaxName, asDetails, Speech, speech, saidAt, names, behind, details, codeSize, noted, speeches}
 use Rattle.roles.specs.Rule14.{mute, hidden, isInn, taxLike, clauses, breaks, unheard, texts, spoken}
 use Rattle.roles.specs.Found.{muteIn, breaksIn, found, brokenIn, verdictAt}
 use Rattle.roles.specs.declared.Shape.{Shape}
@@ -59,9 +59,9 @@ module _ (d u : List ℕ) (h : (j : ℕ) → j < 4 → getD d j 0 ≡ getD u j 0
   same-like = ap₂ (λ (p q : Bool). p || q) (numbered-same 73 78 78 refl refl refl d u h) (numbered-same 200 205 205 refl refl refl d u h)
 
   same-clauses : (m : Manner) (q : Bool) (b : List ℕ) → clauses m q b d ≡ clauses m q b u
-  same-clauses told q b = refl
-  same-clauses named q b = ap (λ (x : Bool). q || x) (same-hidden b)
-  same-clauses taxPlaced q b = ap₂ (λ (x y : Bool). q || (x || y)) (same-hidden b) same-like
+  same-clauses asDetails q b = refl
+  same-clauses asName q b = ap (λ (x : Bool). q || x) (same-hidden b)
+  same-clauses asTaxName q b = ap₂ (λ (x y : Bool). q || (x || y)) (same-hidden b) same-like
 
 pub mute-codes : (b : List ℕ) → muteIn (pieceIn codes false b) ≡ mute (reading true b)
 mute-codes b = go (pieceIn codes false b) (counted codes false b) ∙ ap mute (sym (reads-piece false b))
@@ -109,7 +109,7 @@ names-moved o i (p ∷ ps) =
 details-moved : (front mark o i : ℕ) (ls : List (List ℕ)) → details front mark (o + i) ls ≡ map (moved o) (details front mark i ls)
 unfolding details
 details-moved front mark o i [] = refl
-details-moved front mark o i (l ∷ ls) = ap (λ (k : ℕ). speech told k (drop front l ++ behind mark ls) ∷ []) (go (ltb front (length l)))
+details-moved front mark o i (l ∷ ls) = ap (λ (k : ℕ). speech asDetails k (drop front l ++ behind mark ls) ∷ []) (go (ltb front (length l)))
   where
     go : (q : Bool) → pick q (o + i + front) (o + i + (length l + 2 + mark)) ≡ o + pick q (i + front) (i + (length l + 2 + mark))
     go true = omega arith

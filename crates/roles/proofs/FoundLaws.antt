@@ -20,8 +20,8 @@ use Rattle.fields.specs.Lines.{split, linesIn}
 use Rattle.contents.specs.Tests.{looksTax}
 use Rattle.contents.specs.Parts.{opensRpp}
 use Rattle.roles.specs.Role.{copy, name, taxName, shapeOf, taxed, cast}
-use Rattle.roles.specs.Speech.{named, taxPlaced, names, behind, toldAt, details, noted, speeches}
-use Rattle.roles.specs.Found.{linesPast, muteIn, breaksIn, found, brokenIn, castFrom, lineBreaks, toldText, muteAfter}
+use Rattle.roles.specs.Speech.{asName, asTaxName, names, behind, detailsStart, details, noted, speeches}
+use Rattle.roles.specs.Found.{linesPast, muteIn, breaksIn, found, brokenIn, castFrom, lineBreaks, detailsText, muteAfter}
 use Rattle.roles.specs.declared.Shape.{Shape}
 use Rattle.roles.specs.declared.Shape.the-variants.{Plain, Payer, Payee, Agent, Details, Note103, Note202}
 use Rattle.roles.specs.declared.Spot.{Spot}
@@ -35,7 +35,7 @@ unfolding names found lineBreaks
 names-line t i false l ls = refl
 names-line t i true l ls = go (looksTax l)
   where
-    go : (q : Bool) → found t (names i (pick q (copy l) (taxName l) ∷ map name ls)) ≡ pick (pick q false (breaksIn t taxPlaced l)) (At i) (found t (names (i + length l + 2) (map name ls)))
+    go : (q : Bool) → found t (names i (pick q (copy l) (taxName l) ∷ map name ls)) ≡ pick (pick q false (breaksIn t asTaxName l)) (At i) (found t (names (i + length l + 2) (map name ls)))
     go true = refl
     go false = refl
 
@@ -104,7 +104,7 @@ module _ (t c : List ℕ) (e : ℕ) (q : e ≡ 0 + upTo 13 (drop 0 c)) where
       ∙ ap (λ (k : ℕ). pick (lineBreaks t true (take e c)) (At 0) (found t (names k (castFrom false (linesPast c e))))) width
   party-name false b =
       by-first Payee ∙ ap (λ (u : Bool). found t (names 0 (pick u (copy (take e c)) (name (take e c)) ∷ taxed (linesPast c e)))) (sym b)
-      ∙ ap (λ (k : ℕ). pick (breaksIn t named (take e c)) (At 0) (found t (names k (taxed (linesPast c e))))) width
+      ∙ ap (λ (k : ℕ). pick (breaksIn t asName (take e c)) (At 0) (found t (names k (taxed (linesPast c e))))) width
 
   module _ (payer : Bool) (b : false ≡ begins 47 (take e c)) where
     pub party-hit : true ≡ lineBreaks t payer (take e c) → At 0 ≡ found t (speeches true (pick payer Payer Payee) 0 (linesIn c))
@@ -153,61 +153,61 @@ pub mute-start : (p : Piece) → muteIn p ≡ muteAfter false p
 mute-start (Read n s) = refl
 mute-start (Stops k) = refl
 
-behind-told : (mark : ℕ) (ls : List (List ℕ)) → behind mark ls ≡ toldText mark mark ls
+later-details : (mark : ℕ) (ls : List (List ℕ)) → behind mark ls ≡ detailsText mark mark ls
 unfolding behind
-behind-told mark [] = refl
-behind-told mark (l ∷ ls) = refl
+later-details mark [] = refl
+later-details mark (l ∷ ls) = refl
 
-pub mute-past : (t c : List ℕ) (from front mark : ℕ) → length c < from → true ≡ muteIn (pieceIn t false (toldText front mark (linesIn (drop from c))))
+pub mute-past : (t c : List ℕ) (from front mark : ℕ) → length c < from → true ≡ muteIn (pieceIn t false (detailsText front mark (linesIn (drop from c))))
 unfolding pieceIn behind split
 mute-past t c from front mark h =
-    sym (ap (λ (d : List ℕ). muteIn (pieceIn t false (toldText front mark (linesIn d)))) (drop-of-length-le c {i = from} (omega arith))
+    sym (ap (λ (d : List ℕ). muteIn (pieceIn t false (detailsText front mark (linesIn d)))) (drop-of-length-le c {i = from} (omega arith))
     ∙ ap (λ (d : List ℕ). muteIn (pieceIn t false (d ++ []))) (drop-nil front))
 
 -- the line from at on ends at e, its text begins at b
 module _ (t c : List ℕ) (at d mark : ℕ) (latin some : Bool) (e b : ℕ) (q : e ≡ at + upTo 13 (drop at c)) (r : b ≡ at + min d (e - at)) where
-  text-line : toldText d mark (linesIn (drop at c)) ≡ take (e - b) (drop b c) ++ toldText mark mark (linesPast c e)
+  text-line : detailsText d mark (linesIn (drop at c)) ≡ take (e - b) (drop b c) ++ detailsText mark mark (linesPast c e)
   text-line =
-      ap (toldText d mark) (lines-from c at e q)
-      ∙ ap₂ (λ (x y : List ℕ). x ++ y) (line-behind c at e d b (omega arith) r) (behind-told mark (linesPast c e))
+      ap (detailsText d mark) (lines-from c at e q)
+      ∙ ap₂ (λ (x y : List ℕ). x ++ y) (line-behind c at e d b (omega arith) r) (later-details mark (linesPast c e))
 
   piece-line : (p : Piece) → p ≡ pieceIn t latin (take (e - b) (drop b c))
-      → pieceIn t latin (toldText d mark (linesIn (drop at c))) ≡ pieceOn (length (take (e - b) (drop b c))) p (λ z. pieceIn t z (toldText mark mark (linesPast c e)))
+      → pieceIn t latin (detailsText d mark (linesIn (drop at c))) ≡ pieceOn (length (take (e - b) (drop b c))) p (λ z. pieceIn t z (detailsText mark mark (linesPast c e)))
   piece-line p k =
-      ap (pieceIn t latin) text-line ∙ piece-append t latin (take (e - b) (drop b c)) (toldText mark mark (linesPast c e))
-      ∙ ap (λ (x : Piece). pieceOn (length (take (e - b) (drop b c))) x (λ z. pieceIn t z (toldText mark mark (linesPast c e)))) (sym k)
+      ap (pieceIn t latin) text-line ∙ piece-append t latin (take (e - b) (drop b c)) (detailsText mark mark (linesPast c e))
+      ∙ ap (λ (x : Piece). pieceOn (length (take (e - b) (drop b c))) x (λ z. pieceIn t z (detailsText mark mark (linesPast c e)))) (sym k)
 
-  pub mute-stops : (k : ℕ) → Stops k ≡ pieceIn t latin (take (e - b) (drop b c)) → true ≡ muteAfter some (pieceIn t latin (toldText d mark (linesIn (drop at c))))
+  pub mute-stops : (k : ℕ) → Stops k ≡ pieceIn t latin (take (e - b) (drop b c)) → true ≡ muteAfter some (pieceIn t latin (detailsText d mark (linesIn (drop at c))))
   mute-stops k x = sym (ap (muteAfter some) (piece-line (Stops k) x))
 
   module _ (n : ℕ) (z : Bool) (x : Read n z ≡ pieceIn t latin (take (e - b) (drop b c))) where
-    mute-line : muteAfter some (pieceIn t latin (toldText d mark (linesIn (drop at c)))) ≡ muteAfter (some || not (eqb n 0)) (pieceIn t z (toldText mark mark (linesPast c e)))
-    mute-line = ap (muteAfter some) (piece-line (Read n z) x) ∙ mute-after some (length (take (e - b) (drop b c))) n (pieceIn t z (toldText mark mark (linesPast c e)))
+    mute-line : muteAfter some (pieceIn t latin (detailsText d mark (linesIn (drop at c)))) ≡ muteAfter (some || not (eqb n 0)) (pieceIn t z (detailsText mark mark (linesPast c e)))
+    mute-line = ap (muteAfter some) (piece-line (Read n z) x) ∙ mute-after some (length (take (e - b) (drop b c))) n (pieceIn t z (detailsText mark mark (linesPast c e)))
 
-    pub mute-last : length c ≤ e → (z || not (some || not (eqb n 0))) ≡ muteAfter some (pieceIn t latin (toldText d mark (linesIn (drop at c))))
+    pub mute-last : length c ≤ e → (z || not (some || not (eqb n 0))) ≡ muteAfter some (pieceIn t latin (detailsText d mark (linesIn (drop at c))))
     unfolding pieceIn
     mute-last h =
         ap (λ (u : Bool). z || u) (sym (and-true (not (some || not (eqb n 0)))))
-        ∙ sym (mute-line ∙ ap (λ (ls : List (List ℕ)). muteAfter (some || not (eqb n 0)) (pieceIn t z (toldText mark mark ls))) (past-none c e h))
+        ∙ sym (mute-line ∙ ap (λ (ls : List (List ℕ)). muteAfter (some || not (eqb n 0)) (pieceIn t z (detailsText mark mark ls))) (past-none c e h))
 
     pub mute-on : (i : ℕ) → e < length c → i ≡ min (e + 2) (length c)
-        → muteAfter some (pieceIn t latin (toldText d mark (linesIn (drop at c)))) ≡ muteAfter (some || not (eqb n 0)) (pieceIn t z (toldText mark mark (linesIn (drop i c))))
-    mute-on i h p = mute-line ∙ ap (λ (ls : List (List ℕ)). muteAfter (some || not (eqb n 0)) (pieceIn t z (toldText mark mark ls))) (past-at c e i h p)
+        → muteAfter some (pieceIn t latin (detailsText d mark (linesIn (drop at c)))) ≡ muteAfter (some || not (eqb n 0)) (pieceIn t z (detailsText mark mark (linesIn (drop i c))))
+    mute-on i h p = mute-line ∙ ap (λ (ls : List (List ℕ)). muteAfter (some || not (eqb n 0)) (pieceIn t z (detailsText mark mark ls))) (past-at c e i h p)
 
 -- ---- details
 module _ (t c : List ℕ) (at front mark e : ℕ) (q : e ≡ at + upTo 13 (drop at c)) where
-  details-is : found t (details front mark at (linesIn (drop at c))) ≡ pick (muteIn (pieceIn t false (toldText front mark (linesIn (drop at c))))) (At (toldAt front mark at (take (e - at) (drop at c)))) Nowhere
+  details-is : found t (details front mark at (linesIn (drop at c))) ≡ pick (muteIn (pieceIn t false (detailsText front mark (linesIn (drop at c))))) (At (detailsStart front mark at (take (e - at) (drop at c)))) Nowhere
   unfolding details found breaksIn
   details-is =
       ap (λ (ls : List (List ℕ)). found t (details front mark at ls)) (lines-from c at e q)
-      ∙ ap (λ (ls : List (List ℕ)). pick (muteIn (pieceIn t false (toldText front mark ls))) (At (toldAt front mark at (take (e - at) (drop at c)))) Nowhere) (sym (lines-from c at e q))
+      ∙ ap (λ (ls : List (List ℕ)). pick (muteIn (pieceIn t false (detailsText front mark ls))) (At (detailsStart front mark at (take (e - at) (drop at c)))) Nowhere) (sym (lines-from c at e q))
 
-  pub details-heard : false ≡ muteIn (pieceIn t false (toldText front mark (linesIn (drop at c)))) → Nowhere ≡ found t (details front mark at (linesIn (drop at c)))
-  details-heard m = sym (details-is ∙ ap (λ (u : Bool). pick u (At (toldAt front mark at (take (e - at) (drop at c)))) Nowhere) (sym m))
+  pub details-heard : false ≡ muteIn (pieceIn t false (detailsText front mark (linesIn (drop at c)))) → Nowhere ≡ found t (details front mark at (linesIn (drop at c)))
+  details-heard m = sym (details-is ∙ ap (λ (u : Bool). pick u (At (detailsStart front mark at (take (e - at) (drop at c)))) Nowhere) (sym m))
 
-  module _ (m : true ≡ muteIn (pieceIn t false (toldText front mark (linesIn (drop at c))))) where
-    details-mute : At (toldAt front mark at (take (e - at) (drop at c))) ≡ found t (details front mark at (linesIn (drop at c)))
-    details-mute = sym (details-is ∙ ap (λ (u : Bool). pick u (At (toldAt front mark at (take (e - at) (drop at c)))) Nowhere) (sym m))
+  module _ (m : true ≡ muteIn (pieceIn t false (detailsText front mark (linesIn (drop at c))))) where
+    details-mute : At (detailsStart front mark at (take (e - at) (drop at c))) ≡ found t (details front mark at (linesIn (drop at c)))
+    details-mute = sym (details-is ∙ ap (λ (u : Bool). pick u (At (detailsStart front mark at (take (e - at) (drop at c)))) Nowhere) (sym m))
 
     long : length (take (e - at) (drop at c)) ≡ e - at
     long = line-length c at e q

@@ -14,7 +14,7 @@ use Rattle.types.specs.declared.Form.{Form}
 use Rattle.types.specs.Sign.{signOf}
 use Rattle.contents.specs.Tests.{numbered, looksTax}
 use Rattle.roles.specs.Role.{shapeOf}
-use Rattle.roles.specs.Speech.{Manner, named, taxPlaced, told, Speech, speech, speeches}
+use Rattle.roles.specs.Speech.{Manner, asName, asTaxName, asDetails, Speech, speech, speeches}
 
 -- ---- the clauses: b a text, d its reading
 -- N14a: no reading, or an empty one
@@ -35,9 +35,9 @@ taxLike d = looksTax d || isInn d
 
 -- details meet the first clause, names the first two, a name in the tax place all three; q: the first clause is broken
 abbrev pub clauses : Manner → Bool → List ℕ → List ℕ → Bool
-clauses told q b d = q
-clauses named q b d = q || hidden b d
-clauses taxPlaced q b d = q || (hidden b d || taxLike d)
+clauses asDetails q b d = q
+clauses asName q b d = q || hidden b d
+clauses asTaxName q b d = q || (hidden b d || taxLike d)
 
 unfoldable pub breaks : Manner → List ℕ → Bool
 breaks m b = clauses m (mute (reading true b)) b (textOf (reading true b))

@@ -5,7 +5,7 @@ use mathlib.Core.Bool.{true, false}
 use mathlib.Core.List.{List, [], _∷_, _++_}
 use Rattle.base.specs.Calls.{said, stuck}
 use Rattle.alphabets.specs.Bank.{reading}
-use Rattle.roles.specs.Speech.{Manner, named, taxPlaced, Speech, speech}
+use Rattle.roles.specs.Speech.{Manner, asName, asTaxName, Speech, speech}
 use Rattle.roles.specs.Rule14.{hidden, taxLike, breaks}
 
 -- a text breaks 14 in one of these ways
@@ -14,10 +14,10 @@ pub data Breach : Manner → List ℕ → Type 0 where
   unreadable : {m : Manner} {b : List ℕ} (k : ℕ) → reading true b ≡ stuck k → Breach m b
   wordless : {m : Manner} {b : List ℕ} → reading true b ≡ said [] → Breach m b
   -- N14b
-  nameHides : {b : List ℕ} (d : List ℕ) → reading true b ≡ said d → hidden b d ≡ true → Breach named b
-  taxHides : {b : List ℕ} (d : List ℕ) → reading true b ≡ said d → hidden b d ≡ true → Breach taxPlaced b
+  nameHides : {b : List ℕ} (d : List ℕ) → reading true b ≡ said d → hidden b d ≡ true → Breach asName b
+  taxHides : {b : List ℕ} (d : List ℕ) → reading true b ≡ said d → hidden b d ≡ true → Breach asTaxName b
   -- N14c
-  likeTax : {b : List ℕ} (d : List ℕ) → reading true b ≡ said d → taxLike d ≡ true → Breach taxPlaced b
+  likeTax : {b : List ℕ} (d : List ℕ) → reading true b ≡ said d → taxLike d ≡ true → Breach asTaxName b
 
 -- no text breaks it
 abbrev pub Heard : List Speech → Type 0

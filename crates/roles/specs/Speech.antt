@@ -12,7 +12,7 @@ use Rattle.roles.specs.declared.Shape.the-variants.{Plain, Payer, Payee,
 
 -- a text: what it is, the place of its first byte, its bytes
 pub data Manner : Type 0 where
-  named taxPlaced told : Manner
+  asName asTaxName asDetails : Manner
 
 pub data Speech : Type 0 where
   speech : Manner → ℕ → List ℕ → Speech
@@ -20,8 +20,8 @@ pub data Speech : Type 0 where
 -- ---- names: each line is a text, at its own place; the lines stand from o on
 abbrev pub saidAt : ℕ → Part → List Speech
 saidAt o (copy p) = []
-saidAt o (name p) = speech named o p ∷ []
-saidAt o (taxName p) = speech taxPlaced o p ∷ []
+saidAt o (name p) = speech asName o p ∷ []
+saidAt o (taxName p) = speech asTaxName o p ∷ []
 
 unfoldable pub names : ℕ → List Part → List Speech
 names o [] = []
@@ -33,12 +33,12 @@ behind mark [] = []
 behind mark (l ∷ ls) = drop mark l ++ behind mark ls
 
 -- where the front ends its line, the text begins in the next
-abbrev pub toldAt : ℕ → ℕ → ℕ → List ℕ → ℕ
-toldAt front mark o l = pick (ltb front (length l)) (o + front) (o + (length l + 2 + mark))
+abbrev pub detailsStart : ℕ → ℕ → ℕ → List ℕ → ℕ
+detailsStart front mark o l = pick (ltb front (length l)) (o + front) (o + (length l + 2 + mark))
 
 unfoldable pub details : ℕ → ℕ → ℕ → List (List ℕ) → List Speech
 details front mark o [] = []
-details front mark o (l ∷ ls) = speech told (toldAt front mark o l) (drop front l ++ behind mark ls) ∷ []
+details front mark o (l ∷ ls) = speech asDetails (detailsStart front mark o l) (drop front l ++ behind mark ls) ∷ []
 
 -- the VO code, with the sign and without
 abbrev pub codeSize : Bool → ℕ

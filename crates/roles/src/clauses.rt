@@ -4,7 +4,7 @@ ghost use mathlib.Core.Bool.{false};
 ghost use mathlib.Core.List.{[], _∷_};
 ghost use Rattle.base.specs.Bytes.{isIn, begins};
 ghost use Rattle.alphabets.specs.Pieces.{pieceIn};
-ghost use Rattle.roles.specs.Speech.{named, taxPlaced};
+ghost use Rattle.roles.specs.Speech.{asName, asTaxName};
 ghost use Rattle.roles.specs.Rule14.{isInn};
 ghost use Rattle.roles.specs.Found.{muteIn, breaksIn, lineBreaks};
 use alphabets::pieces::Piece;
@@ -51,7 +51,7 @@ fn is_mute(back: &[u8; 256], text: &[u8]) -> bool
 }
 
 pub(crate) fn breaks_named(back: &[u8; 256], name: &[u8]) -> bool
-    ensures { λ r. ⌜ r ≡ breaksIn (now (back .entry)) named (now (name .entry)) ⌝ }
+    ensures { λ r. ⌜ r ≡ breaksIn (now (back .entry)) asName (now (name .entry)) ⌝ }
 {
     if is_mute(back, name) {
         return true;
@@ -75,7 +75,7 @@ pub fn is_inn(d: &[u8]) -> bool
 }
 
 fn breaks_tax(back: &[u8; 256], name: &[u8]) -> bool
-    ensures { λ r. ⌜ r ≡ breaksIn (now (back .entry)) taxPlaced (now (name .entry)) ⌝ }
+    ensures { λ r. ⌜ r ≡ breaksIn (now (back .entry)) asTaxName (now (name .entry)) ⌝ }
 {
     if breaks_named(back, name) {
         return true;

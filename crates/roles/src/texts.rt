@@ -10,7 +10,7 @@ ghost use Rattle.alphabets.specs.Pieces.{pieceIn};
 ghost use Rattle.fields.specs.Lines.{linesIn};
 ghost use Rattle.roles.specs.declared.Shape.the-variants.{Payer, Payee, Agent, Note202};
 ghost use Rattle.roles.specs.Speech.{names, details, speeches};
-ghost use Rattle.roles.specs.Found.{linesPast, castFrom, toldText, muteIn, found, brokenIn};
+ghost use Rattle.roles.specs.Found.{linesPast, castFrom, detailsText, muteIn, found, brokenIn};
 use super::Shape;
 use super::Spot;
 use super::clauses::breaks_line;
@@ -93,7 +93,7 @@ fn cut_at(at: usize, d: usize, e: usize) -> usize
 
 // Whether the text that runs over the lines from a place on, behind `front` bytes of the first and `mark` bytes of each later one, is mute.
 fn is_mute_text(back: &[u8; 256], c: &[u8], from: usize, front: usize, mark: usize) -> bool
-    ensures { λ r. ⌜ r ≡ muteIn (pieceIn (now (back .entry)) false (toldText front mark (linesIn (drop from (now (c .entry)))))) ⌝ }
+    ensures { λ r. ⌜ r ≡ muteIn (pieceIn (now (back .entry)) false (detailsText front mark (linesIn (drop from (now (c .entry)))))) ⌝ }
 {
     if c.len() < from {
         return true;

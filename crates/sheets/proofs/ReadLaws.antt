@@ -32,7 +32,7 @@ use Rattle.contents.specs.Parts.{opensRpp}
 use Rattle.roles.specs.Role.{shapeOf, Part, copy, name, taxName, lineOf, cast}
 use Rattle.roles.specs.Parts.{castBy, named, nextRole}
 use Rattle.roles.specs.Speech as speech
-use Rattle.roles.specs.Speech.{Manner, told, taxPlaced, Speech, names, behind, codeSize, speeches}
+use Rattle.roles.specs.Speech.{Manner, asDetails, asTaxName, Speech, names, behind, codeSize, speeches}
 use Rattle.roles.specs.Rule14.{mute, clauses, breaks, spoken as texts}
 use Rattle.roles.specs.Sentences.{Heard}
 use Rattle.roles.specs.declared.Shape.{Shape}
@@ -45,8 +45,8 @@ use Rattle.judge.specs.Message.{verdictOf}
 use Rattle.judge.proofs.RuleLaws.{accepted-rules}
 use Rattle.judge.proofs.VerdictTheorems.{frame-clean}
 use Rattle.records.specs.Record.{Record, line, sheet}
-use Rattle.sheets.specs.Gather.{partFor, codeDigits, toldParts, noteParts, contentParts, recordFor, gather, typeRecord, recordsOf, sheetOf}
-use Rattle.sheets.specs.Steps.{saidBy, sideOf, sideBy, partsBy, cutBy, overBy, toldBy, noteBy, contentBy, recordBy, sheetBy}
+use Rattle.sheets.specs.Gather.{partFor, codeDigits, detailsParts, noteParts, contentParts, recordFor, gather, typeRecord, recordsOf, sheetOf}
+use Rattle.sheets.specs.Steps.{saidBy, sideOf, sideBy, partsBy, cutBy, overBy, detailsBy, noteBy, contentBy, recordBy, sheetBy}
 
 -- ---- a text that reads
 abbrev pub Speaks : Bool → List ℕ → Type 0
@@ -164,33 +164,33 @@ over-reads true ps w = let o = one-piece (run ps) (w .0) (w .1) in over-spoken f
 over-reads false ps w = over-plain false ps ∙ plain-whole (run ps) w
 
 -- ---- contents
-abbrev pub Told : Bool → ℕ → ℕ → List (List ℕ) → Type 0
-Told s front mark [] = Unit {0}
-Told s front mark (l ∷ ls) = Speaks s (drop front l ++ behind mark ls)
+abbrev pub DetailsSpeak : Bool → ℕ → ℕ → List (List ℕ) → Type 0
+DetailsSpeak s front mark [] = Unit {0}
+DetailsSpeak s front mark (l ∷ ls) = Speaks s (drop front l ++ behind mark ls)
 
-told-same : (s : Bool) (first mark : ℕ) (ls : List (List ℕ)) → Told s (first + codeSize s) mark ls → toldBy codes s first mark ls ≡ toldParts s first mark ls
-told-same s first mark [] w = refl
-told-same s first mark (l ∷ ls) w =
+details-same : (s : Bool) (first mark : ℕ) (ls : List (List ℕ)) → DetailsSpeak s (first + codeSize s) mark ls → detailsBy codes s first mark ls ≡ detailsParts s first mark ls
+details-same s first mark [] w = refl
+details-same s first mark (l ∷ ls) w =
     let e : drop (first + codeSize s) l ++ behind mark ls ≡ run (cutBy (first + codeSize s) mark (l ∷ ls)) = ap (λ (x : List ℕ). drop (first + codeSize s) l ++ x) (behind-run mark ls) in
     ap (λ (x : List ℕ). codeDigits s (drop first l) ∷ x ∷ []) (over-reads s (cutBy (first + codeSize s) mark (l ∷ ls)) (subst (Speaks s) e w) ∙ ap (λ (x : List ℕ). textOf (reading s x)) (sym e))
 
 pub record Noted (s : Bool) (l : List ℕ) (ls : List (List ℕ)) : Type 0 where
-  pub behind-rpp : opensRpp l ≡ true → Told s (5 + codeSize s) 2 ls
-  pub from-first : opensRpp l ≡ false → Told s (5 + codeSize s) 2 (l ∷ ls)
+  pub behind-rpp : opensRpp l ≡ true → DetailsSpeak s (5 + codeSize s) 2 ls
+  pub from-first : opensRpp l ≡ false → DetailsSpeak s (5 + codeSize s) 2 (l ∷ ls)
 
 note-same : (s : Bool) (l : List ℕ) (ls : List (List ℕ)) → Noted s l ls → noteBy codes s (l ∷ ls) ≡ noteParts s (l ∷ ls)
 note-same s l ls w = go (opensRpp l) refl
   where
-    go : (b : Bool) → opensRpp l ≡ b → pick b (drop 5 l ∷ toldBy codes s 5 2 ls) ([] ∷ toldBy codes s 5 2 (l ∷ ls)) ≡ pick b (drop 5 l ∷ toldParts s 5 2 ls) ([] ∷ toldParts s 5 2 (l ∷ ls))
-    go true e = ap (λ (x : List (List ℕ)). drop 5 l ∷ x) (told-same s 5 2 ls (w .behind-rpp e))
-    go false e = ap (λ (x : List (List ℕ)). [] ∷ x) (told-same s 5 2 (l ∷ ls) (w .from-first e))
+    go : (b : Bool) → opensRpp l ≡ b → pick b (drop 5 l ∷ detailsBy codes s 5 2 ls) ([] ∷ detailsBy codes s 5 2 (l ∷ ls)) ≡ pick b (drop 5 l ∷ detailsParts s 5 2 ls) ([] ∷ detailsParts s 5 2 (l ∷ ls))
+    go true e = ap (λ (x : List (List ℕ)). drop 5 l ∷ x) (details-same s 5 2 ls (w .behind-rpp e))
+    go false e = ap (λ (x : List (List ℕ)). [] ∷ x) (details-same s 5 2 (l ∷ ls) (w .from-first e))
 
 abbrev pub Readable : Bool → Shape → List (List ℕ) → Type 0
 Readable s Plain ls = Unit {0}
 Readable s Payer ls = AllRead s (cast Payer ls)
 Readable s Payee ls = AllRead s (cast Payee ls)
 Readable s Agent ls = AllRead s (cast Agent ls)
-Readable s Details ls = Told s (codeSize s) 0 ls
+Readable s Details ls = DetailsSpeak s (codeSize s) 0 ls
 Readable s Note103 ls = Unit {0}
 Readable s Note202 [] = Unit {0}
 Readable s Note202 (l ∷ ls) = Noted s l ls
@@ -201,8 +201,8 @@ content-same s Plain ls w = copies s ls ∙ sym (as-copies s ls)
 content-same s Payer ls w = parts-cast s OfPayer ls w
 content-same s Payee ls w = parts-cast s OfPayee ls w
 content-same s Agent ls w = parts-cast s OfAgent ls w
-content-same true Details ls w = told-same true 0 0 ls w
-content-same false Details ls w = told-same false 0 0 ls w
+content-same true Details ls w = details-same true 0 0 ls w
+content-same false Details ls w = details-same false 0 0 ls w
 content-same s Note103 ls w = copies s (map (drop 5) ls)
 content-same s Note202 [] w = refl
 content-same s Note202 (l ∷ ls) w = note-same s l ls w
@@ -220,13 +220,13 @@ names-read : (o : ℕ) (xs : List Part) → Heard (names o xs) → AllRead true 
 unfolding names
 names-read o [] h = tt
 names-read o (copy p ∷ xs) h = (tt, names-read (o + length p + 2) xs h)
-names-read o (name p ∷ xs) h = (heard-speaks speech.named p (h .0), names-read (o + length p + 2) xs (h .1))
-names-read o (taxName p ∷ xs) h = (heard-speaks taxPlaced p (h .0), names-read (o + length p + 2) xs (h .1))
+names-read o (name p ∷ xs) h = (heard-speaks speech.asName p (h .0), names-read (o + length p + 2) xs (h .1))
+names-read o (taxName p ∷ xs) h = (heard-speaks asTaxName p (h .0), names-read (o + length p + 2) xs (h .1))
 
-told-heard : (front mark o : ℕ) (ls : List (List ℕ)) → Heard (speech.details front mark o ls) → Told true front mark ls
+details-heard : (front mark o : ℕ) (ls : List (List ℕ)) → Heard (speech.details front mark o ls) → DetailsSpeak true front mark ls
 unfolding speech.details
-told-heard front mark o [] h = tt
-told-heard front mark o (l ∷ ls) h = heard-speaks told (drop front l ++ behind mark ls) (h .0)
+details-heard front mark o [] h = tt
+details-heard front mark o (l ∷ ls) h = heard-speaks asDetails (drop front l ++ behind mark ls) (h .0)
 
 signed-readable : (sh : Shape) (o : ℕ) (ls : List (List ℕ)) → Heard (speeches true sh o ls) → Readable true sh ls
 unfolding speeches speech.noted
@@ -234,12 +234,12 @@ signed-readable Plain o ls h = tt
 signed-readable Payer o ls h = names-read o (cast Payer ls) h
 signed-readable Payee o ls h = names-read o (cast Payee ls) h
 signed-readable Agent o ls h = names-read o (cast Agent ls) h
-signed-readable Details o ls h = told-heard 11 0 o ls h
+signed-readable Details o ls h = details-heard 11 0 o ls h
 signed-readable Note103 o ls h = tt
 signed-readable Note202 o [] h = tt
 signed-readable Note202 o (l ∷ ls) h = record {
-  behind-rpp = λ e. told-heard 16 2 (o + length l + 2) ls (subst (λ (b : Bool). Heard (pick b (speech.details 16 2 (o + length l + 2) ls) (speech.details 16 2 o (l ∷ ls)))) e h);
-  from-first = λ e. told-heard 16 2 o (l ∷ ls) (subst (λ (b : Bool). Heard (pick b (speech.details 16 2 (o + length l + 2) ls) (speech.details 16 2 o (l ∷ ls)))) e h);
+  behind-rpp = λ e. details-heard 16 2 (o + length l + 2) ls (subst (λ (b : Bool). Heard (pick b (speech.details 16 2 (o + length l + 2) ls) (speech.details 16 2 o (l ∷ ls)))) e h);
+  from-first = λ e. details-heard 16 2 o (l ∷ ls) (subst (λ (b : Bool). Heard (pick b (speech.details 16 2 (o + length l + 2) ls) (speech.details 16 2 o (l ∷ ls)))) e h);
 }
 
 -- ---- without it, by 3
@@ -262,9 +262,9 @@ unfolding behind
 behind-in mark [] e = refl
 behind-in mark (l ∷ ls) e = all-append xset (drop mark l) (behind mark ls) (drop-in mark l (left (all xset l) _ e)) (behind-in mark ls (right (all xset l) _ e))
 
-told-in : (front mark : ℕ) (ls : List (List ℕ)) → all (all xset) ls ≡ true → Told false front mark ls
-told-in front mark [] e = tt
-told-in front mark (l ∷ ls) e =
+details-in : (front mark : ℕ) (ls : List (List ℕ)) → all (all xset) ls ≡ true → DetailsSpeak false front mark ls
+details-in front mark [] e = tt
+details-in front mark (l ∷ ls) e =
     plain-speaks (drop front l ++ behind mark ls) (all-append xset (drop front l) (behind mark ls) (drop-in front l (left (all xset l) _ e)) (behind-in mark ls (right (all xset l) _ e)))
 
 cast-in : (sh : Shape) (ls : List (List ℕ)) → all (all xset) ls ≡ true → AllRead false (cast sh ls)
@@ -275,10 +275,10 @@ plain-readable Plain ls e = tt
 plain-readable Payer ls e = cast-in Payer ls e
 plain-readable Payee ls e = cast-in Payee ls e
 plain-readable Agent ls e = cast-in Agent ls e
-plain-readable Details ls e = told-in 9 0 ls e
+plain-readable Details ls e = details-in 9 0 ls e
 plain-readable Note103 ls e = tt
 plain-readable Note202 [] e = tt
-plain-readable Note202 (l ∷ ls) e = record { behind-rpp = λ _. told-in 14 2 ls (right (all xset l) _ e); from-first = λ _. told-in 14 2 (l ∷ ls) e }
+plain-readable Note202 (l ∷ ls) e = record { behind-rpp = λ _. details-in 14 2 ls (right (all xset l) _ e); from-first = λ _. details-in 14 2 (l ∷ ls) e }
 
 -- ---- the fields
 abbrev pub AllReadable : Form → Bool → List Field → Type 0

@@ -58,14 +58,14 @@ overBy t s latin [] = []
 overBy t s latin (p ∷ ps) = saidBy t s latin p ++ overBy t s (sideBy t s latin p) ps
 
 -- ---- details: the digits of the VO code at the front, and the text
-abbrev pub toldBy : List ℕ → Bool → ℕ → ℕ → List (List ℕ) → List (List ℕ)
-toldBy t s first mark [] = []
-toldBy t s first mark (l ∷ ls) = codeDigits s (drop first l) ∷ overBy t s false (cutBy (first + codeSize s) mark (l ∷ ls)) ∷ []
+abbrev pub detailsBy : List ℕ → Bool → ℕ → ℕ → List (List ℕ) → List (List ℕ)
+detailsBy t s first mark [] = []
+detailsBy t s first mark (l ∷ ls) = codeDigits s (drop first l) ∷ overBy t s false (cutBy (first + codeSize s) mark (l ∷ ls)) ∷ []
 
 -- 72 of a 202: what follows /RPP/ or an empty part, then details
 abbrev pub noteBy : List ℕ → Bool → List (List ℕ) → List (List ℕ)
 noteBy t s [] = []
-noteBy t s (l ∷ ls) = pick (opensRpp l) (drop 5 l ∷ toldBy t s 5 2 ls) ([] ∷ toldBy t s 5 2 (l ∷ ls))
+noteBy t s (l ∷ ls) = pick (opensRpp l) (drop 5 l ∷ detailsBy t s 5 2 ls) ([] ∷ detailsBy t s 5 2 (l ∷ ls))
 
 -- ---- the content parts of a field, by the shape of its tag
 unfoldable pub contentBy : List ℕ → Bool → Shape → List (List ℕ) → List (List ℕ)
@@ -73,7 +73,7 @@ contentBy t s Plain ls = partsBy t s Copies ls
 contentBy t s Payer ls = partsBy t s OfPayer ls
 contentBy t s Payee ls = partsBy t s OfPayee ls
 contentBy t s Agent ls = partsBy t s OfAgent ls
-contentBy t s Details ls = toldBy t s 0 0 ls
+contentBy t s Details ls = detailsBy t s 0 0 ls
 contentBy t s Note103 ls = partsBy t s Copies (map (drop 5) ls)
 contentBy t s Note202 ls = noteBy t s ls
 

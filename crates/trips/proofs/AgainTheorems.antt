@@ -40,7 +40,7 @@ use Rattle.trips.specs.Shown as shown
 use Rattle.trips.specs.Shown.{LineByLine, Shown}
 use Rattle.trips.proofs.Held.{Held, HeldField, Noted, Sheeted, SheetedField}
 use Rattle.trips.proofs.NameLaws.{sheeted-names}
-use Rattle.trips.proofs.ToldLaws.{sheeted-noted}
+use Rattle.trips.proofs.DetailRecordLaws.{sheeted-noted}
 use Rattle.trips.proofs.HeldLaws.{all-held}
 use Rattle.trips.proofs.BackLaws.{sheet-back}
 use Rattle.trips.proofs.SheetLaws.{accepted-type, accepted-sign, accepted-records, accepted-size, accepted-passes}

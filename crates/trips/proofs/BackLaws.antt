@@ -48,15 +48,15 @@ use Rattle.details.specs.Lines.{together}
 use Rattle.details.specs.Layouts.{layout, linesFor, sizeFor}
 use Rattle.details.specs.declared.Place.{Place}
 use Rattle.details.specs.declared.Place.the-variants.{In70, In72, BehindRpp}
-use Rattle.writer.specs.Spread.{castParts, lineFor, code, told, notePlace, noteLines, contentLines, spread}
+use Rattle.writer.specs.Spread.{castParts, lineFor, code, codeAndText, notePlace, noteLines, contentLines, spread}
 use Rattle.writer.specs.Sheet.{isUnfit, crowded, fieldsOf, messageFor, sheetRules, MessageTo}
 use Rattle.writer.proofs.RuleLaws.{sheet-rules}
 use Rattle.written.proofs.SpeltLaws.{said-is}
 use Rattle.written.proofs.ReadyLaws.{speaks, Laid, laid, Ready}
-use Rattle.written.proofs.CastLaws.{turned, cast-again, frontOf, nextOf, told-again}
+use Rattle.written.proofs.CastLaws.{turned, cast-again, frontOf, nextOf, details-again}
 use Rattle.written.proofs.BuiltLaws.{AllPass, records-pass, built-fields, built-sign}
 use Rattle.written.proofs.ToMessageTheorems as writer
-use Rattle.sheets.specs.Gather.{partFor, codeDigits, toldParts, noteParts, contentParts, gather, typeName, typeRecord, recordsOf, sheetOf}
+use Rattle.sheets.specs.Gather.{partFor, codeDigits, detailsParts, noteParts, contentParts, gather, typeName, typeRecord, recordsOf, sheetOf}
 use Rattle.sheets.specs.Calls.{readRules, SheetTo}
 
 -- ---- parts that are copied or names
@@ -122,35 +122,35 @@ mark-and-code In72 false = refl
 mark-and-code BehindRpp true = refl
 mark-and-code BehindRpp false = refl
 
-told-back : (p : Place) (s : Bool) (vo w : List ℕ) → digits 5 vo ≡ true → Laid p (codeSize s) (code s vo ++ w)
-    → toldParts s (markOf p) (nextOf p) (linesFor p (codeSize s) (code s vo ++ w)) ≡ vo ∷ textOf (reading s w) ∷ []
+code-text-back : (p : Place) (s : Bool) (vo w : List ℕ) → digits 5 vo ≡ true → Laid p (codeSize s) (code s vo ++ w)
+    → detailsParts s (markOf p) (nextOf p) (linesFor p (codeSize s) (code s vo ++ w)) ≡ vo ∷ textOf (reading s w) ∷ []
 unfolding speech.details
-told-back p s vo w d h =
+code-text-back p s vo w d h =
     let l : List ℕ = layout p .mark ++ h .front in
     let ls : List (List ℕ) = map (λ (k : List ℕ). layout p .next ++ k) (h .behind) in
     let number : codeDigits s (drop (markOf p) l) ≡ vo =
     ap (codeDigits s) (mark-dropped p (h .front)) ∙ digits-in s (h .front) (together (h .behind)) (h .code) ∙ ap (codeDigits s) (h .joins) ∙ digits-back s vo w d in
     let text : drop (frontOf p s) l ++ speech.behind (nextOf p) ls ≡ w =
-    ap textIn (ap (speech.details (frontOf p s) (nextOf p) 0) (sym (h .is)) ∙ told-again p s vo w 0 d h .1) in
-    ap (toldParts s (markOf p) (nextOf p)) (h .is)
+    ap textIn (ap (speech.details (frontOf p s) (nextOf p) 0) (sym (h .is)) ∙ details-again p s vo w 0 d h .1) in
+    ap (detailsParts s (markOf p) (nextOf p)) (h .is)
     ∙ ap (λ (n : ℕ). codeDigits s (drop (markOf p) l) ∷ textOf (reading s (drop n l ++ speech.behind (nextOf p) ls)) ∷ []) (mark-and-code p s)
     ∙ ap₂ (λ (v t : List ℕ). v ∷ textOf (reading s t) ∷ []) number text
 
 -- with the text that is written
 spelt-back : (p : Place) (s : Bool) (vo t : List ℕ) → digits 5 vo ≡ true → all (speaks s) (copy vo ∷ name t ∷ []) ≡ true
-    → isUnfit (sizeFor p (codeSize s) (told s (vo ∷ t ∷ []))) ≡ false
-    → toldParts s (markOf p) (nextOf p) (linesFor p (codeSize s) (told s (vo ∷ t ∷ []))) ≡ vo ∷ t ∷ []
+    → isUnfit (sizeFor p (codeSize s) (codeAndText s (vo ∷ t ∷ []))) ≡ false
+    → detailsParts s (markOf p) (nextOf p) (linesFor p (codeSize s) (codeAndText s (vo ∷ t ∷ []))) ≡ vo ∷ t ∷ []
 spelt-back p s vo t d a u =
-    told-back p s vo (textOf (writing s t)) d (laid p (codeSize s) (told s (vo ∷ t ∷ [])) u)
+    code-text-back p s vo (textOf (writing s t)) d (laid p (codeSize s) (codeAndText s (vo ∷ t ∷ [])) u)
     ∙ ap (λ (k : List ℕ). vo ∷ k ∷ []) (text-back s t (left (speaks s (name t)) _ (right (speaks s (copy vo)) _ a)))
 
 -- 72 of a 202: with and without an RPP line
 note-back : (s : Bool) (r vo t : List ℕ) → digits 5 vo ≡ true → all (speaks s) (copy vo ∷ name t ∷ []) ≡ true
-    → isUnfit (sizeFor (notePlace r) (codeSize s) (told s (vo ∷ t ∷ []))) ≡ false → noteParts s (noteLines s (r ∷ vo ∷ t ∷ [])) ≡ r ∷ vo ∷ t ∷ []
+    → isUnfit (sizeFor (notePlace r) (codeSize s) (codeAndText s (vo ∷ t ∷ []))) ≡ false → noteParts s (noteLines s (r ∷ vo ∷ t ∷ [])) ≡ r ∷ vo ∷ t ∷ []
 unfolding same
 note-back s [] vo t d a u =
-    let h : Laid In72 (codeSize s) (told s (vo ∷ t ∷ [])) = laid In72 (codeSize s) (told s (vo ∷ t ∷ [])) u in
-    ap (noteParts s) (h .is) ∙ ap (λ (k : List (List ℕ)). [] ∷ toldParts s 5 2 k) (sym (h .is)) ∙ ap (λ (k : List (List ℕ)). [] ∷ k) (spelt-back In72 s vo t d a u)
+    let h : Laid In72 (codeSize s) (codeAndText s (vo ∷ t ∷ [])) = laid In72 (codeSize s) (codeAndText s (vo ∷ t ∷ [])) u in
+    ap (noteParts s) (h .is) ∙ ap (λ (k : List (List ℕ)). [] ∷ detailsParts s 5 2 k) (sym (h .is)) ∙ ap (λ (k : List (List ℕ)). [] ∷ k) (spelt-back In72 s vo t d a u)
 note-back s (x ∷ r) vo t d a u = ap (λ (k : List (List ℕ)). (x ∷ r) ∷ k) (spelt-back BehindRpp s vo t d a u)
 
 -- ---- a record that 19, 15 and 16 let pass

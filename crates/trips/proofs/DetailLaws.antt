@@ -61,7 +61,7 @@ code-on true vo t = ap (λ (k : List ℕ). bytes "'(VO" ++ k) (sym (append-assoc
 code-on false vo t = ap (λ (k : List ℕ). bytes "(VO" ++ k) (sym (append-assoc vo (bytes ")") t))
 
 -- ---- details: their lines, without marks
-pub record Told (p : Place) (s : Bool) (ls : List (List ℕ)) : Type 0 where
+pub record DetailsOver (p : Place) (s : Bool) (ls : List (List ℕ)) : Type 0 where
   pub vo : List ℕ
   pub text : List ℕ
   pub texts : List (List ℕ)
@@ -109,9 +109,9 @@ module _ {p : Place} {first later : String} {room rest more : ℕ} (a : As p fir
       → join (bytes first ∷ opening s ∷ vo ∷ closing s ∷ t ∷ []) ∷ map (λ (k : List ℕ). bytes later ++ k) ts ≡ marked (layout p) ((code s vo ++ t) ∷ ts)
   lines-as vo t ts = rw (a .mark, a .next, code-on s vo t)
 
-  told-by : {vo t : List ℕ} {ts ls : List (List ℕ)} → Details first later room rest (suc more) s vo t ts ls → all goesOn (tail ls) ≡ true → Told p s ls
+  details-by : {vo t : List ℕ} {ts ls : List (List ℕ)} → Details first later room rest (suc more) s vo t ts ls → all goesOn (tail ls) ≡ true → DetailsOver p s ls
   unfolding digits
-  told-by {vo} {t} {ts} {ls} d g =
+  details-by {vo} {t} {ts} {ls} d g =
       let e : ls ≡ marked (layout p) ((code s vo ++ t) ∷ ts) = d .lines ∙ lines-as vo t ts in
       let n = length-map ts (λ (k : List ℕ). layout p .next ++ k) in
       let c : length (code s vo ++ t) ≤ room = rw (code-on s vo t) at (d .front) in
@@ -154,10 +154,10 @@ module _ {p : Place} {first later : String} {room rest more : ℕ} (a : As p fir
         },
       )
 
-pub told-lines : (p : Place) (s : Bool) (ls : List (List ℕ)) → IsIn p s ls → all goesOn (tail ls) ≡ true → Told p s ls
-told-lines In70 s ls d g = told-by as-70 s (d .3) g
-told-lines In72 s ls d g = told-by as-72 s (d .3) g
-told-lines BehindRpp s ls d g = told-by as-behind s (d .3) g
+pub details-lines : (p : Place) (s : Bool) (ls : List (List ℕ)) → IsIn p s ls → all goesOn (tail ls) ≡ true → DetailsOver p s ls
+details-lines In70 s ls d g = details-by as-70 s (d .3) g
+details-lines In72 s ls d g = details-by as-72 s (d .3) g
+details-lines BehindRpp s ls d g = details-by as-behind s (d .3) g
 
 -- ---- an RPP line, and nothing or details behind it
 pub rpp-line : (l : List ℕ) → IsRpp l → (r : List ℕ) × (l ≡ rppLine r) × (empty r ≡ false)
@@ -176,15 +176,15 @@ rpp-alone (l ∷ k ∷ ls) d = absurd d
 
 -- 72 of a 202
 pub data Note (s : Bool) (ls : List (List ℕ)) : Type 0 where
-  with-rpp : (r : List ℕ) (ks : List (List ℕ)) → ls ≡ rppLine r ∷ ks → empty r ≡ false → Told BehindRpp s ks → Note s ls
-  without : Told In72 s ls → Note s ls
+  with-rpp : (r : List ℕ) (ks : List (List ℕ)) → ls ≡ rppLine r ∷ ks → empty r ≡ false → DetailsOver BehindRpp s ks → Note s ls
+  without : DetailsOver In72 s ls → Note s ls
 
 pub note-lines : (s : Bool) (ls : List (List ℕ)) → RppAndDetails s ls → all goesOn (tail ls) ≡ true → Note s ls
-note-lines s ls (inl d) g = without (told-lines In72 s ls d g)
+note-lines s ls (inl d) g = without (details-lines In72 s ls d g)
 note-lines s [] (inr d) g = absurd d
 note-lines s (l ∷ ls) (inr d) g =
     let w = rpp-line l (d .0) in
-    with-rpp (w .0) ls (ap (λ (k : List ℕ). k ∷ ls) (w .1)) (w .2) (told-lines BehindRpp s ls (d .1) (on ls g))
+    with-rpp (w .0) ls (ap (λ (k : List ℕ). k ∷ ls) (w .1)) (w .2) (details-lines BehindRpp s ls (d .1) (on ls g))
   where
     on : (ls : List (List ℕ)) → all goesOn ls ≡ true → all goesOn (tail ls) ≡ true
     on [] g = refl

@@ -35,7 +35,7 @@ use Rattle.values.specs.Values.{payment, rppDates, parties, taxes, customerTaxe
 use Rattle.values.specs.Judged.{firstBad, rule9, rule10, rule11, rule12, rule13}
 use Rattle.contents.specs.Tags.{tags103, tags202, heldBy}
 use Rattle.roles.specs.Role.{shapeOf, cast}
-use Rattle.roles.specs.Speech.{Manner, speech, named, taxPlaced, told, names, details, noted, speeches}
+use Rattle.roles.specs.Speech.{Manner, speech, asName, asTaxName, asDetails, names, details, noted, speeches}
 use Rattle.roles.specs.Speech as speeches-of
 use Rattle.roles.specs.Sentences.{Heard}
 use Rattle.roles.specs.declared.Shape.{Shape}
@@ -123,7 +123,7 @@ signed-easy e =
       inside = record { contents = refl; days = refl; currency = refl; banks = refl; parties = refl; taxes = refl; texts = e };
     }
 
-signed-texts : spoken Mt202 5 (fields (bytes signed202)) ≡ speech named 120 (bytes "SBERBANK 'OOO'") ∷ speech told 185 (bytes "PEREVOD SREDSTV PO DOGOVORU 'A'") ∷ []
+signed-texts : spoken Mt202 5 (fields (bytes signed202)) ≡ speech asName 120 (bytes "SBERBANK 'OOO'") ∷ speech asDetails 185 (bytes "PEREVOD SREDSTV PO DOGOVORU 'A'") ∷ []
 unfolding spoken speeches names details noted speeches-of.behind shapeOf heldBy tags103 tags202 cast tests.looksTax same digit body cut upto past grouped fields isIn
 signed-texts = refl
 
@@ -131,7 +131,7 @@ signed-14 : rule14 Mt202 (fields (bytes signed202)) ≡ Fine
 unfolding hidden taxLike tests.looksTax isInn same digit isIn
 signed-14 =
     rule14-fine Mt202 (fields (bytes signed202)) .1
-    (λ e. subst Heard (sym signed-texts) (heard-by named _ _ (signed-reads .0) refl, (heard-by told _ _ (signed-reads .1) refl, tt)))
+    (λ e. subst Heard (sym signed-texts) (heard-by asName _ _ (signed-reads .0) refl, (heard-by asDetails _ _ (signed-reads .1) refl, tt)))
 
 -- its sheet, of the readings of the two
 abbrev signed-with : Answer → Answer → List ℕ
@@ -187,18 +187,18 @@ unfolding body cut upto past grouped fields
 idle-fields = refl
 
 idle-texts : spoken Mt103 5 (fore ++ field (bytes "70") (dashed ∷ bytes "''--" ∷ []) ∷ aft)
-    ≡ speech taxPlaced 61 (bytes "'NORD'") ∷ speech taxPlaced 126 (bytes "OOO PoTR") ∷ speech told 151 (replicate 23 45 ++ bytes "''--") ∷ []
+    ≡ speech asTaxName 61 (bytes "'NORD'") ∷ speech asTaxName 126 (bytes "OOO PoTR") ∷ speech asDetails 151 (replicate 23 45 ++ bytes "''--") ∷ []
 unfolding spoken speeches names details speeches-of.behind shapeOf heldBy tags103 cast tests.looksTax same digit
 idle-texts = refl
 
-names-heard : (breaks taxPlaced (bytes "'NORD'") ≡ false) × (breaks taxPlaced (bytes "OOO PoTR") ≡ false)
+names-heard : (breaks asTaxName (bytes "'NORD'") ≡ false) × (breaks asTaxName (bytes "OOO PoTR") ≡ false)
 unfolding breaks hidden isInn taxLike tests.looksTax same reads signs.sign grid marks isIn digit capital letter shared
 names-heard = (refl, refl)
 
 idle-14 : rule14 Mt103 (fields (bytes idle)) ≡ Fine
 idle-14 =
     rule14-fine Mt103 (fields (bytes idle)) .1
-    (λ e. subst Heard (sym (ap (spoken Mt103 5) idle-fields ∙ idle-texts)) (names-heard .0, (names-heard .1, (heard-by told _ _ idle-reads refl, tt))))
+    (λ e. subst Heard (sym (ap (spoken Mt103 5) idle-fields ∙ idle-texts)) (names-heard .0, (names-heard .1, (heard-by asDetails _ _ idle-reads refl, tt))))
 
 idle-easy : Easy Mt103 (bytes idle)
 unfolding rule18 places103 places202 long rule1 framed body same rule2 scan xset isIn digit capital letter marks shared rule3 cut tagged lineBad badLine rule4 upto past grouped fields find wrong walk walked signOf firstWrong rightField rule8 onward leap daysIn isDay yearOf realDay dated payment parties tests.looksTax taxes valuesOf firstBad rule9 rule10 rule11 rule12 rule13 capitalOrDigit tests.lead tests.ends tests.pair tests.isReference tests.isPurpose tests.isPayment tests.isOwnAccount tests.isPartyByBik tests.isParty tests.isBic tests.isAccount tests.isTax tests.isRpp tests.details tests.right tags103 tags202 heldBy rppDates customerTaxes payerTaxes

@@ -19,7 +19,7 @@ use Rattle.alphabets.proofs.GridLaws.{write-read}
 use Rattle.alphabets.proofs.Shortest.{Came, turned, signed, came}
 use Rattle.alphabets.proofs.Theorems.{plain-iff}
 use Rattle.contents.specs.Tests.{looksTax}
-use Rattle.roles.specs.Speech.{named, taxPlaced}
+use Rattle.roles.specs.Speech.{asName, asTaxName}
 use Rattle.roles.specs.Rule14.{mute, hidden, isInn, taxLike, clauses, breaks}
 use Rattle.records.specs.Record.{plainText}
 use Rattle.trips.proofs.SaidLaws.{says-written, says-short, says-text}
@@ -33,13 +33,13 @@ mark-same c x y m a e = go (eqb y c) (eqb x c) refl refl
     spelt : y ≡ c → x ≡ c
     spelt q = sym e ∙ ap (λ (n : ℕ). spell (kind n) false n) q ∙ ap (λ (k : Kind). spell k false c) (mark-kind c m)
 
-    told : x ≡ c → y ≡ c
-    told q = sym (write-read false y a .reads-back) ∙ ap (sign false) (e ∙ q) ∙ mark-sign c m
+    as-mark : x ≡ c → y ≡ c
+    as-mark q = sym (write-read false y a .reads-back) ∙ ap (sign false) (e ∙ q) ∙ mark-sign c m
 
     go : (u v : Bool) → eqb y c ≡ u → eqb x c ≡ v → u ≡ v
     go true true p q = refl
     go true false p q = absurd (eqb-false x c q (spelt (eqb-true y c p)))
-    go false true p q = absurd (eqb-false y c p (told (eqb-true x c q)))
+    go false true p q = absurd (eqb-false y c p (as-mark (eqb-true x c q)))
     go false false p q = refl
 
 shown : (x : ℕ) (b d : List ℕ) → x ≡ 39 → hidden (x ∷ b) d ≡ false → isIn (byte d 0) (47 ∷ 58 ∷ 45 ∷ []) ≡ false
@@ -111,19 +111,19 @@ or-none : (a b : Bool) → (a || b) ≡ false → (a ≡ false) × (b ≡ false)
 or-none true b e = absurd (true≢false e)
 or-none false b e = (refl, e)
 
-pub heard-clear : (l : List ℕ) → breaks named l ≡ false → Clear true l
+pub heard-clear : (l : List ℕ) → breaks asName l ≡ false → Clear true l
 unfolding breaks
 heard-clear l e = go (reading true l) refl e
   where
-    go : (a : Answer) → reading true l ≡ a → clauses named (mute a) l (textOf a) ≡ false → Clear true l
+    go : (a : Answer) → reading true l ≡ a → clauses asName (mute a) l (textOf a) ≡ false → Clear true l
     go (stuck k) r e = absurd (true≢false e)
     go (said d) r e = let f = or-none (empty d) (hidden l d) e in signed-clear l d r (f .0) (f .1)
 
-pub heard-tax : (l : List ℕ) → breaks taxPlaced l ≡ false → looksTax l ≡ false → ClearTax true l
+pub heard-tax : (l : List ℕ) → breaks asTaxName l ≡ false → looksTax l ≡ false → ClearTax true l
 unfolding breaks taxLike
 heard-tax l e t = go (reading true l) refl e
   where
-    go : (a : Answer) → reading true l ≡ a → clauses taxPlaced (mute a) l (textOf a) ≡ false → ClearTax true l
+    go : (a : Answer) → reading true l ≡ a → clauses asTaxName (mute a) l (textOf a) ≡ false → ClearTax true l
     go (stuck k) r e = absurd (true≢false e)
     go (said d) r e =
         let f = or-none (empty d) (hidden l d || taxLike d) e in

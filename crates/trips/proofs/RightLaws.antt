@@ -19,8 +19,8 @@ use Rattle.trips.specs.Shown as shown
 use Rattle.trips.specs.Shown.{LineByLine}
 use Rattle.trips.proofs.Held.{Held, Noted}
 use Rattle.trips.proofs.Held as held
-use Rattle.trips.proofs.NamedLaws.{named-again}
-use Rattle.trips.proofs.NotedLaws.{noted-again}
+use Rattle.trips.proofs.NameAgainLaws.{named-again}
+use Rattle.trips.proofs.DetailAgainLaws.{noted-again}
 
 pub right-again : (form : Form) (s : Bool) (t : List ℕ) (ls : List (List ℕ)) → Held form s t ls → Ready s (shapeOf form t) (contentParts s (shapeOf form t) ls)
     → rightField form s (field t (contentLines s (shapeOf form t) (contentParts s (shapeOf form t) ls))) ≡ true

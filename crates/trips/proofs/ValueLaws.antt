@@ -31,10 +31,10 @@ use Rattle.roles.specs.Speech.{codeSize}
 use Rattle.roles.specs.declared.Shape.{Shape}
 use Rattle.roles.specs.declared.Shape.the-variants.{Plain, Payer, Payee, Agent, Details, Note103, Note202}
 use Rattle.details.specs.declared.Place.the-variants.{In72}
-use Rattle.writer.specs.Spread.{told, rppLine, noteLines, contentLines}
+use Rattle.writer.specs.Spread.{codeAndText, rppLine, noteLines, contentLines}
 use Rattle.writer.specs.Sheet.{crowded}
 use Rattle.written.proofs.ReadyLaws.{Ready, Laid, laid}
-use Rattle.sheets.specs.Gather.{toldParts, noteParts, contentParts}
+use Rattle.sheets.specs.Gather.{detailsParts, noteParts, contentParts}
 use Rattle.trips.specs.Again.{again, lineAgain, fieldAgain}
 use Rattle.trips.specs.Shown.{LineByLine, plain, payer, payee, agent}
 use Rattle.trips.proofs.Held.{Held, HeldField, KeptPart}
@@ -159,7 +159,7 @@ note-again s ls (inl d) = go (d .3 .lines)
     go : {ls ks : List (List ℕ)} {k : List ℕ} → ls ≡ (bytes "/NZP/" ++ k) ∷ ks → crowded s Note202 (noteParts s ls) ≡ false → ofFirst noteDates (noteLines s (noteParts s ls)) ≡ ofFirst noteDates ls
     go {ks = ks} {k = k} e =
         rw e (λ u.
-        let w : Laid In72 (codeSize s) (told s (toldParts s 5 2 ((bytes "/NZP/" ++ k) ∷ ks))) = laid In72 (codeSize s) (told s (toldParts s 5 2 ((bytes "/NZP/" ++ k) ∷ ks))) u in
+        let w : Laid In72 (codeSize s) (codeAndText s (detailsParts s 5 2 ((bytes "/NZP/" ++ k) ∷ ks))) = laid In72 (codeSize s) (codeAndText s (detailsParts s 5 2 ((bytes "/NZP/" ++ k) ∷ ks))) u in
         rw (w .is) refl)
 note-again s [] (inr d) = absurd d
 note-again s (l ∷ ls) (inr d) = let k = rpp-line l (d .0) in go (k .0) (k .1) (k .2)

@@ -35,7 +35,7 @@ PartOf s (name l) p = reading s l ≡ said p
 PartOf s (taxName l) p = reading s l ≡ said p
 
 -- details: their lines, the marks left out, are together the code and a text that reads as the sheet's
-pub record ToldAs (s : Bool) (place : Place) (ls : List (List ℕ)) (vo text : List ℕ) : Type 0 where
+pub record ShownDetails (s : Bool) (place : Place) (ls : List (List ℕ)) (vo text : List ℕ) : Type 0 where
   pub spelt : List ℕ
   pub rows : List (List ℕ)
   pub marks : ls ≡ marked (layout place) rows
@@ -46,10 +46,10 @@ pub record ToldAs (s : Bool) (place : Place) (ls : List (List ℕ)) (vo text : L
 -- the lines of a field, and the parts of its record
 pub data Shows (s : Bool) : Shape → List (List ℕ) → List (List ℕ) → Type 0 where
   each : {sh : Shape} {ls ps : List (List ℕ)} → LineByLine sh → OneByOne (PartOf s) (cast sh ls) ps → Shows s sh ls ps
-  details : {ls : List (List ℕ)} {vo text : List ℕ} → ToldAs s In70 ls vo text → Shows s Details ls (vo ∷ text ∷ [])
+  details : {ls : List (List ℕ)} {vo text : List ℕ} → ShownDetails s In70 ls vo text → Shows s Details ls (vo ∷ text ∷ [])
   note103 : {r : List ℕ} → Shows s Note103 (rppLine r ∷ []) (r ∷ [])
-  note202 : {ls : List (List ℕ)} {vo text : List ℕ} → ToldAs s In72 ls vo text → Shows s Note202 ls ([] ∷ vo ∷ text ∷ [])
-  behindRpp : {r vo text : List ℕ} {ls : List (List ℕ)} → empty r ≡ false → ToldAs s BehindRpp ls vo text → Shows s Note202 (rppLine r ∷ ls) (r ∷ vo ∷ text ∷ [])
+  note202 : {ls : List (List ℕ)} {vo text : List ℕ} → ShownDetails s In72 ls vo text → Shows s Note202 ls ([] ∷ vo ∷ text ∷ [])
+  behindRpp : {r vo text : List ℕ} {ls : List (List ℕ)} → empty r ≡ false → ShownDetails s BehindRpp ls vo text → Shows s Note202 (rppLine r ∷ ls) (r ∷ vo ∷ text ∷ [])
 
 -- a record of a field: the same tag, and such parts
 abbrev pub Shown : Form → Bool → Field → Record → Type 0

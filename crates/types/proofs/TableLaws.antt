@@ -20,12 +20,12 @@ use Rattle.types.specs.declared.Form.the-variants.{Other, Mt103, Mt202}
 use Rattle.types.specs.Form.{Place, must, may, formOf, typeOf, places103, places202, placesOf}
 use Rattle.types.specs.Walk.{among, isOf, find, skips, wrong, rule18}
 use Rattle.fields.specs.Shapes.{unpack}
-use Rattle.types.specs.Tables.{most, tagsOf, tagTable, mustTable, TablesOf, told, toldFrom, findFrom, stepIn, missing, StepFor}
+use Rattle.types.specs.Tables.{most, tagsOf, tagTable, mustTable, TablesOf, tablePlaces, tablePlacesFrom, findFrom, stepIn, missing, StepFor}
 use Rattle.types.specs.declared.Step.{Step}
 use Rattle.base.proofs.ByteLaws.{same-is}
 use Rattle.fields.proofs.PackLaws.{unpack-pack}
 use Rattle.types.proofs.WalkLaws.{find-stands, wrong-seated}
-use Rattle.types.proofs.StepLaws.{told-skips}
+use Rattle.types.proofs.StepLaws.{table-skips}
 use Rattle.types.specs.Sentences.{placeAt, Stands}
 
 -- ---- what holds of each form's places holds of any
@@ -41,12 +41,12 @@ form-type Mt103 = refl
 form-type Mt202 = refl
 
 -- ---- the tables, computed for each form
-abbrev Told : List Place → Type 0
-Told ps = told (tagTable ps) (mustTable ps) (length ps) ≡ ps
+abbrev TablesAgree : List Place → Type 0
+TablesAgree ps = tablePlaces (tagTable ps) (mustTable ps) (length ps) ≡ ps
 
-tables : (form : Form) → told (tagTable (placesOf form)) (mustTable (placesOf form)) (length (placesOf form)) ≡ placesOf form
-unfolding places103 places202 tagTable mustTable toldFrom
-tables form = each-form Told refl refl refl form
+tables : (form : Form) → tablePlaces (tagTable (placesOf form)) (mustTable (placesOf form)) (length (placesOf form)) ≡ placesOf form
+unfolding places103 places202 tagTable mustTable tablePlacesFrom
+tables form = each-form TablesAgree refl refl refl form
 
 -- ---- a tag stands at one place, computed for each form
 abbrev aloneFrom : List Place → ℕ → List Place → Bool
@@ -107,18 +107,18 @@ unfolding places103 places202
 few-places form = each-form (λ ps. length ps ≤ most) (omega arith) (omega arith) (omega arith) form
 
 module _ {form : Form} {tags : List ℕ} {musts : List Bool} {count : ℕ} (l : TablesOf form tags musts count) where
-  told-places : told tags musts count ≡ placesOf form
-  told-places = rw (l .tags-are, l .musts-are, l .count-is) (tables form)
+  table-places : tablePlaces tags musts count ≡ placesOf form
+  table-places = rw (l .tags-are, l .musts-are, l .count-is) (tables form)
 
-  pub step-of-form : (next tag : ℕ) → StepFor form next tag (stepIn (told tags musts count) next (unpack tag))
+  pub step-of-form : (next tag : ℕ) → StepFor form next tag (stepIn (tablePlaces tags musts count) next (unpack tag))
   step-of-form next tag t e p =
-      ap₂ (λ (ps : List Place) (u : List ℕ). stepIn ps next u) told-places (ap unpack (sym p) ∙ unpack-pack t e) ∙ step-alone (placesOf form) (all-alone form) next t
+      ap₂ (λ (ps : List Place) (u : List ℕ). stepIn ps next u) table-places (ap unpack (sym p) ∙ unpack-pack t e) ∙ step-alone (placesOf form) (all-alone form) next t
 
   pub missing-of-form : (next : ℕ) → missing musts count next ≡ skips (placesOf form) next (length (placesOf form))
   unfolding missing
   missing-of-form next =
       let m : min count most ≡ length (placesOf form) = omega (arith, l .count-is, few-places form) in
-      sym (told-skips tags musts (min count most) next (min count most)) ∙ ap₂ (λ (ps : List Place) (n : ℕ). skips ps next n) told-places m
+      sym (table-skips tags musts (min count most) next (min count most)) ∙ ap₂ (λ (ps : List Place) (n : ℕ). skips ps next n) table-places m
 
 -- ---- 18
 pub no-places : (form : Form) → length (placesOf form) ≡ 0 → rule18 form ≡ Broken 18 0

@@ -48,23 +48,23 @@ pub record TablesOf (form : Form) (tags : List ℕ) (musts : List Bool) (count :
   pub count-is : count ≡ length (placesOf form)
 
 -- ---- from tables to the places that they stand for
-abbrev pub toldAs : Bool → List (List ℕ) → Place
-toldAs true ts = must ts
-toldAs false ts = may ts
+abbrev pub placeBy : Bool → List (List ℕ) → Place
+placeBy true ts = must ts
+placeBy false ts = may ts
 
 abbrev pub unpair : ℕ → ℕ → List (List ℕ)
 unpair x y = pick (eqb x y) (unpack x ∷ []) (unpack x ∷ unpack y ∷ [])
 
-abbrev pub toldAt : List ℕ → List Bool → ℕ → Place
-toldAt tags musts i = toldAs (getD musts i false) (unpair (getD tags (i + i) 0) (getD tags (i + i + 1) 0))
+abbrev pub tablePlace : List ℕ → List Bool → ℕ → Place
+tablePlace tags musts i = placeBy (getD musts i false) (unpair (getD tags (i + i) 0) (getD tags (i + i + 1) 0))
 
 -- n places from i on
-unfoldable pub toldFrom : List ℕ → List Bool → ℕ → ℕ → List Place
-toldFrom tags musts i zero = []
-toldFrom tags musts i (suc n) = toldAt tags musts i ∷ toldFrom tags musts (suc i) n
+unfoldable pub tablePlacesFrom : List ℕ → List Bool → ℕ → ℕ → List Place
+tablePlacesFrom tags musts i zero = []
+tablePlacesFrom tags musts i (suc n) = tablePlace tags musts i ∷ tablePlacesFrom tags musts (suc i) n
 
-abbrev pub told : List ℕ → List Bool → ℕ → List Place
-told tags musts count = toldFrom tags musts 0 (min count most)
+abbrev pub tablePlaces : List ℕ → List Bool → ℕ → List Place
+tablePlaces tags musts count = tablePlacesFrom tags musts 0 (min count most)
 
 -- ---- what is found in them
 -- the first place from next on with the tag
@@ -85,7 +85,7 @@ stepIn ps next t =
 
 -- a mandatory place stands from next on; the tags do not matter
 unfoldable pub missing : List Bool → ℕ → ℕ → Bool
-missing musts count next = skips (told [] musts count) next (min count most)
+missing musts count next = skips (tablePlaces [] musts count) next (min count most)
 
 -- the place of a field with that tag's number in its form, and what is wrong with it there
 abbrev pub StepFor : Form → ℕ → ℕ → Step → Type 0

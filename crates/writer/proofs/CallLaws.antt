@@ -155,14 +155,14 @@ module _ (s : List ℕ) (v : sheetVerdict s ≡ Fine) where
       = then-clean (badLine (sheetForm s) (sheetSign s) (end + 1) (piecesAt 10 s (end + 1))) (rule18 (sheetForm s)) (ap (λ (x : Judged). x .verdict) j ∙ v) .0 in
       subst (λ (k : ℕ). badLine (sheetForm s) (sheetSign s) (k + 1) (piecesAt 10 s (k + 1)) ≡ Fine) end-six b
 
-  -- the type and the sign as they were told
+  -- the type and the sign as the sheet names them
   module _ {form : Form} {g : Bool} (k : form ≡ sheetForm s) (i : g ≡ sheetSign s) where
-    pub told-good : badLine form g 7 (piecesAt 10 s 7) ≡ Fine
-    told-good = ap₂ (λ (n : Form) (b : Bool). badLine n b 7 (piecesAt 10 s 7)) k i ∙ lines-good
+    pub typed-good : badLine form g 7 (piecesAt 10 s 7) ≡ Fine
+    typed-good = ap₂ (λ (n : Form) (b : Bool). badLine n b 7 (piecesAt 10 s 7)) k i ∙ lines-good
 
-    pub told-built : {m mid : List ℕ} {r : Step} → Adds (rule15 form g 7 ours) (someCrowded form g ours) (message (spread form g ours)) m 0 r mid
+    pub typed-built : {m mid : List ℕ} {r : Step} → Adds (rule15 form g 7 ours) (someCrowded form g ours) (message (spread form g ours)) m 0 r mid
         → Adds (rule15 (sheetForm s) (sheetSign s) 7 ours) (someCrowded (sheetForm s) (sheetSign s) ours) (message (spread (sheetForm s) (sheetSign s) ours)) m 0 r mid
-    told-built {m} {mid} {r} a =
+    typed-built {m} {mid} {r} a =
         subst (λ (n : Form). Adds (rule15 n (sheetSign s) 7 ours) (someCrowded n (sheetSign s) ours) (message (spread n (sheetSign s) ours)) m 0 r mid) k
         (subst (λ (b : Bool). Adds (rule15 form b 7 ours) (someCrowded form b ours) (message (spread form b ours)) m 0 r mid) i a)
 

@@ -22,9 +22,9 @@ use Rattle.records.proofs.PieceLaws.{pieces-at, end-within, piece-length}
 use Rattle.details.specs.Layouts.{linesFor, sizeFor}
 use Rattle.details.specs.declared.Place.{Place}
 use Rattle.details.specs.declared.Place.the-variants.{In72, BehindRpp}
-use Rattle.writer.specs.Spread.{coded, castParts, told, rppLine, noteLines}
+use Rattle.writer.specs.Spread.{coded, castParts, codeAndText, rppLine, noteLines}
 use Rattle.writer.specs.Sheet.{stoppedAt, unsaid, isUnfit, crowdedNote}
-use Rattle.writer.specs.Steps.{Adds, Tells}
+use Rattle.writer.specs.Steps.{Adds, AddsDetails}
 use Rattle.writer.specs.declared.Step.{Step}
 use Rattle.writer.specs.declared.Step.the-variants.{Put}
 use Rattle.writer.proofs.StepLaws.{adds-same, adds-by, adds-front, adds-then, adds-cut}
@@ -70,14 +70,14 @@ module _ (s : Bool) (l : List ℕ) (i e : ℕ) (q : e ≡ i + upTo 9 (drop i l))
   Noted ps out at k after = Adds (unsaid s i (castParts Note202 ps)) (crowdedNote s ps) (laid (noteLines s ps)) out at k after
 
   abbrev Behind : Place → List ℕ → ℕ → Step → List ℕ → Type 0
-  Behind p out at k after = Tells s p (e + 1) rest out at k after
+  Behind p out at k after = AddsDetails s p (e + 1) rest out at k after
 
   pub note-empty : {out after : List ℕ} {at : ℕ} {k : Step} → e ≡ i → Behind In72 out at k after → Noted (piecesAt 9 l i) out at k after
   unfolding unsaid plainly
   note-empty {out} {after} {at} {k} z a =
       let y : e + 1 ≡ i + 0 + 1 = omega arith in
       subst (λ (ps : List (List ℕ)). Noted ps out at k after) (sym (list ∙ ap (λ (p : List ℕ). p ∷ rest) (empty-part rpp (omega (arith, rpp-long)))))
-      (subst (λ (o : ℕ). Tells s In72 o rest out at k after) y a)
+      (subst (λ (o : ℕ). AddsDetails s In72 o rest out at k after) y a)
 
   module _ (some : e ≡ i → ⊥) where
     full : empty rpp ≡ false
@@ -90,20 +90,20 @@ module _ (s : Bool) (l : List ℕ) (i e : ℕ) (q : e ≡ i + upTo 9 (drop i l))
     abbrev Before : List ℕ → ℕ → Step → List ℕ → Type 0
     Before out at r mid = Adds (stoppedAt i (plainly rpp)) false (laid (rppLine rpp ∷ [])) out at r mid
 
-    crowded-is : isUnfit (sizeFor BehindRpp (codeSize s) (told s rest)) ≡ crowdedNote s (rpp ∷ rest)
-    crowded-is = ap (λ (b : Bool). isUnfit (sizeFor (pick b In72 BehindRpp) (codeSize s) (told s rest))) (sym full)
+    crowded-is : isUnfit (sizeFor BehindRpp (codeSize s) (codeAndText s rest)) ≡ crowdedNote s (rpp ∷ rest)
+    crowded-is = ap (λ (b : Bool). isUnfit (sizeFor (pick b In72 BehindRpp) (codeSize s) (codeAndText s rest))) (sym full)
 
-    lines-are : laid (rppLine rpp ∷ []) ++ laid (linesFor BehindRpp (codeSize s) (told s rest)) ≡ laid (noteLines s (rpp ∷ rest))
+    lines-are : laid (rppLine rpp ∷ []) ++ laid (linesFor BehindRpp (codeSize s) (codeAndText s rest)) ≡ laid (noteLines s (rpp ∷ rest))
     lines-are =
-        append-assoc (rppLine rpp) (13 ∷ 10 ∷ []) (laid (linesFor BehindRpp (codeSize s) (told s rest)))
-        ∙ ap (λ (b : Bool). laid (pick b [] (rppLine rpp ∷ []) ++ linesFor (pick b In72 BehindRpp) (codeSize s) (told s rest))) (sym full)
+        append-assoc (rppLine rpp) (13 ∷ 10 ∷ []) (laid (linesFor BehindRpp (codeSize s) (codeAndText s rest)))
+        ∙ ap (λ (b : Bool). laid (pick b [] (rppLine rpp ∷ []) ++ linesFor (pick b In72 BehindRpp) (codeSize s) (codeAndText s rest))) (sym full)
 
     pub note-on : {out mid after : List ℕ} {at n : ℕ} {r k : Step} → r ≡ Put n → Before out at r mid → Behind BehindRpp mid n k after → Noted (piecesAt 9 l i) out at k after
     note-on {out} {mid} {after} {at} {n} {r} {k} g b a =
         let b1 : Before out at (Put n) mid = subst (λ (x : Step). Before out at x mid) g b in
         subst (λ (ps : List (List ℕ)). Noted ps out at k after) (sym list)
         (subst (λ (c : Bool). Adds (unsaid s i (castParts Note202 (rpp ∷ rest))) c (laid (noteLines s (rpp ∷ rest))) out at k after) crowded-is
-        (adds-by note-list lines-are (adds-then (stoppedAt i (plainly rpp)) (unsaid s (e + 1) (coded rest)) (laid (rppLine rpp ∷ [])) (laid (linesFor BehindRpp (codeSize s) (told s rest))) b1 a)))
+        (adds-by note-list lines-are (adds-then (stoppedAt i (plainly rpp)) (unsaid s (e + 1) (coded rest)) (laid (rppLine rpp ∷ [])) (laid (linesFor BehindRpp (codeSize s) (codeAndText s rest))) b1 a)))
 
     pub note-stop : {out mid after : List ℕ} {at : ℕ} (r : Step) → ((m : ℕ) → r ≡ Put m → ⊥) → Before out at r mid → Noted (piecesAt 9 l i) out at r after
     note-stop {out} {mid} {after} {at} r nope b =

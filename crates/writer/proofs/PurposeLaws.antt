@@ -37,11 +37,11 @@ use Rattle.details.specs.declared.Place.the-variants.{In70, In72, BehindRpp}
 use Rattle.details.specs.declared.Size.the-variants as size
 use Rattle.details.proofs.PlaceLaws.{bytes-not}
 use Rattle.details.proofs.DivisionTheorems.{Fitted, fitted, none-unfit, laid-lines}
-use Rattle.writer.specs.Spread.{coded, code, told}
+use Rattle.writer.specs.Spread.{coded, code, codeAndText}
 use Rattle.writer.specs.Sheet.{stoppedAt, unsaid, isUnfit}
 use Rattle.writer.specs.declared.Step.{Step}
 use Rattle.writer.specs.declared.Step.the-variants.{Unfit, Put}
-use Rattle.writer.specs.Steps.{Adds, Tells}
+use Rattle.writer.specs.Steps.{Adds, AddsDetails}
 use Rattle.writer.proofs.StepLaws.{came-put, adds-by, adds-unfit, adds-put, adds-cut}
 
 -- ---- the code
@@ -207,7 +207,7 @@ module _ {l : List ℕ} {i : ℕ} (w : Detailed l i) where
 
   module _ (s : Bool) (p : Place) where
     abbrev whole : List ℕ
-    whole = told s (vo ∷ text ∷ [])
+    whole = codeAndText s (vo ∷ text ∷ [])
 
     stops : then (stoppedAt (i + 6) (writing s text)) Fine ≡ unsaid s i (coded (vo ∷ text ∷ []))
     unfolding unsaid
@@ -216,12 +216,12 @@ module _ {l : List ℕ} {i : ℕ} (w : Detailed l i) where
         ap (λ (o : ℕ). then (stoppedAt o (writing s text)) Fine) z
         ∙ ap (λ (a : Answer). then (stoppedAt i a) (then (stoppedAt (i + length vo + 1) (writing s text)) Fine)) (sym (said-digits 5 vo (w .five)))
 
-    tells : {out after : List ℕ} {at : ℕ} {r : Step} → Adds (then (stoppedAt (i + 6) (writing s text)) Fine) (isUnfit (sizeFor p (codeSize s) whole)) (laid (linesFor p (codeSize s) whole)) out at r after → Tells s p i (piecesAt 9 l i) out at r after
-    tells {out} {after} {at} {r} a = subst (λ (ps : List (List ℕ)). Tells s p i ps out at r after) (sym (w .parts)) (adds-by stops refl a)
+    tells : {out after : List ℕ} {at : ℕ} {r : Step} → Adds (then (stoppedAt (i + 6) (writing s text)) Fine) (isUnfit (sizeFor p (codeSize s) whole)) (laid (linesFor p (codeSize s) whole)) out at r after → AddsDetails s p i (piecesAt 9 l i) out at r after
+    tells {out} {after} {at} {r} a = subst (λ (ps : List (List ℕ)). AddsDetails s p i ps out at r after) (sym (w .parts)) (adds-by stops refl a)
 
     -- the text behind the code, in a room of its own
     module _ {least : ℕ} {mid last : List ℕ} {q : Step} (a : Adds (stoppedAt (i + 6) (writing s text)) false (textOf (writing s text)) mid least q last) where
-      pub tell-stop : (out : List ℕ) (at : ℕ) → ((m : ℕ) → q ≡ Put m → ⊥) → Tells s p i (piecesAt 9 l i) out at q out
+      pub tell-stop : (out : List ℕ) (at : ℕ) → ((m : ℕ) → q ≡ Put m → ⊥) → AddsDetails s p i (piecesAt 9 l i) out at q out
       tell-stop out at nope = tells (adds-cut (stoppedAt (i + 6) (writing s text)) Fine (textOf (writing s text)) q nope a)
 
       module _ {room : List ℕ} (f : Puts (code s vo) room 0 least mid) {n : ℕ} (g : q ≡ Put n) where
@@ -238,11 +238,11 @@ module _ {l : List ℕ} {i : ℕ} (w : Detailed l i) where
             let q : last ≡ whole ++ drop (length whole) room = u .fills (omega (arith, whole-long)) ∙ sym (over-sets whole room (omega (arith, whole-long))) in
             ap₂ (λ (k : ℕ) (l : List ℕ). take k l) whole-long q ∙ take-append-seam whole (drop (length whole) room)
 
-        pub tell-over : (out : List ℕ) (at : ℕ) → 250 < n → Tells s p i (piecesAt 9 l i) out at Unfit out
+        pub tell-over : (out : List ℕ) (at : ℕ) → 250 < n → AddsDetails s p i (piecesAt 9 l i) out at Unfit out
         tell-over out at h = tells (adds-unfit (ap (λ (v : Verdict). then v Fine) (known .0)) (ap isUnfit (too-long p (codeSize s) whole (omega (arith, whole-long)))))
 
         pub tell-put : {out after : List ℕ} {at : ℕ} {r : Step} → n ≤ length room → least ≡ codeSize s
-            → Adds Fine (isUnfit (sizeFor p least (take n last))) (laid (linesFor p least (take n last))) out at r after → Tells s p i (piecesAt 9 l i) out at r after
+            → Adds Fine (isUnfit (sizeFor p least (take n last))) (laid (linesFor p least (take n last))) out at r after → AddsDetails s p i (piecesAt 9 l i) out at r after
         tell-put {out} {after} {at} {r} h e d =
             tells
             (subst (λ (v : Verdict). Adds (then v Fine) (isUnfit (sizeFor p (codeSize s) whole)) (laid (linesFor p (codeSize s) whole)) out at r after) (sym (known .0))

@@ -49,13 +49,13 @@ use Rattle.details.specs.declared.Place.the-variants.{In70}
 use Rattle.details.specs.declared.Size.{Size}
 use Rattle.details.specs.declared.Size.the-variants as size
 use Rattle.details.proofs.DivisionTheorems.{fitted}
-use Rattle.writer.specs.Spread.{saidPart, castParts, lineFor, told, rppLine, notePlace, noteLines, contentLines, fieldFor, spread}
+use Rattle.writer.specs.Spread.{saidPart, castParts, lineFor, codeAndText, rppLine, notePlace, noteLines, contentLines, fieldFor, spread}
 use Rattle.writer.specs.Sheet.{stoppedAt, unsaid, rule15, isUnfit, crowdedNote, crowded, someCrowded}
 use Rattle.writer.specs.declared.Step.{Step}
 use Rattle.writer.specs.declared.Step.the-variants.{Stuck, Unfit}
 use Rattle.roles.specs.Parts.{castBy, firstRole}
 use Rattle.roles.specs.declared.Role.{Role}
-use Rattle.writer.specs.Steps.{Adds, Tells, recordStops, recordCrowded, recordsAt}
+use Rattle.writer.specs.Steps.{Adds, AddsDetails, recordStops, recordCrowded, recordsAt}
 use Rattle.writer.proofs.StepLaws.{adds-by, adds-alike, adds-stuck, adds-front, Goes, adds-join, movedBy, came-stuck}
 use Rattle.writer.proofs.PurposeLaws.{some-within, sole-part}
 
@@ -73,9 +73,9 @@ module _ (s : Bool) (o : ℕ) (ps : List (List ℕ)) {out after : List ℕ} {at 
   content-parts sh h e a =
       each-lined (λ x. ByRole s o ps out after at r (firstRole x) → ContentIn s o ps out after at r x) (λ z. z) (λ z. z) (λ z. z) (λ z. z) sh h (subst (ByRole s o ps out after at r) e a)
 
-  pub content-told : {sh : Shape} → sh ≡ Details → Tells s In70 o ps out at r after → ContentIn s o ps out after at r sh
+  pub content-details : {sh : Shape} → sh ≡ Details → AddsDetails s In70 o ps out at r after → ContentIn s o ps out after at r sh
   unfolding crowded contentLines
-  content-told e a = subst (ContentIn s o ps out after at r) (sym e) a
+  content-details e a = subst (ContentIn s o ps out after at r) (sym e) a
 
   pub content-note : {sh : Shape} → sh ≡ Note202 → Adds (unsaid s o (castParts Note202 ps)) (crowdedNote s ps) (laid (noteLines s ps)) out at r after → ContentIn s o ps out after at r sh
   unfolding crowded contentLines
@@ -97,9 +97,9 @@ sole-within s l i e g = some-within sole l i refl (sym (ap (λ (x : Shape). soun
 sound-as : (s : Bool) (ps : List (List ℕ)) {sh : Shape} (to : Shape) → sh ≡ to → sound s sh ps ≡ true → sound s to ps ≡ true
 sound-as s ps to e g = sym (ap (λ (x : Shape). sound s x ps) e) ∙ g
 
-pub sound-told : (s : Bool) (ps : List (List ℕ)) {sh : Shape} → sh ≡ Details → sound s sh ps ≡ true → detailed ps ≡ true
+pub sound-details : (s : Bool) (ps : List (List ℕ)) {sh : Shape} → sh ≡ Details → sound s sh ps ≡ true → detailed ps ≡ true
 unfolding sound
-sound-told s ps e g = sound-as s ps Details e g
+sound-details s ps e g = sound-as s ps Details e g
 
 pub sound-note : (s : Bool) (ps : List (List ℕ)) {sh : Shape} → sh ≡ Note202 → sound s sh ps ≡ true → noted ps ≡ true
 unfolding sound
@@ -115,9 +115,9 @@ some-behind : (ks ls : List (List ℕ)) → Some ls → Some (ks ++ ls)
 some-behind [] ls h = h
 some-behind (k ∷ ks) ls h = record { one = k; more = ks ++ ls; is = refl }
 
-some-told : (p : Place) (least : ℕ) (text : List ℕ) → isUnfit (sizeFor p least text) ≡ false → Some (linesFor p least text)
+some-details : (p : Place) (least : ℕ) (text : List ℕ) → isUnfit (sizeFor p least text) ≡ false → Some (linesFor p least text)
 unfolding linesFor
-some-told p least text e = go (sizeFor p least text) refl e
+some-details p least text e = go (sizeFor p least text) refl e
   where
     by : {ok : ℕ → Bool} {ws : List ℕ} {ls : List (List ℕ)} → Division ok least text ws ls → Some (marked (layout p) ls)
     by (lines {l = l} {ls = ls} a b h m e) = record { one = layout p .mark ++ l; more = map (λ (k : List ℕ). layout p .next ++ k) ls; is = refl }
@@ -136,10 +136,10 @@ content-some s _ _ (payer p ps e g f) c = go (begins 47 p)
     go true = record { one = p; more = map (lineFor s) (taxed ps); is = refl }
     go false = record { one = lineFor s (pick (looksTax p) (copy p) (taxName p)); more = map (lineFor s) (map name ps); is = refl }
 content-some s _ _ (payee p ps e g f) c = record { one = lineFor s (pick (begins 47 p) (copy p) (name p)); more = map (lineFor s) (taxed ps); is = refl }
-content-some s _ _ (details vo text e g) c = some-told In70 (codeSize s) (told s (vo ∷ text ∷ [])) c
+content-some s _ _ (details vo text e g) c = some-details In70 (codeSize s) (codeAndText s (vo ∷ text ∷ [])) c
 content-some s _ _ (note103 rpp e) c = record { one = rppLine rpp; more = []; is = refl }
 content-some s _ _ (note202 rpp vo text e g) c =
-    some-behind (pick (empty rpp) [] (rppLine rpp ∷ [])) (linesFor (notePlace rpp) (codeSize s) (told s (vo ∷ text ∷ []))) (some-told (notePlace rpp) (codeSize s) (told s (vo ∷ text ∷ [])) c)
+    some-behind (pick (empty rpp) [] (rppLine rpp ∷ [])) (linesFor (notePlace rpp) (codeSize s) (codeAndText s (vo ∷ text ∷ []))) (some-details (notePlace rpp) (codeSize s) (codeAndText s (vo ∷ text ∷ [])) c)
 
 -- the field's tag before its lines
 lined-some : (t : List ℕ) (ls : List (List ℕ)) → Some ls → (58 ∷ t ++ 58 ∷ []) ++ laid ls ≡ laid (lined (field t ls))

@@ -26,7 +26,7 @@ use Rattle.details.specs.declared.Place.the-variants.{In70}
 use Rattle.details.specs.declared.Size.{Size}
 use Rattle.details.specs.declared.Size.the-variants as size
 use Rattle.details.specs.Layouts.{sizeFor}
-use Rattle.writer.specs.Spread.{saidPart, castParts, told, notePlace, spread}
+use Rattle.writer.specs.Spread.{saidPart, castParts, codeAndText, notePlace, spread}
 
 -- ---- 15: the first byte of the sheet that can't be written
 -- a text whose first byte is at o stops
@@ -51,10 +51,10 @@ isUnfit size.Unfit = true
 
 abbrev pub crowdedNote : Bool → List (List ℕ) → Bool
 crowdedNote s [] = false
-crowdedNote s (r ∷ ps) = isUnfit (sizeFor (notePlace r) (codeSize s) (told s ps))
+crowdedNote s (r ∷ ps) = isUnfit (sizeFor (notePlace r) (codeSize s) (codeAndText s ps))
 
 unfoldable pub crowded : Bool → Shape → List (List ℕ) → Bool
-crowded s Details ps = isUnfit (sizeFor In70 (codeSize s) (told s ps))
+crowded s Details ps = isUnfit (sizeFor In70 (codeSize s) (codeAndText s ps))
 crowded s Note202 ps = crowdedNote s ps
 crowded s Note103 ps = false
 crowded s Plain ps = false

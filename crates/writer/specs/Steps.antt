@@ -17,7 +17,7 @@ use Rattle.records.specs.Record.{Record, recordOf, front}
 use Rattle.records.specs.Found.{piecesAt}
 use Rattle.details.specs.declared.Place.{Place}
 use Rattle.details.specs.Layouts.{linesFor, sizeFor}
-use Rattle.writer.specs.Spread.{coded, castParts, told}
+use Rattle.writer.specs.Spread.{coded, castParts, codeAndText}
 use Rattle.writer.specs.Sheet.{isUnfit, unsaid, crowded, handRules}
 use Rattle.writer.specs.declared.Step.{Step}
 use Rattle.writer.specs.declared.Step.the-variants.{Stuck, Unfit, Put}
@@ -42,8 +42,8 @@ pub data Within : Step → ℕ → ℕ → Type 0 where
   putIn : {m k n : ℕ} → m ≤ n → Within (Put m) k n
 
 -- ---- details: VO digits, the first at o, and a text, as the lines of their place
-abbrev pub Tells : Bool → Place → ℕ → List (List ℕ) → List ℕ → ℕ → Step → List ℕ → Type 0
-Tells s p o ps out at r after = Adds (unsaid s o (coded ps)) (isUnfit (sizeFor p (codeSize s) (told s ps))) (laid (linesFor p (codeSize s) (told s ps))) out at r after
+abbrev pub AddsDetails : Bool → Place → ℕ → List (List ℕ) → List ℕ → ℕ → Step → List ℕ → Type 0
+AddsDetails s p o ps out at r after = Adds (unsaid s o (coded ps)) (isUnfit (sizeFor p (codeSize s) (codeAndText s ps))) (laid (linesFor p (codeSize s) (codeAndText s ps))) out at r after
 
 -- ---- records
 abbrev pub recordStops : Form → Bool → Record → Verdict

@@ -12,7 +12,7 @@ ghost use Rattle.records.specs.Rule19.{detailed};
 ghost use Rattle.details.specs.Layouts.{sizeFor, linesFor};
 ghost use Rattle.writer.specs.Spread.{code};
 ghost use Rattle.writer.specs.Sheet.{isUnfit};
-ghost use Rattle.writer.specs.Steps.{Adds, Within, near, Tells};
+ghost use Rattle.writer.specs.Steps.{Adds, Within, near, AddsDetails};
 use super::Step;
 use super::texts::put_text;
 use base::bytes::put;
@@ -62,7 +62,7 @@ pub(crate) fn put_purpose(
     at: usize,
 ) -> Step
     requires { ⌜ (length (now l) ≤ 10000) × (at ≤ near) × (detailed (piecesAt 9 (now l) i) ≡ true) ⌝ }
-    ensures { λ r. ⌜ Tells sign place i (piecesAt 9 (now (l .entry)) i) (now (out .entry)) at r (now (out .exit)) × Within r (length (now (l .entry))) (at + 250) ⌝ }
+    ensures { λ r. ⌜ AddsDetails sign place i (piecesAt 9 (now (l .entry)) i) (now (out .entry)) at r (now (out .exit)) × Within r (length (now (l .entry))) (at + 250) ⌝ }
 {
     let mut line = [0u8; 250];
     let least = put_code(sign, &l[i..i + 5], &mut line);

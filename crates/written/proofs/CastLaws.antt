@@ -1,4 +1,4 @@
--- The lines written for a record are cast as its parts are, so that a name stays a name; and details are told over their lines (S6, S7, T7,
+-- The lines written for a record are cast as its parts are, so that a name stays a name; and details are read over their lines (S6, S7, T7,
 -- T12, Cdetails, C72). Assumes nothing.
 use Prim.Native.Nat.{ℕ, _+_}
 use mathlib.Core.Path.{_≡_, refl, sym, ap, ap₂, _∙_}
@@ -17,7 +17,7 @@ use Rattle.alphabets.specs.Best.{writing}
 use Rattle.contents.specs.Tests.{looksTax}
 use Rattle.roles.specs.Role.{Part, copy, name, taxName, cast}
 use Rattle.roles.specs.Speech as speech
-use Rattle.roles.specs.Speech.{speech, told, toldAt, codeSize}
+use Rattle.roles.specs.Speech.{speech, asDetails, detailsStart, codeSize}
 use Rattle.roles.specs.declared.Shape.{Shape}
 use Rattle.roles.proofs.CastLaws as roles
 use Rattle.roles.proofs.CastLaws.{Lines, cast-turned}
@@ -126,12 +126,12 @@ next-dropped In72 ls = unmarked (layout In72 .next) ls
 next-dropped BehindRpp ls = unmarked (layout BehindRpp .next) ls
 
 -- over the lines, behind the marks and the code, stands the text
-pub told-again : (p : Place) (s : Bool) (vo w : List ℕ) (o : ℕ) → digits 5 vo ≡ true → Laid p (codeSize s) (code s vo ++ w)
-    → (at : ℕ) × (speech.details (frontOf p s) (nextOf p) o (linesFor p (codeSize s) (code s vo ++ w)) ≡ speech told at w ∷ [])
+pub details-again : (p : Place) (s : Bool) (vo w : List ℕ) (o : ℕ) → digits 5 vo ≡ true → Laid p (codeSize s) (code s vo ++ w)
+    → (at : ℕ) × (speech.details (frontOf p s) (nextOf p) o (linesFor p (codeSize s) (code s vo ++ w)) ≡ speech asDetails at w ∷ [])
 unfolding speech.details
-told-again p s vo w o d h =
+details-again p s vo w o d h =
     let l : List ℕ = layout p .mark ++ h .front in
     let text : drop (frontOf p s) l ++ speech.behind (nextOf p) (map (λ (k : List ℕ). layout p .next ++ k) (h .behind)) ≡ w =
     ap₂ (λ (a b : List ℕ). a ++ b) (front-dropped p s (h .front)) (next-dropped p (h .behind))
     ∙ sym (drop-append-le (codeSize s) (h .front) (together (h .behind)) (h .code)) ∙ ap (drop (codeSize s)) (h .joins) ∙ behind-code s vo w d in
-    (toldAt (frontOf p s) (nextOf p) o l, ap (speech.details (frontOf p s) (nextOf p) o) (h .is) ∙ ap (λ (b : List ℕ). speech told (toldAt (frontOf p s) (nextOf p) o l) b ∷ []) text)
+    (detailsStart (frontOf p s) (nextOf p) o l, ap (speech.details (frontOf p s) (nextOf p) o) (h .is) ∙ ap (λ (b : List ℕ). speech asDetails (detailsStart (frontOf p s) (nextOf p) o l) b ∷ []) text)

@@ -36,7 +36,7 @@ use Rattle.details.specs.declared.Place.the-variants.{In70, In72, BehindRpp}
 use Rattle.details.specs.declared.Size.{Size}
 use Rattle.details.specs.declared.Size.the-variants.{Bytes, Unfit}
 use Rattle.details.proofs.DivisionTheorems.{unfit-none, none-unfit}
-use Rattle.writer.specs.Spread.{saidPart, castParts, told}
+use Rattle.writer.specs.Spread.{saidPart, castParts, codeAndText}
 use Rattle.writer.specs.Sheet.{stoppedAt, unsaid, rule15, isUnfit, crowded, someCrowded, rule16}
 use Rattle.written.specs.Sentences.{Writable, Unwritable, canWrite, partsSize, StuckPart, WritableRecord, StuckAt, Undivided, NoWay, in70, in72, pastRpp, CrowdedIn}
 use Rattle.written.proofs.SpeltLaws.{isSaid, said-is, plain-set}
@@ -188,8 +188,8 @@ module _ (s : Bool) where
 
 -- ---- 16
 module _ (s : Bool) where
-  unfit-undivided : (place : Place) (ps : List (List ℕ)) → (isUnfit (sizeFor place (codeSize s) (told s ps)) ≡ true) ↔ Undivided s place ps
-  unfit-undivided place ps = (λ e rows d. unfit-none place (codeSize s) (told s ps) (go (sizeFor place (codeSize s) (told s ps)) e) d, λ n. ap isUnfit (none-unfit place (codeSize s) (told s ps) n))
+  unfit-undivided : (place : Place) (ps : List (List ℕ)) → (isUnfit (sizeFor place (codeSize s) (codeAndText s ps)) ≡ true) ↔ Undivided s place ps
+  unfit-undivided place ps = (λ e rows d. unfit-none place (codeSize s) (codeAndText s ps) (go (sizeFor place (codeSize s) (codeAndText s ps)) e) d, λ n. ap isUnfit (none-unfit place (codeSize s) (codeAndText s ps) n))
     where
       go : (z : Size) → isUnfit z ≡ true → z ≡ Unfit
       go (Bytes n) e = absurd (false≢true e)

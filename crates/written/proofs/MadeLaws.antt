@@ -28,9 +28,9 @@ use Rattle.details.specs.declared.Size.{Size}
 use Rattle.details.specs.declared.Size.the-variants.{Bytes, Unfit}
 use Rattle.details.proofs.DivisionTheorems.{Fitted, fitted}
 use Rattle.alphabets.proofs.Theorems.{shortest-iff}
-use Rattle.writer.specs.Spread.{castParts, lineFor, told, rppLine, contentLines, fieldFor, spread}
+use Rattle.writer.specs.Spread.{castParts, lineFor, codeAndText, rppLine, contentLines, fieldFor, spread}
 use Rattle.writer.specs.Sheet.{isUnfit, crowded, fieldsOf, messageFor, sheetRules}
-use Rattle.written.specs.Sentences.{OneByOne, Line, Told, Content, plain, payer, payee, agent, details, note103, note202, behindRpp, Made}
+use Rattle.written.specs.Sentences.{OneByOne, Line, WrittenDetails, Content, plain, payer, payee, agent, details, note103, note202, behindRpp, Made}
 use Rattle.written.proofs.SpeltLaws.{said-is}
 use Rattle.written.proofs.ReadyLaws.{speaks, Ready}
 use Rattle.written.proofs.BuiltLaws.{AllPass, records-pass, built-fields}
@@ -49,14 +49,14 @@ module _ (s : Bool) where
   rows-join : {ok : ℕ → Bool} {least : ℕ} {text ws : List ℕ} {rows : List (List ℕ)} → Division ok least text ws rows → together rows ≡ text
   rows-join (lines a b c m j) = j
 
-  pub told-made : (place : Place) (vo text : List ℕ) → speaks s (name text) ≡ true → isUnfit (sizeFor place (codeSize s) (told s (vo ∷ text ∷ []))) ≡ false
-      → Told s place vo text (linesFor place (codeSize s) (told s (vo ∷ text ∷ [])))
+  pub details-made : (place : Place) (vo text : List ℕ) → speaks s (name text) ≡ true → isUnfit (sizeFor place (codeSize s) (codeAndText s (vo ∷ text ∷ []))) ≡ false
+      → WrittenDetails s place vo text (linesFor place (codeSize s) (codeAndText s (vo ∷ text ∷ [])))
   unfolding linesFor
-  told-made place vo text e u = go (sizeFor place (codeSize s) (told s (vo ∷ text ∷ []))) refl u
+  details-made place vo text e u = go (sizeFor place (codeSize s) (codeAndText s (vo ∷ text ∷ []))) refl u
     where
-      go : (z : Size) → sizeFor place (codeSize s) (told s (vo ∷ text ∷ [])) ≡ z → isUnfit z ≡ false → Told s place vo text (linesFor place (codeSize s) (told s (vo ∷ text ∷ [])))
+      go : (z : Size) → sizeFor place (codeSize s) (codeAndText s (vo ∷ text ∷ [])) ≡ z → isUnfit z ≡ false → WrittenDetails s place vo text (linesFor place (codeSize s) (codeAndText s (vo ∷ text ∷ [])))
       go (Bytes n) f u =
-          let w : Fitted place (codeSize s) (told s (vo ∷ text ∷ [])) n = fitted place (codeSize s) (told s (vo ∷ text ∷ [])) n f in
+          let w : Fitted place (codeSize s) (codeAndText s (vo ∷ text ∷ [])) n = fitted place (codeSize s) (codeAndText s (vo ∷ text ∷ [])) n f in
           record {
             spelt = textOf (writing s text);
             shortest = shortest-iff s text (textOf (writing s text)) .0 (said-is (writing s text) e);
@@ -68,11 +68,11 @@ module _ (s : Bool) where
           }
       go Unfit f u = absurd (true≢false u)
 
-  note-made : (b : Bool) (r vo text : List ℕ) → empty r ≡ b → speaks s (name text) ≡ true → isUnfit (sizeFor (pick b In72 BehindRpp) (codeSize s) (told s (vo ∷ text ∷ []))) ≡ false
-      → Content s Note202 (r ∷ vo ∷ text ∷ []) (pick b [] (rppLine r ∷ []) ++ linesFor (pick b In72 BehindRpp) (codeSize s) (told s (vo ∷ text ∷ [])))
-  note-made true [] vo text q e u = note202 (told-made In72 vo text e u)
+  note-made : (b : Bool) (r vo text : List ℕ) → empty r ≡ b → speaks s (name text) ≡ true → isUnfit (sizeFor (pick b In72 BehindRpp) (codeSize s) (codeAndText s (vo ∷ text ∷ []))) ≡ false
+      → Content s Note202 (r ∷ vo ∷ text ∷ []) (pick b [] (rppLine r ∷ []) ++ linesFor (pick b In72 BehindRpp) (codeSize s) (codeAndText s (vo ∷ text ∷ [])))
+  note-made true [] vo text q e u = note202 (details-made In72 vo text e u)
   note-made true (x ∷ r) vo text q e u = absurd (false≢true q)
-  note-made false r vo text q e u = behindRpp q (told-made BehindRpp vo text e u)
+  note-made false r vo text q e u = behindRpp q (details-made BehindRpp vo text e u)
 
   -- ---- a record
   pub content-made : (sh : Shape) (ps : List (List ℕ)) → Ready s sh ps → Content s sh ps (contentLines s sh ps)
@@ -84,7 +84,7 @@ module _ (s : Bool) where
       go (sentences.agent p ps e g) a u = agent (line-by-line (cast Agent (p ∷ ps)) a)
       go (sentences.payer p ps e g n) a u = payer (line-by-line (cast Payer (p ∷ ps)) a)
       go (sentences.payee p ps e g n) a u = payee (line-by-line (cast Payee (p ∷ ps)) a)
-      go (sentences.details v t d e) a u = details (told-made In70 v t (left (speaks s (name t)) _ (right (speaks s (copy v)) _ a)) u)
+      go (sentences.details v t d e) a u = details (details-made In70 v t (left (speaks s (name t)) _ (right (speaks s (copy v)) _ a)) u)
       go (sentences.note103 r e) a u = note103
       go (sentences.note202 r v t d e) a u =
           note-made (empty r) r v t refl (left (speaks s (name t)) _ (right (speaks s (copy v)) _ (right (speaks s (copy r)) _ a))) u

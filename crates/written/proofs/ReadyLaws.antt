@@ -37,7 +37,7 @@ use Rattle.details.specs.declared.Place.the-variants.{In70, In72, BehindRpp}
 use Rattle.details.specs.declared.Size.{Size}
 use Rattle.details.specs.declared.Size.the-variants.{Bytes, Unfit}
 use Rattle.details.proofs.DivisionTheorems.{Fitted, fitted}
-use Rattle.writer.specs.Spread.{saidPart, castParts, lineFor, code, told, rppLine, contentLines}
+use Rattle.writer.specs.Spread.{saidPart, castParts, lineFor, code, codeAndText, rppLine, contentLines}
 use Rattle.writer.specs.Sheet.{stoppedAt, unsaid, rule15, isUnfit, crowded, someCrowded, rule16}
 use Rattle.written.proofs.SpeltLaws.{isSaid, said-is, plain-set, spelt-set, spelt-on}
 
@@ -231,8 +231,8 @@ laid-fair {p} {least} {text} w e =
     } in
     rw (w .is) f
 
-told-set : (s : Bool) (vo text : List ℕ) → all (speaks s) (copy vo ∷ name text ∷ []) ≡ true → all xset (told s (vo ∷ text ∷ [])) ≡ true
-told-set s vo text e =
+details-set : (s : Bool) (vo text : List ℕ) → all (speaks s) (copy vo ∷ name text ∷ []) ≡ true → all xset (codeAndText s (vo ∷ text ∷ [])) ≡ true
+details-set s vo text e =
     all-append xset (code s vo) (textOf (writing s text)) (code-set s vo (line-set s (copy vo) (left (speaks s (copy vo)) _ e)))
     (line-set s (name text) (left (speaks s (name text)) _ (right (speaks s (copy vo)) _ e)))
 
@@ -260,7 +260,7 @@ ready-fair s sh ps w = go (w .is-right) (w .says) (w .fits)
     go (agent p ps e g) a u = parts-fair s (cast Agent (p ∷ ps)) p ps (same-lines Agent (p ∷ ps)) g a
     go (payer p ps e g n) a u = parts-fair s (cast Payer (p ∷ ps)) p ps (same-lines Payer (p ∷ ps)) g a
     go (payee p ps e g n) a u = parts-fair s (cast Payee (p ∷ ps)) p ps (same-lines Payee (p ∷ ps)) g a
-    go (details v t d e) a u = laid-fair (laid In70 (codeSize s) (told s (v ∷ t ∷ [])) u) (told-set s v t a)
+    go (details v t d e) a u = laid-fair (laid In70 (codeSize s) (codeAndText s (v ∷ t ∷ [])) u) (details-set s v t a)
     go (note103 r e) a u = record { some = refl; on = refl; inside = both (rpp-set r (line-set s (copy r) (left (speaks s (copy r)) _ a))) refl }
     go (note202 r v t d e) a u =
-        note-fair s (empty r) r (told s (v ∷ t ∷ [])) (line-set s (copy r) (left (speaks s (copy r)) _ a)) (told-set s v t (right (speaks s (copy r)) _ a)) u
+        note-fair s (empty r) r (codeAndText s (v ∷ t ∷ [])) (line-set s (copy r) (left (speaks s (copy r)) _ a)) (details-set s v t (right (speaks s (copy r)) _ a)) u

@@ -40,7 +40,7 @@ use Rattle.details.specs.declared.Place.{Place}
 use Rattle.details.specs.declared.Place.the-variants.{In70, In72, BehindRpp}
 use Rattle.details.specs.declared.Size.{Size}
 use Rattle.details.specs.declared.Size.the-variants.{Bytes, Unfit}
-use Rattle.writer.specs.Spread.{coded, castParts, lineFor, told, rppLine, noteLines, contentLines, fieldFor, spread}
+use Rattle.writer.specs.Spread.{coded, castParts, lineFor, codeAndText, rppLine, noteLines, contentLines, fieldFor, spread}
 use Rattle.writer.specs.Sheet.{fieldsOf, messageFor, writeRules, MessageTo}
 use Rattle.writer.proofs.RuleLaws.{sheet-rules}
 use Rattle.written.specs.Sentences as why
@@ -84,13 +84,13 @@ note-size : (s : Bool) (ps : List (List ℕ)) → lines.sizeOf (noteLines s ps) 
 note-size s [] = omega arith
 note-size s (r ∷ ps) = go (empty r)
   where
-    go : (b : Bool) → lines.sizeOf (pick b [] (rppLine r ∷ []) ++ linesFor (pick b In72 BehindRpp) (codeSize s) (told s ps)) ≤ 7 * widthOf (r ∷ ps) + 250
-    go true = omega (arith, details-size In72 (codeSize s) (told s ps))
-    go false = omega (arith, details-size BehindRpp (codeSize s) (told s ps))
+    go : (b : Bool) → lines.sizeOf (pick b [] (rppLine r ∷ []) ++ linesFor (pick b In72 BehindRpp) (codeSize s) (codeAndText s ps)) ≤ 7 * widthOf (r ∷ ps) + 250
+    go true = omega (arith, details-size In72 (codeSize s) (codeAndText s ps))
+    go false = omega (arith, details-size BehindRpp (codeSize s) (codeAndText s ps))
 
 content-size : (s : Bool) (sh : Shape) (ps : List (List ℕ)) → lines.sizeOf (contentLines s sh ps) ≤ 7 * widthOf ps + 250
 unfolding contentLines
-content-size s Details ps = omega (arith, details-size In70 (codeSize s) (told s ps))
+content-size s Details ps = omega (arith, details-size In70 (codeSize s) (codeAndText s ps))
 content-size s Note103 ps = omega (arith, rpps-size ps)
 content-size s Note202 ps = note-size s ps
 content-size s Plain ps = cast-size s Plain ps

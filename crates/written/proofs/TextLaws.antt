@@ -21,7 +21,7 @@ use Rattle.fields.specs.Places as fields
 use Rattle.fields.specs.Shapes.{goesOn}
 use Rattle.contents.specs.Tests.{looksTax}
 use Rattle.roles.specs.Role.{shapeOf, Part, copy, name, taxName, lineOf, cast}
-use Rattle.roles.specs.Speech.{Manner, named, taxPlaced, told, Speech, speech, saidAt, names, noted, codeSize, speeches}
+use Rattle.roles.specs.Speech.{Manner, asName, asTaxName, asDetails, Speech, speech, saidAt, names, noted, codeSize, speeches}
 use Rattle.roles.specs.Speech as speech
 use Rattle.roles.specs.Rule14.{mute, isInn, taxLike, clauses, breaks, spoken, rule14}
 use Rattle.roles.specs.Sentences.{Heard}
@@ -40,7 +40,7 @@ use Rattle.writer.specs.Spread as spread
 use Rattle.writer.specs.Sheet.{isUnfit, crowded, fieldsOf, sheetRules}
 use Rattle.written.proofs.SpeltLaws.{said-is, spelt-open}
 use Rattle.written.proofs.ReadyLaws.{speaks, Laid, laid, Ready}
-use Rattle.written.proofs.CastLaws.{turned, untaxed, cast-untaxed, cast-again, frontOf, nextOf, told-again}
+use Rattle.written.proofs.CastLaws.{turned, untaxed, cast-untaxed, cast-again, frontOf, nextOf, details-again}
 use Rattle.written.proofs.BuiltLaws.{AllPass, records-pass, built-sign}
 
 -- ---- one text: it reads as its part
@@ -51,17 +51,17 @@ by-reading : (m : Manner) (b d : List ℕ) → reading true b ≡ said d → cla
 unfolding breaks
 by-reading m b d r e = ap (λ (a : Answer). clauses m (mute a) b (textOf a)) r ∙ e
 
-told-heard : (p : List ℕ) → speaks true (name p) ≡ true → empty p ≡ false → breaks told (textOf (writing true p)) ≡ false
-told-heard p e n = by-reading told (textOf (writing true p)) p (back p e) n
+details-heard : (p : List ℕ) → speaks true (name p) ≡ true → empty p ≡ false → breaks asDetails (textOf (writing true p)) ≡ false
+details-heard p e n = by-reading asDetails (textOf (writing true p)) p (back p e) n
 
-name-heard : (p : List ℕ) → speaks true (name p) ≡ true → empty p ≡ false → breaks named (textOf (writing true p)) ≡ false
+name-heard : (p : List ℕ) → speaks true (name p) ≡ true → empty p ≡ false → breaks asName (textOf (writing true p)) ≡ false
 name-heard p e n =
-    by-reading named (textOf (writing true p)) p (back p e) (ap₂ _||_ n (spelt-open p (textOf (writing true p)) (said-is (writing true p) e)))
+    by-reading asName (textOf (writing true p)) p (back p e) (ap₂ _||_ n (spelt-open p (textOf (writing true p)) (said-is (writing true p) e)))
 
-tax-heard : (p : List ℕ) → speaks true (name p) ≡ true → empty p ≡ false → looksTax p ≡ false → isInn p ≡ false → breaks taxPlaced (textOf (writing true p)) ≡ false
+tax-heard : (p : List ℕ) → speaks true (name p) ≡ true → empty p ≡ false → looksTax p ≡ false → isInn p ≡ false → breaks asTaxName (textOf (writing true p)) ≡ false
 unfolding taxLike
 tax-heard p e n t i =
-    by-reading taxPlaced (textOf (writing true p)) p (back p e)
+    by-reading asTaxName (textOf (writing true p)) p (back p e)
     (ap₂ _||_ n (ap₂ _||_ (spelt-open p (textOf (writing true p)) (said-is (writing true p) e)) (ap₂ _||_ t i)))
 
 -- ---- the names of a record
@@ -96,11 +96,11 @@ parts-heard o sh p ps r n g e =
     subst (λ (l : List Part). Heard (names o l)) (sym (cast-again true sh (p ∷ ps) r e)) (names-heard o xs e k (cast-untaxed sh (p ∷ ps)) (cast-calm sh (p ∷ ps) r))
 
 -- ---- details
-heard-told : (q : Place) (vo p : List ℕ) (o : ℕ) → digits 5 vo ≡ true → empty p ≡ false → speaks true (name p) ≡ true → Laid q (codeSize true) (code true vo ++ textOf (writing true p))
+heard-details : (q : Place) (vo p : List ℕ) (o : ℕ) → digits 5 vo ≡ true → empty p ≡ false → speaks true (name p) ≡ true → Laid q (codeSize true) (code true vo ++ textOf (writing true p))
     → Heard (speech.details (frontOf q true) (nextOf q) o (linesFor q (codeSize true) (code true vo ++ textOf (writing true p))))
-heard-told q vo p o d n e h =
-    let w = told-again q true vo (textOf (writing true p)) o d h in
-    subst Heard (sym (w .1)) (told-heard p e n, tt)
+heard-details q vo p o d n e h =
+    let w = details-again q true vo (textOf (writing true p)) o d h in
+    subst Heard (sym (w .1)) (details-heard p e n, tt)
 
 -- /NZP/ is no RPP line, /RPP/ is one
 noted-first : (o : ℕ) (least : ℕ) (text : List ℕ) → Laid In72 least text → noted true o (linesFor In72 least text) ≡ speech.details (frontOf In72 true) (nextOf In72) o (linesFor In72 least text)
@@ -117,11 +117,11 @@ note-heard : (b : Bool) (o : ℕ) (r vo p : List ℕ) → digits 5 vo ≡ true �
 note-heard true o r vo p d n e u =
     let text : List ℕ = code true vo ++ textOf (writing true p) in
     let h = laid In72 (codeSize true) text u in
-    subst Heard (sym (noted-first o (codeSize true) text h)) (heard-told In72 vo p o d n e h)
+    subst Heard (sym (noted-first o (codeSize true) text h)) (heard-details In72 vo p o d n e h)
 note-heard false o r vo p d n e u =
     let text : List ℕ = code true vo ++ textOf (writing true p) in
     let h = laid BehindRpp (codeSize true) text u in
-    subst Heard (sym (noted-behind o r (linesFor BehindRpp (codeSize true) text))) (heard-told BehindRpp vo p (o + length (rppLine r) + 2) d n e h)
+    subst Heard (sym (noted-behind o r (linesFor BehindRpp (codeSize true) text))) (heard-details BehindRpp vo p (o + length (rppLine r) + 2) d n e h)
 
 -- ---- a record, the records
 ready-heard : (o : ℕ) (sh : Shape) (ps : List (List ℕ)) → Ready true sh ps → Heard (speeches true sh o (contentLines true sh ps))
@@ -135,7 +135,7 @@ ready-heard o sh ps w = go (w .is-right) (w .says) (w .fits)
     go (payer p ps e g n) a u = parts-heard o Payer p ps (payer p ps e g n) e g a
     go (payee p ps e g n) a u = parts-heard o Payee p ps (payee p ps e g n) e g a
     go (details v t d e) a u =
-        heard-told In70 v t o d e (left (speaks true (name t)) _ (right (speaks true (copy v)) _ a)) (laid In70 (codeSize true) (spread.told true (v ∷ t ∷ [])) u)
+        heard-details In70 v t o d e (left (speaks true (name t)) _ (right (speaks true (copy v)) _ a)) (laid In70 (codeSize true) (spread.codeAndText true (v ∷ t ∷ [])) u)
     go (note103 r e) a u = tt
     go (note202 r v t d e) a u =
         note-heard (empty r) o r v t d e (left (speaks true (name t)) _ (right (speaks true (copy v)) _ (right (speaks true (copy r)) _ a))) u

@@ -32,7 +32,7 @@ use Rattle.details.specs.Breaking.{opens}
 use Rattle.details.specs.Layouts.{layout, DivisionIn, marked}
 use Rattle.details.specs.declared.Place.{Place}
 use Rattle.details.specs.declared.Place.the-variants.{In70, In72, BehindRpp}
-use Rattle.writer.specs.Spread.{castParts, code, told, rppLine}
+use Rattle.writer.specs.Spread.{castParts, code, codeAndText, rppLine}
 use Rattle.writer.specs.Sheet.{messageFor}
 
 -- ---- lists
@@ -52,7 +52,7 @@ Line s (taxName p) l = Shortest s p l
 
 -- details: their lines, the marks left out, are together the code and the shortest text for it (D3); they are a division, and each has the most
 -- that it lawfully can
-pub record Told (s : Bool) (place : Place) (vo text : List ℕ) (ls : List (List ℕ)) : Type 0 where
+pub record WrittenDetails (s : Bool) (place : Place) (vo text : List ℕ) (ls : List (List ℕ)) : Type 0 where
   pub spelt : List ℕ
   pub shortest : Shortest s text spelt
   pub rows : List (List ℕ)
@@ -66,10 +66,10 @@ pub data Content (s : Bool) : Shape → List (List ℕ) → List (List ℕ) → 
   payer : {ps ls : List (List ℕ)} → OneByOne (Line s) (cast Payer ps) ls → Content s Payer ps ls
   payee : {ps ls : List (List ℕ)} → OneByOne (Line s) (cast Payee ps) ls → Content s Payee ps ls
   agent : {ps ls : List (List ℕ)} → OneByOne (Line s) (cast Agent ps) ls → Content s Agent ps ls
-  details : {vo text : List ℕ} {ls : List (List ℕ)} → Told s In70 vo text ls → Content s Details (vo ∷ text ∷ []) ls
+  details : {vo text : List ℕ} {ls : List (List ℕ)} → WrittenDetails s In70 vo text ls → Content s Details (vo ∷ text ∷ []) ls
   note103 : {r : List ℕ} → Content s Note103 (r ∷ []) (rppLine r ∷ [])
-  note202 : {vo text : List ℕ} {ls : List (List ℕ)} → Told s In72 vo text ls → Content s Note202 ([] ∷ vo ∷ text ∷ []) ls
-  behindRpp : {r vo text : List ℕ} {ls : List (List ℕ)} → empty r ≡ false → Told s BehindRpp vo text ls → Content s Note202 (r ∷ vo ∷ text ∷ []) (rppLine r ∷ ls)
+  note202 : {vo text : List ℕ} {ls : List (List ℕ)} → WrittenDetails s In72 vo text ls → Content s Note202 ([] ∷ vo ∷ text ∷ []) ls
+  behindRpp : {r vo text : List ℕ} {ls : List (List ℕ)} → empty r ≡ false → WrittenDetails s BehindRpp vo text ls → Content s Note202 (r ∷ vo ∷ text ∷ []) (rppLine r ∷ ls)
 
 -- a field made of a record: the same tag, and such a content
 abbrev pub Made : Form → Bool → Record → Field → Type 0
@@ -126,7 +126,7 @@ pub record StuckAt (form : Form) (s : Bool) (o : ℕ) (rs : List Record) (p : �
 -- ---- 16
 -- the code and the text written for it can't be divided in any way
 abbrev pub Undivided : Bool → Place → List (List ℕ) → Type 0
-Undivided s place ps = (rows : List (List ℕ)) → DivisionIn (layout place) (codeSize s) (told s ps) rows → ⊥
+Undivided s place ps = (rows : List (List ℕ)) → DivisionIn (layout place) (codeSize s) (codeAndText s ps) rows → ⊥
 
 pub data NoWay (s : Bool) : Shape → List (List ℕ) → Type 0 where
   in70 : {ps : List (List ℕ)} → Undivided s In70 ps → NoWay s Details ps

@@ -24,7 +24,7 @@ use Rattle.details.specs.declared.Place.the-variants.{In70}
 use Rattle.details.specs.declared.Size.{Size}
 use Rattle.details.specs.declared.Size.the-variants.{Bytes, Unfit}
 use Rattle.details.proofs.DivisionTheorems.{Fitted, fitted}
-use Rattle.writer.specs.Spread.{castParts, code, told, rppLine, notePlace, contentLines}
+use Rattle.writer.specs.Spread.{castParts, code, codeAndText, rppLine, notePlace, contentLines}
 use Rattle.writer.specs.Sheet.{isUnfit, crowded}
 use Rattle.written.proofs.SpeltLaws.{said-is, spelt-empty}
 use Rattle.written.proofs.ReadyLaws.{speaks, Ready}
@@ -46,22 +46,22 @@ module _ (s : Bool) where
       go Unfit f u = absurd (true≢false u)
 
   -- their text as it is written: it has a byte, as the desk text has one
-  told-pass : (p : Place) (vo t : List ℕ) → digits 5 vo ≡ true → empty t ≡ false → all (speaks s) (copy vo ∷ name t ∷ []) ≡ true
-      → isUnfit (sizeFor p (codeSize s) (told s (vo ∷ t ∷ []))) ≡ false → IsIn p s (linesFor p (codeSize s) (told s (vo ∷ t ∷ [])))
-  told-pass p vo t d e a u =
+  text-pass : (p : Place) (vo t : List ℕ) → digits 5 vo ≡ true → empty t ≡ false → all (speaks s) (copy vo ∷ name t ∷ []) ≡ true
+      → isUnfit (sizeFor p (codeSize s) (codeAndText s (vo ∷ t ∷ []))) ≡ false → IsIn p s (linesFor p (codeSize s) (codeAndText s (vo ∷ t ∷ [])))
+  text-pass p vo t d e a u =
       let k : speaks s (name t) ≡ true = left (speaks s (name t)) _ (right (speaks s (copy vo)) _ a) in
       laid-pass p vo (textOf (writing s t)) d (spelt-empty s t (textOf (writing s t)) (said-is (writing s t) k) ∙ e) u
 
   details-pass : {ps : List (List ℕ)} → sentences.Right s Details ps → all (speaks s) (castParts Details ps) ≡ true → crowded s Details ps ≡ false
       → IsIn In70 s (contentLines s Details ps)
   unfolding contentLines crowded
-  details-pass (sentences.details v t d e) a u = told-pass In70 v t d e a u
+  details-pass (sentences.details v t d e) a u = text-pass In70 v t d e a u
 
   -- r is what follows /RPP/, or nothing
   behind-pass : {r : List ℕ} {ps : List (List ℕ)} → sentences.Right s Note202 (r ∷ ps) → all (speaks s) (castParts Note202 (r ∷ ps)) ≡ true → crowded s Note202 (r ∷ ps) ≡ false
-      → IsIn (notePlace r) s (linesFor (notePlace r) (codeSize s) (told s ps))
+      → IsIn (notePlace r) s (linesFor (notePlace r) (codeSize s) (codeAndText s ps))
   unfolding crowded
-  behind-pass (sentences.note202 r v t d e) a u = told-pass (notePlace r) v t d e (right (speaks s (copy r)) _ a) u
+  behind-pass (sentences.note202 r v t d e) a u = text-pass (notePlace r) v t d e (right (speaks s (copy r)) _ a) u
 
   -- ---- 72 of a 202
   note-pass : (ls : List (List ℕ)) → RppAndDetails s ls → Ready s Note202 (contentParts s Note202 ls) → RppAndDetails s (contentLines s Note202 (contentParts s Note202 ls))
