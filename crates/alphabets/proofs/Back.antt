@@ -8,7 +8,7 @@ use borrow.Author.Tests.{ne-eqb}
 use Rattle.alphabets.specs.Grid.{Kind, unwritable, russian, latin, common, kind, spell, allowed}
 use Rattle.base.specs.Calls.{said}
 use Rattle.alphabets.specs.Bank.{after, reads}
-use Rattle.alphabets.specs.Best.{latinNext, sideFor, cross, best, Spot, nowhere, at, behind, spotAfter, bad}
+use Rattle.alphabets.specs.Best.{latinNext, sideFor, cross, best, Spot, nowhere, at, further, spotAfter, bad}
 use Rattle.alphabets.proofs.GridLaws.{Back, write-read}
 
 pub never : (k : ℕ) → at k ≡ nowhere → ⊥
@@ -20,15 +20,15 @@ allowed-there russian p s n e = refl
 allowed-there latin p s n e = refl
 allowed-there common p s n e = refl
 
-pub not-behind : (p : Spot) → behind p ≡ nowhere → p ≡ nowhere
-not-behind nowhere e = refl
-not-behind (at k) e = absurd (never (suc k) e)
+pub not-further : (p : Spot) → further p ≡ nowhere → p ≡ nowhere
+not-further nowhere e = refl
+not-further (at k) e = absurd (never (suc k) e)
 
 pub rest-good : (k : Kind) (p : Spot) → spotAfter k p ≡ nowhere → p ≡ nowhere
 rest-good unwritable p e = absurd (never 0 e)
-rest-good russian p e = not-behind p e
-rest-good latin p e = not-behind p e
-rest-good common p e = not-behind p e
+rest-good russian p e = not-further p e
+rest-good latin p e = not-further p e
+rest-good common p e = not-further p e
 
 after-said : (y : ℕ) (t : List ℕ) → (y ≡ 0 → ⊥) → after y (said t) ≡ said (y ∷ t)
 after-said zero t n = absurd (n refl)

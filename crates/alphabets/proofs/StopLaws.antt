@@ -16,7 +16,7 @@ use Rattle.base.proofs.Bools.{left, right, both}
 use Rattle.base.proofs.CallLaws.{not-said}
 use Rattle.alphabets.specs.Grid.{Kind, unwritable, russian, latin, common, kind, sign}
 use Rattle.alphabets.specs.Bank.{past, after, reads, plainly, reading}
-use Rattle.alphabets.specs.Best.{best, Spot, nowhere, at, behind, spotAfter, bad, orStuck, writes, writing}
+use Rattle.alphabets.specs.Best.{best, Spot, nowhere, at, further, spotAfter, bad, orStuck, writes, writing}
 use Rattle.alphabets.specs.Sentences.{hasKind, canSay, FirstFails, Unreadable, sideBehind, heardOn, heardAt, StopsAt, unheard, leftOpen, outside}
 use Rattle.alphabets.proofs.Theorems.{no-xset-zero}
 
@@ -69,7 +69,7 @@ no-kind russian p e = absurd (true≢false e)
 no-kind latin p e = absurd (true≢false e)
 no-kind common p e = absurd (true≢false e)
 
-some-kind : (q : Kind) (p : Spot) → hasKind q ≡ true → spotAfter q p ≡ behind p
+some-kind : (q : Kind) (p : Spot) → hasKind q ≡ true → spotAfter q p ≡ further p
 some-kind unwritable p e = absurd (false≢true e)
 some-kind russian p e = refl
 some-kind latin p e = refl
@@ -92,7 +92,7 @@ unfolding bad
 fails-bad [] k f = absurd (omega (arith, f .within))
 fails-bad (x ∷ xs) zero f = no-kind (kind x) (bad xs) (f .fails)
 fails-bad (x ∷ xs) (suc k) f =
-    some-kind (kind x) (bad xs) (left (hasKind (kind x)) _ (f .before)) ∙ ap behind (fails-bad xs k (fails-tail (canSay true) x xs k f))
+    some-kind (kind x) (bad xs) (left (hasKind (kind x)) _ (f .before)) ∙ ap further (fails-bad xs k (fails-tail (canSay true) x xs k f))
 
 writes-stuck : (d : List ℕ) (k : ℕ) → writes d ≡ stuck k → bad d ≡ at k
 unfolding writes

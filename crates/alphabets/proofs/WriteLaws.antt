@@ -17,7 +17,7 @@ use Rattle.base.proofs.Room.{put-one, sets-append, placed-fits}
 use Rattle.base.proofs.Table.{every, and-left, and-right}
 use Rattle.base.proofs.Table as table
 use Rattle.alphabets.specs.Grid.{grid, Kind, unwritable, russian, latin, common, kind, spell}
-use Rattle.alphabets.specs.Best.{latinFirst, latinNext, best, Spot, nowhere, at, behind, bad, orStuck, writes}
+use Rattle.alphabets.specs.Best.{latinFirst, latinNext, best, Spot, nowhere, at, further, bad, orStuck, writes}
 use Rattle.alphabets.specs.Runs.{run, through}
 use Rattle.alphabets.specs.Parts.{extentOf}
 use Rattle.alphabets.specs.Steps.{sized, onward, shape, shapes, group, LatinRun}
@@ -110,7 +110,7 @@ onward-none Long = refl
 
 -- ---- one sign: how it is written, and the size
 -- a unit for the sign, and an apostrophe alone
-size-unit : (p : Spot) (y : ℕ) (t : List ℕ) → extentOf (orStuck (behind p) (y ∷ t)) ≡ onward 1 1 (extentOf (orStuck p t))
+size-unit : (p : Spot) (y : ℕ) (t : List ℕ) → extentOf (orStuck (further p) (y ∷ t)) ≡ onward 1 1 (extentOf (orStuck p t))
 size-unit nowhere y t = let e : suc (length t) ≡ 1 + length t = omega arith in ap Takes e
 size-unit (at k) y t = let e : suc k ≡ 1 + k = omega arith in ap Halts e
 
@@ -121,7 +121,7 @@ size-mark (at k) t = let e : k ≡ 0 + k = omega arith in ap Halts e
 -- on the Russian side a sign that has a shape above 1 is written as it
 record Shown (x : ℕ) (xs : List ℕ) : Type 0 where
   text : best false (x ∷ xs) ≡ getD shapes x 0 ∷ best false xs
-  fine : bad (x ∷ xs) ≡ behind (bad xs)
+  fine : bad (x ∷ xs) ≡ further (bad xs)
 
 shown : (x : ℕ) (xs : List ℕ) → 1 < getD shapes x 0 → Shown x xs
 unfolding best bad
@@ -175,7 +175,7 @@ size-common x xs e = go (latinNext xs) refl
     go : (q : Bool) → latinNext xs ≡ q → sized true (x ∷ xs) ≡ onward 1 1 (sized true xs)
     go true n = rw (e, n) (size-unit (bad xs) x (best true xs))
     go false n =
-        rw (e, n) (size-mark (behind (bad xs)) (x ∷ best false xs) ∙ ap (onward 0 1) (size-unit (bad xs) x (best false xs)) ∙ onward-onward 0 1 1 1 (sized false xs))
+        rw (e, n) (size-mark (further (bad xs)) (x ∷ best false xs) ∙ ap (onward 0 1) (size-unit (bad xs) x (best false xs)) ∙ onward-onward 0 1 1 1 (sized false xs))
         ∙ sym (ap (onward 1 1) (size-leave xs n) ∙ onward-onward 1 1 0 1 (sized false xs))
 
 -- ---- the Russian run

@@ -45,15 +45,15 @@ pub data Spot : Type 0 where
   nowhere : Spot
   at : ℕ → Spot
 
-abbrev pub behind : Spot → Spot
-behind nowhere = nowhere
-behind (at k) = at (suc k)
+abbrev pub further : Spot → Spot
+further nowhere = nowhere
+further (at k) = at (suc k)
 
 abbrev pub spotAfter : Kind → Spot → Spot
 spotAfter unwritable p = at 0
-spotAfter russian p = behind p
-spotAfter latin p = behind p
-spotAfter common p = behind p
+spotAfter russian p = further p
+spotAfter latin p = further p
+spotAfter common p = further p
 
 unfoldable pub bad : List ℕ → Spot
 bad [] = nowhere

@@ -15,7 +15,7 @@ use Rattle.contents.specs.Fields.{IsOwnAccount, IsBic, IsParty, One, Ban
 use Rattle.contents.specs.declared.lines.Party.{Party}
 use Rattle.contents.specs.declared.lines.Party.the-variants as party
 use Rattle.contents.specs.Answers.{cut, BikWith, PartySaid, IsA, noParty}
-use Rattle.contents.proofs.Laws.{Spot, spot, laid, Laid, made, behind-some}
+use Rattle.contents.proofs.Laws.{Spot, spot, laid, Laid, made, mark-some}
 
 -- ---- 53B
 pub own-tests : (l : Text) → IsOwnAccount l → (length l ≡ 23) × (cut 0 3 l ≡ bytes "/D/") × Digits 20 (cut 3 20 l)
@@ -82,7 +82,7 @@ bik-tests bik account l t = go (t .number)
         record { least = omega arith; other = λ x. absurd (omega arith); word = p .0; begins = first (p .1 .0); code = rw (p .1 .0) (t .code); tail = λ off. absurd (off z) }
     go (inr d) =
         let p = laid (spot 4 4 ∷ spot 9 13 ∷ spot 1 14 ∷ spot 20 34 ∷ []) (bytes "//RU" ∷ bik ∷ bytes "." ∷ account ∷ []) l (refl, refl, (t .code .size, refl, (refl, refl, (d .size, refl, tt))))
-        (t .line ∙ rw (behind-some "." account (omega (arith, d .size)))) in
+        (t .line ∙ rw (mark-some "." account (omega (arith, d .size)))) in
         let z = p .1 .1 .1 .1 in
         record { least = omega arith; other = λ x. absurd (omega arith); word = p .0; begins = first (p .1 .0); code = rw (p .1 .0) (t .code); tail = λ off. (z, p .1 .1 .0, rw (p .1 .1 .1 .0) d) }
 
@@ -104,7 +104,7 @@ module _ (l : Text) (w : cut 0 4 l ≡ bytes "//RU") (b : cut 4 2 l ≡ bytes "0
       code = c;
       begins = take-take 2 9 (drop 4 l) (omega arith) ∙ b;
       number = inr d;
-      line = made (spot 4 4 ∷ spot 9 13 ∷ spot 1 14 ∷ spot 20 34 ∷ []) l (refl, (refl, (refl, (refl, sym e)))) ∙ rw (w, p, behind-some "." (cut 14 20 l) (omega (arith, d .size)));
+      line = made (spot 4 4 ∷ spot 9 13 ∷ spot 1 14 ∷ spot 20 34 ∷ []) l (refl, (refl, (refl, (refl, sym e)))) ∙ rw (w, p, mark-some "." (cut 14 20 l) (omega (arith, d .size)));
     },
     d .size,
   )

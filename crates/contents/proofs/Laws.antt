@@ -14,7 +14,7 @@ use Rattle.base.specs.Choice.{all}
 use Rattle.base.specs.Bytes.{byte, digit}
 use Rattle.base.specs.Quoted.{bytes}
 use Rattle.base.proofs.Bools.{left, right, all-append, all-front}
-use Rattle.contents.specs.Words.{Text, Just, join, behind}
+use Rattle.contents.specs.Words.{Text, Just, join, withMark}
 use Rattle.contents.specs.Answers.{cut, Leads}
 
 -- ---- cuts
@@ -153,9 +153,9 @@ pub made : (ss : List Spot) (s : Text) → Ends 0 ss s → s ≡ join (cuts 0 ss
 made ss s e = sym (made-from 0 ss s e)
 
 -- ---- perhaps
-pub behind-some : (mark : String) (s : Text) → 0 < length s → behind mark s ≡ bytes mark ++ s
-behind-some mark [] h = absurd (omega arith)
-behind-some mark (x ∷ s) h = refl
+pub mark-some : (mark : String) (s : Text) → 0 < length s → withMark mark s ≡ bytes mark ++ s
+mark-some mark [] h = absurd (omega arith)
+mark-some mark (x ∷ s) h = refl
 
 -- ---- the first byte
 pub head-tail : (s : Text) → 0 < length s → s ≡ byte s 0 ∷ drop 1 s

@@ -14,7 +14,7 @@ use Rattle.base.specs.Bytes.{upTo}
 use Rattle.fields.specs.Lines.{linesIn}
 use Rattle.contents.specs.Words.{Text, Line}
 use Rattle.contents.specs.Fields.{IsParty, IsBic, IsRpp, One, Then, Names, Beside, Customer, Payer, BankByBic, BankByName, In72, RppAndDetails}
-use Rattle.contents.specs.Answers.{BesideSaid, Behind, CustomerSaid, PayerSaid, IsA, BicSaid, NameSaid, RppWith, NoteSaid, isHeld, isBank, isNote}
+use Rattle.contents.specs.Answers.{BesideSaid, AccountFirst, CustomerSaid, PayerSaid, IsA, BicSaid, NameSaid, RppWith, NoteSaid, isHeld, isBank, isNote}
 use Rattle.contents.specs.declared.lines.Party.{Party}
 use Rattle.contents.specs.declared.lines.Party.the-variants as party
 use Rattle.contents.specs.declared.whole.Held.{Held}
@@ -31,20 +31,20 @@ beside-is twelve at ls held.Plain e s = inr s
 beside-is twelve at [] (held.Taxed p inn kpp) e s = absurd (s .1)
 beside-is twelve at (l ∷ ls) (held.Taxed p inn kpp) e s = inl ((_, _, s .1 .0 .0), s .1 .1)
 
-behind-is : (twelve : Bool) (ls : List Line) (r : Held) → isHeld r ≡ true → Behind twelve ls r → Customer twelve ls
-behind-is twelve [] r e s = s
-behind-is twelve (l ∷ ls) r e s = (s .0, beside-is twelve (length l + 2) ls r e (s .1))
+account-is : (twelve : Bool) (ls : List Line) (r : Held) → isHeld r ≡ true → AccountFirst twelve ls r → Customer twelve ls
+account-is twelve [] r e s = s
+account-is twelve (l ∷ ls) r e s = (s .0, beside-is twelve (length l + 2) ls r e (s .1))
 
 pub customer-is : (twelve : Bool) (ls : List Line) (r : Held) (b : Bool) → b ≡ isHeld r → CustomerSaid twelve ls r → Says (Customer twelve ls) b
 customer-is twelve ls held.Wrong b e s = rw e (says-not s)
-customer-is twelve ls held.Plain b e s = rw e (says-so (behind-is twelve ls held.Plain refl s))
-customer-is twelve ls (held.Taxed p inn kpp) b e s = rw e (says-so (behind-is twelve ls (held.Taxed p inn kpp) refl s))
+customer-is twelve ls held.Plain b e s = rw e (says-so (account-is twelve ls held.Plain refl s))
+customer-is twelve ls (held.Taxed p inn kpp) b e s = rw e (says-so (account-is twelve ls (held.Taxed p inn kpp) refl s))
 
 pub payer-is : (ls : List Line) (r : Held) (b : Bool) → b ≡ isHeld r → PayerSaid ls r → Says (Payer ls) b
 payer-is ls held.Wrong b e s = rw e (says-not s)
-payer-is ls held.Plain b e s = rw e (says-so (⊎-elim (λ x. inl (behind-is true ls held.Plain refl x)) (λ x. inr (x .0, beside-is true 0 ls held.Plain refl (x .1))) s))
+payer-is ls held.Plain b e s = rw e (says-so (⊎-elim (λ x. inl (account-is true ls held.Plain refl x)) (λ x. inr (x .0, beside-is true 0 ls held.Plain refl (x .1))) s))
 payer-is ls (held.Taxed p inn kpp) b e s =
-    rw e (says-so (⊎-elim (λ x. inl (behind-is true ls (held.Taxed p inn kpp) refl x)) (λ x. inr (x .0, beside-is true 0 ls (held.Taxed p inn kpp) refl (x .1))) s))
+    rw e (says-so (⊎-elim (λ x. inl (account-is true ls (held.Taxed p inn kpp) refl x)) (λ x. inr (x .0, beside-is true 0 ls (held.Taxed p inn kpp) refl (x .1))) s))
 
 party-is : (p : Party) (l : Line) → IsA p l → IsParty l
 party-is party.Wrong l s = absurd s

@@ -17,7 +17,7 @@ use Rattle.types.specs.declared.Form.{Form}
 use Rattle.types.specs.Sign.{firstLine}
 use Rattle.contents.specs.declared.Content.{Content}
 use Rattle.contents.specs.declared.Content.the-variants as holds
-use Rattle.contents.specs.Words.{Text, Line, Size, Just, Perhaps, join, behind}
+use Rattle.contents.specs.Words.{Text, Line, Size, Just, Perhaps, join, withMark}
 use Rattle.contents.specs.Lines.{Reference, Name, opening, closing}
 use Rattle.contents.specs.Fields.{Is, IsPurpose, IsPayment, IsOwnAccount, IsParty, IsBic, IsAccount, IsTax, IsRpp, One, Then, Names, Beside, Customer, Details, Right}
 use Rattle.contents.specs.Tags.{heldBy}
@@ -32,9 +32,9 @@ some-just : {kind : ℕ → Bool} (n : ℕ) (s : Text) → Perhaps (Just kind n)
 some-just n s (inl e) = omega (arith, ap length e)
 some-just n s (inr j) = omega (arith, j .size)
 
-behind-size : (mark : String) (s : Text) → length (behind mark s) ≤ length (bytes mark) + length s
-behind-size mark [] = omega arith
-behind-size mark (x ∷ s) = omega (arith, length-append (bytes mark) (x ∷ s))
+mark-size : (mark : String) (s : Text) → length (withMark mark s) ≤ length (bytes mark) + length s
+mark-size mark [] = omega arith
+mark-size mark (x ∷ s) = omega (arith, length-append (bytes mark) (x ∷ s))
 
 reference-name : (l : Line) → Reference l → Name l
 reference-name l r = let z = r .size in record { least = z .least; most = omega arith }
@@ -57,7 +57,7 @@ party-name : (l : Line) → IsParty l → Name l
 party-name l (inl (bik, account, p)) =
     let e = simp length-append at (ap length (p .line)) in
     let c = p .code in
-    let b = behind-size "." account in
+    let b = mark-size "." account in
     let n = some-just 20 account (p .number) in
     record { least = omega arith; most = omega arith }
 party-name l (inr (account, p)) = let e = simp length-append at (ap length (p .line)) in let n = p .number in record { least = omega arith; most = omega arith }
@@ -88,7 +88,7 @@ rpp-name l (number, date, turn, way, value, p) =
     let d = p .day in
     let o = p .order in
     let w = way-size way (p .kind) in
-    let b = behind-size "." value in
+    let b = mark-size "." value in
     let v = some-just 6 value (p .due) in
     record { least = omega arith; most = omega arith }
 

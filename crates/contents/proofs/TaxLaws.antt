@@ -11,7 +11,7 @@ use Rattle.base.specs.Quoted.{bytes}
 use Rattle.contents.specs.Words.{Text, Digits, Perhaps}
 use Rattle.contents.specs.Lines.{Inn, TaxLine}
 use Rattle.contents.specs.Answers.{cut, InnSize, InnBy, TaxWith}
-use Rattle.contents.proofs.Laws.{Spot, spot, laid, Laid, made, behind-some}
+use Rattle.contents.proofs.Laws.{Spot, spot, laid, Laid, made, mark-some}
 
 inn-size : (twelve : Bool) (inn : Text) → Inn twelve inn → InnSize twelve (length inn) × Digits (length inn) inn
 inn-size true inn (inl p) = (inl (p .size), record { size = refl; each = p .each })
@@ -42,7 +42,7 @@ module _ (twelve : Bool) (inn kpp l : Text) (t : TaxLine twelve inn kpp l) where
   kpp-laid : Digits 9 kpp → Laid 0 (kpp-spots (length inn)) (bytes "INN" ∷ inn ∷ bytes ".KPP" ∷ kpp ∷ []) l
   kpp-laid d =
       laid (kpp-spots (length inn)) (bytes "INN" ∷ inn ∷ bytes ".KPP" ∷ kpp ∷ []) l (refl, refl, (refl, refl, (refl, refl, (d .size, omega arith, tt))))
-      (t .line ∙ rw (behind-some ".KPP" kpp (omega (arith, d .size))))
+      (t .line ∙ rw (mark-some ".KPP" kpp (omega (arith, d .size))))
 
 -- what the code tests
 pub record TaxTests (twelve : Bool) (n : ℕ) (l : Text) : Type 0 where
@@ -94,7 +94,7 @@ module _ (twelve : Bool) (l : Text) (n : ℕ) (b : InnBy twelve (length l) n) wh
     record {
       person = inn-made twelve n (cut 3 n l) (b .found z .0) d;
       reason = inr k;
-      line = made (kpp-spots n) l (refl, (refl, (refl, (omega arith, tax-long z off)))) ∙ rw (w, v, behind-some ".KPP" (cut (4 + (n + 3)) 9 l) (omega (arith, k .size)));
+      line = made (kpp-spots n) l (refl, (refl, (refl, (omega arith, tax-long z off)))) ∙ rw (w, v, mark-some ".KPP" (cut (4 + (n + 3)) 9 l) (omega (arith, k .size)));
     },
     d .size,
     k .size,

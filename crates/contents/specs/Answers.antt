@@ -98,22 +98,22 @@ BesideSaid twelve at ls held.Wrong = Not (Beside twelve ls)
 BesideSaid twelve at ls held.Plain = Not (Then LooksTax Any ls) × Names 4 ls
 BesideSaid twelve at ls (held.Taxed p inn kpp) = (p ≡ at) × Then (TaxWith twelve inn kpp) (Names 3) ls
 
-abbrev pub Behind : Bool → List Line → Held → Type 0
-Behind twelve [] r = ⊥
-Behind twelve (l ∷ ls) r = IsAccount l × BesideSaid twelve (length l + 2) ls r
+abbrev pub AccountFirst : Bool → List Line → Held → Type 0
+AccountFirst twelve [] r = ⊥
+AccountFirst twelve (l ∷ ls) r = IsAccount l × BesideSaid twelve (length l + 2) ls r
 
 abbrev pub CustomerSaid : Bool → List Line → Held → Type 0
 CustomerSaid twelve ls held.Wrong = Not (Customer twelve ls)
-CustomerSaid twelve ls held.Plain = Behind twelve ls held.Plain
-CustomerSaid twelve ls (held.Taxed p inn kpp) = Behind twelve ls (held.Taxed p inn kpp)
+CustomerSaid twelve ls held.Plain = AccountFirst twelve ls held.Plain
+CustomerSaid twelve ls (held.Taxed p inn kpp) = AccountFirst twelve ls (held.Taxed p inn kpp)
 
-abbrev pub Bare : List Line → Held → Type 0
-Bare ls r = Not (Then (BeginsWith "/") Any ls) × BesideSaid true 0 ls r
+abbrev pub NoAccount : List Line → Held → Type 0
+NoAccount ls r = Not (Then (BeginsWith "/") Any ls) × BesideSaid true 0 ls r
 
 abbrev pub PayerSaid : List Line → Held → Type 0
 PayerSaid ls held.Wrong = Not (Payer ls)
-PayerSaid ls held.Plain = Behind true ls held.Plain or Bare ls held.Plain
-PayerSaid ls (held.Taxed p inn kpp) = Behind true ls (held.Taxed p inn kpp) or Bare ls (held.Taxed p inn kpp)
+PayerSaid ls held.Plain = AccountFirst true ls held.Plain or NoAccount ls held.Plain
+PayerSaid ls (held.Taxed p inn kpp) = AccountFirst true ls (held.Taxed p inn kpp) or NoAccount ls (held.Taxed p inn kpp)
 
 -- ---- a line that begins with the VO code
 pub record VoFirst (sign : Bool) (l : Line) : Type 0 where

@@ -8,7 +8,7 @@ use lib.ListN.{length, take}
 use Rattle.base.specs.Bytes.{digit}
 use Rattle.base.specs.Quoted.{bytes}
 use Rattle.base.specs.Says.{Not, _or_}
-use Rattle.contents.specs.Words.{Text, Line, Size, Run, Some, Digits, Capitals, CapitalsOrDigits, Perhaps, join, behind, BeginsWith}
+use Rattle.contents.specs.Words.{Text, Line, Size, Run, Some, Digits, Capitals, CapitalsOrDigits, Perhaps, join, withMark, BeginsWith}
 
 -- C20: 1 to 16 bytes, no / first or last, no //, not + alone
 pub record Reference (l : Line) : Type 0 where
@@ -47,7 +47,7 @@ pub record PartyByBik (bik account : Text) (l : Line) : Type 0 where
   pub code : Digits 9 bik
   pub begins : take 2 bik ≡ bytes "04"
   pub number : Perhaps (Digits 20) account
-  pub line : l ≡ join (bytes "//RU" ∷ bik ∷ behind "." account ∷ [])
+  pub line : l ≡ join (bytes "//RU" ∷ bik ∷ withMark "." account ∷ [])
 
 -- or / and 20 digits
 pub record PartyByAccount (account : Text) (l : Line) : Type 0 where
@@ -76,7 +76,7 @@ Inn false inn = Digits 10 inn
 pub record TaxLine (twelve : Bool) (inn kpp : Text) (l : Line) : Type 0 where
   pub person : Inn twelve inn
   pub reason : Perhaps (Digits 9) kpp
-  pub line : l ≡ join (bytes "INN" ∷ inn ∷ behind ".KPP" kpp ∷ [])
+  pub line : l ≡ join (bytes "INN" ∷ inn ∷ withMark ".KPP" kpp ∷ [])
 
 -- a line in the tax place is one if it begins INN and a digit
 pub record BeginsTax (d : ℕ) (s : Text) (l : Line) : Type 0 where
@@ -97,7 +97,7 @@ pub record RppLine (number date turn way value : Text) (l : Line) : Type 0 where
   pub order : Digits 1 turn
   pub kind : Way way
   pub due : Perhaps (Digits 6) value
-  pub line : l ≡ join (bytes "/RPP/" ∷ number ∷ bytes "." ∷ date ∷ bytes "." ∷ turn ∷ bytes "." ∷ way ∷ behind "." value ∷ [])
+  pub line : l ≡ join (bytes "/RPP/" ∷ number ∷ bytes "." ∷ date ∷ bytes "." ∷ turn ∷ bytes "." ∷ way ∷ withMark "." value ∷ [])
 
 -- Cdetails: the VO code is (VO, five digits, ); with the sign '(VO, five digits, )'
 abbrev pub opening : Bool → Text

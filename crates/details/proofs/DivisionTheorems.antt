@@ -15,7 +15,7 @@ use Rattle.base.proofs.CallLaws.{one-answer}
 use Rattle.fields.specs.ByLines.{joined}
 use Rattle.details.specs.Lines.{together, none, line, Division, lines, Most}
 use Rattle.details.specs.Breaking.{opens, Fit, fits, unfit, last, breaks, pieces, cutBy, broken, steady}
-use Rattle.details.specs.Layouts.{Layout, layout, divided, DivisionIn, marked, behind, laid, linesOf, linesFor, laidFor, sizeOf, sizeFor, Lays}
+use Rattle.details.specs.Layouts.{Layout, layout, divided, DivisionIn, marked, laterBytes, laid, linesOf, linesFor, laidFor, sizeOf, sizeFor, Lays}
 use Rattle.details.specs.declared.Place.{Place}
 use Rattle.details.specs.declared.Place.the-variants.{In70, In72, BehindRpp}
 use Rattle.details.specs.declared.Size.{Size}
@@ -103,11 +103,11 @@ yet-divided =
 -- ---- the bytes of the lines are the lines joined by CR LF
 laid-joined : (v : Layout) (ls : List (List ℕ)) → laid v ls ≡ joined (marked v ls)
 laid-joined v [] = refl
-laid-joined v (l ∷ ls) = sym (append-assoc (v .mark) l (behind (v .next) ls)) ∙ go (v .mark ++ l) ls
+laid-joined v (l ∷ ls) = sym (append-assoc (v .mark) l (laterBytes (v .next) ls)) ∙ go (v .mark ++ l) ls
   where
-    go : (x : List ℕ) (ls : List (List ℕ)) → x ++ behind (v .next) ls ≡ joined (x ∷ map (λ (k : List ℕ). v .next ++ k) ls)
+    go : (x : List ℕ) (ls : List (List ℕ)) → x ++ laterBytes (v .next) ls ≡ joined (x ∷ map (λ (k : List ℕ). v .next ++ k) ls)
     go x [] = append-nil x
-    go x (l ∷ ls) = ap (λ (r : List ℕ). x ++ 13 ∷ 10 ∷ r) (sym (append-assoc (v .next) l (behind (v .next) ls)) ∙ go (v .next ++ l) ls)
+    go x (l ∷ ls) = ap (λ (r : List ℕ). x ++ 13 ∷ 10 ∷ r) (sym (append-assoc (v .next) l (laterBytes (v .next) ls)) ∙ go (v .next ++ l) ls)
 
 -- ---- the places
 steady-in : (p : Place) → steady (layout p .barred) (tail (layout p .widths)) ≡ true
@@ -116,7 +116,7 @@ steady-in In72 = refl
 steady-in BehindRpp = refl
 
 some-laid : {ok : ℕ → Bool} {least : ℕ} {text ws : List ℕ} {ls : List (List ℕ)} (v : Layout) → Division ok least text ws ls → 0 < length (laid v ls)
-some-laid v (lines {l = l} {ls = ls} z q w m j) = omega (arith, length-append (v .mark) (l ++ behind (v .next) ls), length-append l (behind (v .next) ls))
+some-laid v (lines {l = l} {ls = ls} z q w m j) = omega (arith, length-append (v .mark) (l ++ laterBytes (v .next) ls), length-append l (laterBytes (v .next) ls))
 
 -- what fits: its lines are a division, each has the most, and n counts the bytes of these lines with their marks
 pub record Fitted (p : Place) (least : ℕ) (text : List ℕ) (n : ℕ) : Type 0 where

@@ -15,7 +15,7 @@ use Rattle.base.specs.Calls.{placed}
 use Rattle.base.proofs.Bools.{pick-same}
 use Rattle.base.proofs.Room.{placed-not, placed-none}
 use Rattle.details.specs.Breaking.{opens, Fit, fits, unfit, last, part, pieces, cutBy, broken}
-use Rattle.details.specs.Layouts.{Layout, layout, divided, behind, laid, linesOf, laidFor, sizeOf, sizeFor, Lays}
+use Rattle.details.specs.Layouts.{Layout, layout, divided, laterBytes, laid, linesOf, laidFor, sizeOf, sizeFor, Lays}
 use Rattle.details.specs.Steps.{shapeOf, Small, barredBy, breaksIn, sizeOn, sizeBy, laidBy, wholeBy, RoomFor}
 use Rattle.details.specs.declared.Place.{Place}
 use Rattle.details.specs.declared.Place.the-variants.{In70, In72, BehindRpp}
@@ -30,16 +30,16 @@ module _ (text next : List ℕ) where
   abbrev sep : List ℕ
   sep = 13 ∷ 10 ∷ next
 
-  behind-laid : (e : ℕ) (es : List ℕ) → behind next (pieces text e es) ≡ sep ++ laidBy sep text e es
-  behind-laid e [] = ap (λ (l : List ℕ). sep ++ l) (append-nil (drop e text))
-  behind-laid e (t ∷ es) =
-      ap (λ (l : List ℕ). sep ++ l) (ap (λ (l : List ℕ). part e t text ++ l) (behind-laid t es) ∙ sym (append-assoc (part e t text) sep (laidBy sep text t es)))
+  later-laid : (e : ℕ) (es : List ℕ) → laterBytes next (pieces text e es) ≡ sep ++ laidBy sep text e es
+  later-laid e [] = ap (λ (l : List ℕ). sep ++ l) (append-nil (drop e text))
+  later-laid e (t ∷ es) =
+      ap (λ (l : List ℕ). sep ++ l) (ap (λ (l : List ℕ). part e t text ++ l) (later-laid t es) ∙ sym (append-assoc (part e t text) sep (laidBy sep text t es)))
 
   pieces-laid : (v : Layout) (es : List ℕ) → v .next ≡ next → laid v (pieces text 0 es) ≡ v .mark ++ laidBy sep text 0 es
   pieces-laid v [] f = ap (λ (l : List ℕ). v .mark ++ l) (append-nil text)
   pieces-laid v (e ∷ es) f =
-      ap (λ (n : List ℕ). v .mark ++ (part 0 e text ++ behind n (pieces text e es))) f
-      ∙ ap (λ (l : List ℕ). v .mark ++ l) (ap (λ (l : List ℕ). part 0 e text ++ l) (behind-laid e es) ∙ sym (append-assoc (part 0 e text) sep (laidBy sep text e es)))
+      ap (λ (n : List ℕ). v .mark ++ (part 0 e text ++ laterBytes n (pieces text e es))) f
+      ∙ ap (λ (l : List ℕ). v .mark ++ l) (ap (λ (l : List ℕ). part 0 e text ++ l) (later-laid e es) ∙ sym (append-assoc (part 0 e text) sep (laidBy sep text e es)))
 
 size-laid : {ok : ℕ → Bool} {text ws es : List ℕ} {low high : ℕ} (sep : List ℕ) (from n k : ℕ) → Took ok text low high ws es → from ≤ low → low < length text → k + (length text - from) ≡ n
     → sizeOn n (length sep) es ≡ k + length (laidBy sep text from es)

@@ -39,13 +39,13 @@ marked v [] = []
 marked v (l ∷ ls) = (v .mark ++ l) ∷ map (λ (k : List ℕ). v .next ++ k) ls
 
 -- the bytes of the lines in a field: each later one stands behind CR LF and its mark
-abbrev pub behind : List ℕ → List (List ℕ) → List ℕ
-behind next [] = []
-behind next (l ∷ ls) = (13 ∷ 10 ∷ next) ++ (l ++ behind next ls)
+abbrev pub laterBytes : List ℕ → List (List ℕ) → List ℕ
+laterBytes next [] = []
+laterBytes next (l ∷ ls) = (13 ∷ 10 ∷ next) ++ (l ++ laterBytes next ls)
 
 abbrev pub laid : Layout → List (List ℕ) → List ℕ
 laid v [] = []
-laid v (l ∷ ls) = v .mark ++ (l ++ behind (v .next) ls)
+laid v (l ∷ ls) = v .mark ++ (l ++ laterBytes (v .next) ls)
 
 abbrev pub linesOf : Fit (List (List ℕ)) → List (List ℕ)
 linesOf (fits ls) = ls

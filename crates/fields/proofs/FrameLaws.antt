@@ -28,7 +28,7 @@ module _ (m : List ℕ) where
   unfolding framed
   framed-is e =
       record {
-        behind = drop 5 m;
+        rest = drop 5 m;
         starts = sym (take-append-drop 5 m) ∙ ap (λ (k : List ℕ). k ++ drop 5 m) (same-is (take 5 m) opening (left (same (take 5 m) opening) _ e));
         front = take (length m - 4) m;
         ends =
@@ -45,7 +45,7 @@ module _ (m : List ℕ) where
 
   pub framed-long : Framed m → 7 ≤ length m
   framed-long w =
-      let h = front-long (w .front) (w .behind) (sym (w .starts) ∙ w .ends) in
+      let h = front-long (w .front) (w .rest) (sym (w .starts) ∙ w .ends) in
       let e = ap length (w .ends) ∙ length-append (w .front) (13 ∷ 10 ∷ closing) in
       omega arith
 
@@ -143,7 +143,7 @@ module _ (m : List ℕ) (w : Framed m) where
       let c : drop (length m - 7) (drop 5 m) ≡ closing =
       drop-drop (length m - 7) 5 m ∙ ap (λ (j : ℕ). drop j m) p ∙ sym (drop-drop 2 (length m - 4) m) ∙ ap (drop 2) (last-four m w) in
       let b : body m ++ closing ≡ drop 5 m = ap (λ (k : List ℕ). take (length m - 7) (drop 5 m) ++ k) (sym c) ∙ take-append-drop (length m - 7) (drop 5 m) in
-      let s : drop 5 m ≡ w .behind = ap (drop 5) (w .starts) in
+      let s : drop 5 m ≡ w .rest = ap (drop 5) (w .starts) in
       ap (λ (k : List ℕ). opening ++ k) (b ∙ s) ∙ sym (w .starts)
 
 -- ---- 4

@@ -22,10 +22,10 @@ use Rattle.fields.proofs.PlaceLaws.{laid-joined}
 
 -- ---- 2
 laid-framed : (ls : List (List ℕ)) → Framed (opening ++ (laid ls ++ closing))
-laid-framed [] = record { behind = closing; starts = refl; front = 123 ∷ 52 ∷ 58 ∷ []; ends = refl }
+laid-framed [] = record { rest = closing; starts = refl; front = 123 ∷ 52 ∷ 58 ∷ []; ends = refl }
 laid-framed (l ∷ ls) =
     record {
-      behind = laid (l ∷ ls) ++ closing;
+      rest = laid (l ∷ ls) ++ closing;
       starts = refl;
       front = opening ++ joined (l ∷ ls);
       ends = ap (λ (x : List ℕ). opening ++ x) (ap (λ (x : List ℕ). x ++ closing) (laid-joined l ls) ∙ append-assoc (joined (l ∷ ls)) (13 ∷ 10 ∷ []) closing);

@@ -13,8 +13,8 @@ use Rattle.fields.specs.Shapes.{proper}
 
 -- ---- 2: {4: CR LF stands at the start, and CR LF -} at the end
 pub record Framed (m : List ℕ) : Type 0 where
-  pub behind : List ℕ
-  pub starts : m ≡ opening ++ behind
+  pub rest : List ℕ
+  pub starts : m ≡ opening ++ rest
   pub front : List ℕ
   pub ends : m ≡ front ++ 13 ∷ 10 ∷ closing
 

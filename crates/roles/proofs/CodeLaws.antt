@@ -29,7 +29,7 @@ use Rattle.fields.proofs.PlaceLaws.{joined-length}
 use Rattle.contents.specs.Tests.{numbered, looksTax}
 use Rattle.contents.specs.Parts.{opensRpp}
 use Rattle.roles.specs.Role.{Part, copy, name, taxName, lineOf, shapeOf, cast}
-use Rattle.roles.specs.Speech.{Manner, asName, asTaxName, asDetails, Speech, speech, saidAt, names, behind, details, codeSize, noted, speeches}
+use Rattle.roles.specs.Speech.{Manner, asName, asTaxName, asDetails, Speech, speech, saidAt, names, laterText, details, codeSize, noted, speeches}
 use Rattle.roles.specs.Rule14.{mute, hidden, isInn, taxLike, clauses, breaks, unheard, texts, spoken}
 use Rattle.roles.specs.Found.{muteIn, breaksIn, found, brokenIn, verdictAt}
 use Rattle.roles.specs.declared.Shape.{Shape}
@@ -109,7 +109,7 @@ names-moved o i (p ∷ ps) =
 details-moved : (front mark o i : ℕ) (ls : List (List ℕ)) → details front mark (o + i) ls ≡ map (moved o) (details front mark i ls)
 unfolding details
 details-moved front mark o i [] = refl
-details-moved front mark o i (l ∷ ls) = ap (λ (k : ℕ). speech asDetails k (drop front l ++ behind mark ls) ∷ []) (go (ltb front (length l)))
+details-moved front mark o i (l ∷ ls) = ap (λ (k : ℕ). speech asDetails k (drop front l ++ laterText mark ls) ∷ []) (go (ltb front (length l)))
   where
     go : (q : Bool) → pick q (o + i + front) (o + i + (length l + 2 + mark)) ≡ o + pick q (i + front) (i + (length l + 2 + mark))
     go true = omega arith

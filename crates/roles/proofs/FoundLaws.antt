@@ -20,7 +20,7 @@ use Rattle.fields.specs.Lines.{split, linesIn}
 use Rattle.contents.specs.Tests.{looksTax}
 use Rattle.contents.specs.Parts.{opensRpp}
 use Rattle.roles.specs.Role.{copy, name, taxName, shapeOf, taxed, cast}
-use Rattle.roles.specs.Speech.{asName, asTaxName, names, behind, detailsStart, details, noted, speeches}
+use Rattle.roles.specs.Speech.{asName, asTaxName, names, laterText, detailsStart, details, noted, speeches}
 use Rattle.roles.specs.Found.{linesPast, muteIn, breaksIn, found, brokenIn, castFrom, lineBreaks, detailsText, muteAfter}
 use Rattle.roles.specs.declared.Shape.{Shape}
 use Rattle.roles.specs.declared.Shape.the-variants.{Plain, Payer, Payee, Agent, Details, Note103, Note202}
@@ -153,13 +153,13 @@ pub mute-start : (p : Piece) → muteIn p ≡ muteAfter false p
 mute-start (Read n s) = refl
 mute-start (Stops k) = refl
 
-later-details : (mark : ℕ) (ls : List (List ℕ)) → behind mark ls ≡ detailsText mark mark ls
-unfolding behind
+later-details : (mark : ℕ) (ls : List (List ℕ)) → laterText mark ls ≡ detailsText mark mark ls
+unfolding laterText
 later-details mark [] = refl
 later-details mark (l ∷ ls) = refl
 
 pub mute-past : (t c : List ℕ) (from front mark : ℕ) → length c < from → true ≡ muteIn (pieceIn t false (detailsText front mark (linesIn (drop from c))))
-unfolding pieceIn behind split
+unfolding pieceIn laterText split
 mute-past t c from front mark h =
     sym (ap (λ (d : List ℕ). muteIn (pieceIn t false (detailsText front mark (linesIn d)))) (drop-of-length-le c {i = from} (omega arith))
     ∙ ap (λ (d : List ℕ). muteIn (pieceIn t false (d ++ []))) (drop-nil front))

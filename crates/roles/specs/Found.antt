@@ -15,7 +15,7 @@ use Rattle.alphabets.specs.declared.pieces.Piece.the-variants.{Read, Stops}
 use Rattle.fields.specs.Lines.{linesIn}
 use Rattle.contents.specs.Tests.{looksTax}
 use Rattle.roles.specs.Role.{Part, name, shapeOf, taxed}
-use Rattle.roles.specs.Speech.{Manner, asName, asTaxName, Speech, speech, behind, speeches}
+use Rattle.roles.specs.Speech.{Manner, asName, asTaxName, Speech, speech, laterText, speeches}
 use Rattle.roles.specs.Rule14.{clauses}
 use Rattle.roles.specs.declared.Spot.{Spot}
 use Rattle.roles.specs.declared.Spot.the-variants.{Nowhere, At}
@@ -56,7 +56,7 @@ lineBreaks t tax l = pick tax (pick (looksTax l) false (breaksIn t asTaxName l))
 -- the text of details
 abbrev pub detailsText : ℕ → ℕ → List (List ℕ) → List ℕ
 detailsText front mark [] = []
-detailsText front mark (l ∷ ls) = drop front l ++ behind mark ls
+detailsText front mark (l ∷ ls) = drop front l ++ laterText mark ls
 
 -- mute behind a text that has some signs or none
 abbrev pub muteAfter : Bool → Piece → Bool

@@ -28,9 +28,9 @@ names o [] = []
 names o (p ∷ ps) = saidAt o p ++ names (o + length (lineOf p) + 2) ps
 
 -- ---- details: one text, what stands behind `front` bytes of the first line and `mark` bytes of each later one
-unfoldable pub behind : ℕ → List (List ℕ) → List ℕ
-behind mark [] = []
-behind mark (l ∷ ls) = drop mark l ++ behind mark ls
+unfoldable pub laterText : ℕ → List (List ℕ) → List ℕ
+laterText mark [] = []
+laterText mark (l ∷ ls) = drop mark l ++ laterText mark ls
 
 -- where the front ends its line, the text begins in the next
 abbrev pub detailsStart : ℕ → ℕ → ℕ → List ℕ → ℕ
@@ -38,7 +38,7 @@ detailsStart front mark o l = pick (ltb front (length l)) (o + front) (o + (leng
 
 unfoldable pub details : ℕ → ℕ → ℕ → List (List ℕ) → List Speech
 details front mark o [] = []
-details front mark o (l ∷ ls) = speech asDetails (detailsStart front mark o l) (drop front l ++ behind mark ls) ∷ []
+details front mark o (l ∷ ls) = speech asDetails (detailsStart front mark o l) (drop front l ++ laterText mark ls) ∷ []
 
 -- the VO code, with the sign and without
 abbrev pub codeSize : Bool → ℕ

@@ -32,7 +32,7 @@ use Rattle.contents.specs.Parts.{opensRpp}
 use Rattle.roles.specs.Role.{shapeOf, Part, copy, name, taxName, lineOf, cast}
 use Rattle.roles.specs.Parts.{castBy, named, nextRole}
 use Rattle.roles.specs.Speech as speech
-use Rattle.roles.specs.Speech.{Manner, asDetails, asTaxName, Speech, names, behind, codeSize, speeches}
+use Rattle.roles.specs.Speech.{Manner, asDetails, asTaxName, Speech, names, laterText, codeSize, speeches}
 use Rattle.roles.specs.Rule14.{mute, clauses, breaks, spoken as texts}
 use Rattle.roles.specs.Sentences.{Heard}
 use Rattle.roles.specs.declared.Shape.{Shape}
@@ -118,8 +118,8 @@ abbrev run : List (List ℕ) → List ℕ
 run [] = []
 run (p ∷ ps) = p ++ run ps
 
-behind-run : (mark : ℕ) (ls : List (List ℕ)) → behind mark ls ≡ run (map (drop mark) ls)
-unfolding behind
+behind-run : (mark : ℕ) (ls : List (List ℕ)) → laterText mark ls ≡ run (map (drop mark) ls)
+unfolding laterText
 behind-run mark [] = refl
 behind-run mark (l ∷ ls) = ap (λ (x : List ℕ). drop mark l ++ x) (behind-run mark ls)
 
@@ -166,12 +166,12 @@ over-reads false ps w = over-plain false ps ∙ plain-whole (run ps) w
 -- ---- contents
 abbrev pub DetailsSpeak : Bool → ℕ → ℕ → List (List ℕ) → Type 0
 DetailsSpeak s front mark [] = Unit {0}
-DetailsSpeak s front mark (l ∷ ls) = Speaks s (drop front l ++ behind mark ls)
+DetailsSpeak s front mark (l ∷ ls) = Speaks s (drop front l ++ laterText mark ls)
 
 details-same : (s : Bool) (first mark : ℕ) (ls : List (List ℕ)) → DetailsSpeak s (first + codeSize s) mark ls → detailsBy codes s first mark ls ≡ detailsParts s first mark ls
 details-same s first mark [] w = refl
 details-same s first mark (l ∷ ls) w =
-    let e : drop (first + codeSize s) l ++ behind mark ls ≡ run (cutBy (first + codeSize s) mark (l ∷ ls)) = ap (λ (x : List ℕ). drop (first + codeSize s) l ++ x) (behind-run mark ls) in
+    let e : drop (first + codeSize s) l ++ laterText mark ls ≡ run (cutBy (first + codeSize s) mark (l ∷ ls)) = ap (λ (x : List ℕ). drop (first + codeSize s) l ++ x) (behind-run mark ls) in
     ap (λ (x : List ℕ). codeDigits s (drop first l) ∷ x ∷ []) (over-reads s (cutBy (first + codeSize s) mark (l ∷ ls)) (subst (Speaks s) e w) ∙ ap (λ (x : List ℕ). textOf (reading s x)) (sym e))
 
 pub record Noted (s : Bool) (l : List ℕ) (ls : List (List ℕ)) : Type 0 where
@@ -226,7 +226,7 @@ names-read o (taxName p ∷ xs) h = (heard-speaks asTaxName p (h .0), names-read
 details-heard : (front mark o : ℕ) (ls : List (List ℕ)) → Heard (speech.details front mark o ls) → DetailsSpeak true front mark ls
 unfolding speech.details
 details-heard front mark o [] h = tt
-details-heard front mark o (l ∷ ls) h = heard-speaks asDetails (drop front l ++ behind mark ls) (h .0)
+details-heard front mark o (l ∷ ls) h = heard-speaks asDetails (drop front l ++ laterText mark ls) (h .0)
 
 signed-readable : (sh : Shape) (o : ℕ) (ls : List (List ℕ)) → Heard (speeches true sh o ls) → Readable true sh ls
 unfolding speeches speech.noted
@@ -257,15 +257,15 @@ drop-in zero b e = e
 drop-in (suc n) [] e = refl
 drop-in (suc n) (x ∷ b) e = drop-in n b (right (xset x) (all xset b) e)
 
-behind-in : (mark : ℕ) (ls : List (List ℕ)) → all (all xset) ls ≡ true → all xset (behind mark ls) ≡ true
-unfolding behind
-behind-in mark [] e = refl
-behind-in mark (l ∷ ls) e = all-append xset (drop mark l) (behind mark ls) (drop-in mark l (left (all xset l) _ e)) (behind-in mark ls (right (all xset l) _ e))
+later-in : (mark : ℕ) (ls : List (List ℕ)) → all (all xset) ls ≡ true → all xset (laterText mark ls) ≡ true
+unfolding laterText
+later-in mark [] e = refl
+later-in mark (l ∷ ls) e = all-append xset (drop mark l) (laterText mark ls) (drop-in mark l (left (all xset l) _ e)) (later-in mark ls (right (all xset l) _ e))
 
 details-in : (front mark : ℕ) (ls : List (List ℕ)) → all (all xset) ls ≡ true → DetailsSpeak false front mark ls
 details-in front mark [] e = tt
 details-in front mark (l ∷ ls) e =
-    plain-speaks (drop front l ++ behind mark ls) (all-append xset (drop front l) (behind mark ls) (drop-in front l (left (all xset l) _ e)) (behind-in mark ls (right (all xset l) _ e)))
+    plain-speaks (drop front l ++ laterText mark ls) (all-append xset (drop front l) (laterText mark ls) (drop-in front l (left (all xset l) _ e)) (later-in mark ls (right (all xset l) _ e)))
 
 cast-in : (sh : Shape) (ls : List (List ℕ)) → all (all xset) ls ≡ true → AllRead false (cast sh ls)
 cast-in sh ls e = lines-read (cast sh ls) (ap (all (all xset)) (same-lines sh ls) ∙ e)

@@ -13,7 +13,7 @@ use Rattle.types.specs.declared.Form.the-variants.{Other, Mt103, Mt202}
 use Rattle.types.specs.Sign.{signOf}
 use Rattle.contents.specs.Parts.{opensRpp}
 use Rattle.roles.specs.Role.{shapeOf, Part, copy, name, taxName, cast}
-use Rattle.roles.specs.Speech.{codeSize, behind}
+use Rattle.roles.specs.Speech.{codeSize, laterText}
 use Rattle.roles.specs.declared.Shape.{Shape}
 use Rattle.roles.specs.declared.Shape.the-variants.{Plain, Payer, Payee, Agent, Details, Note103, Note202}
 use Rattle.records.specs.Record.{Record, sheet}
@@ -33,7 +33,7 @@ codeDigits false l = take 5 (drop 3 l)
 -- VO digits and text, of lines behind `first` bytes of mark in the first and `mark` bytes in each later one
 abbrev pub detailsParts : Bool → ℕ → ℕ → List (List ℕ) → List (List ℕ)
 detailsParts s first mark [] = []
-detailsParts s first mark (l ∷ ls) = codeDigits s (drop first l) ∷ textOf (reading s (drop (first + codeSize s) l ++ behind mark ls)) ∷ []
+detailsParts s first mark (l ∷ ls) = codeDigits s (drop first l) ∷ textOf (reading s (drop (first + codeSize s) l ++ laterText mark ls)) ∷ []
 
 -- 72 of a 202: what follows /RPP/ or an empty part, then VO digits and text
 abbrev pub noteParts : Bool → List (List ℕ) → List (List ℕ)

@@ -130,10 +130,10 @@ code-text-back p s vo w d h =
     let ls : List (List ℕ) = map (λ (k : List ℕ). layout p .next ++ k) (h .behind) in
     let number : codeDigits s (drop (markOf p) l) ≡ vo =
     ap (codeDigits s) (mark-dropped p (h .front)) ∙ digits-in s (h .front) (together (h .behind)) (h .code) ∙ ap (codeDigits s) (h .joins) ∙ digits-back s vo w d in
-    let text : drop (frontOf p s) l ++ speech.behind (nextOf p) ls ≡ w =
+    let text : drop (frontOf p s) l ++ speech.laterText (nextOf p) ls ≡ w =
     ap textIn (ap (speech.details (frontOf p s) (nextOf p) 0) (sym (h .is)) ∙ details-again p s vo w 0 d h .1) in
     ap (detailsParts s (markOf p) (nextOf p)) (h .is)
-    ∙ ap (λ (n : ℕ). codeDigits s (drop (markOf p) l) ∷ textOf (reading s (drop n l ++ speech.behind (nextOf p) ls)) ∷ []) (mark-and-code p s)
+    ∙ ap (λ (n : ℕ). codeDigits s (drop (markOf p) l) ∷ textOf (reading s (drop n l ++ speech.laterText (nextOf p) ls)) ∷ []) (mark-and-code p s)
     ∙ ap₂ (λ (v t : List ℕ). v ∷ textOf (reading s t) ∷ []) number text
 
 -- with the text that is written

@@ -19,7 +19,7 @@ use Rattle.base.specs.Says.{Not}
 use Rattle.base.proofs.Bools.{left, right, both}
 use Rattle.base.specs.Examples.{AllHold}
 use Rattle.fields.specs.Shapes.{goesOn}
-use Rattle.contents.specs.Words.{Size, join, behind}
+use Rattle.contents.specs.Words.{Size, join, withMark}
 use Rattle.contents.specs.Lines.{opening, closing}
 use Rattle.contents.specs.Fields as fields
 use Rattle.contents.specs.Fields.{One, IsRpp, Details, RppAndDetails}
@@ -162,7 +162,7 @@ details-lines BehindRpp s ls d g = details-by as-behind s (d .3) g
 -- ---- an RPP line, and nothing or details behind it
 pub rpp-line : (l : List ℕ) → IsRpp l → (r : List ℕ) × (l ≡ rppLine r) × (empty r ≡ false)
 rpp-line l (number, date, turn, way, value, d) =
-    let r : List ℕ = join (bytes "." ∷ date ∷ bytes "." ∷ turn ∷ bytes "." ∷ way ∷ behind "." value ∷ []) in
+    let r : List ℕ = join (bytes "." ∷ date ∷ bytes "." ∷ turn ∷ bytes "." ∷ way ∷ withMark "." value ∷ []) in
     (number ++ r, d .line, go number r (d .serial .least))
   where
     go : (a b : List ℕ) → 1 ≤ length a → empty (a ++ b) ≡ false

@@ -101,7 +101,7 @@ module _ {p : Place} {s : Bool} {ls : List (List ℕ)} (w : DetailsOver p s ls) 
   front-text = drop-append-add (layout p .mark) (code s (w .vo) ++ w .text) (codeSize s) ∙ behind-code s (w .vo) (w .text) (w .five)
 
   -- behind the marks and the code stands the text
-  whole-text : drop (markSize p + codeSize s) (layout p .mark ++ (code s (w .vo) ++ w .text)) ++ speech.behind (nextSize p) (map (λ (k : List ℕ). layout p .next ++ k) (w .texts)) ≡ whole
+  whole-text : drop (markSize p + codeSize s) (layout p .mark ++ (code s (w .vo) ++ w .text)) ++ speech.laterText (nextSize p) (map (λ (k : List ℕ). layout p .next ++ k) (w .texts)) ≡ whole
   whole-text = ap₂ (λ (a b : List ℕ). a ++ b) front-text (unmarked (layout p .next) (w .texts))
 
   details-parts : detailsParts s (markSize p) (nextSize p) ls ≡ w .vo ∷ textOf (reading s whole) ∷ []

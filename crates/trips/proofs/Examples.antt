@@ -93,11 +93,11 @@ there-and-back form m s n e h (r, t, w) v = (
 
 -- ---- the trips with short texts
 all-fine : (verdictOf Mt103 (bytes sample) ≡ Fine) × (verdictOf Mt202 (bytes plain202) ≡ Fine) × (verdictOf Mt103 (bytes otherwise103) ≡ Fine) × (verdictOf Mt103 (bytes best103) ≡ Fine)
-unfolding verdictOf rule18 places103 places202 long rule1 framed body same rule2 scan xset isIn digit capital letter marks shared rule3 cut tagged lineBad badLine rule4 upto past grouped fields find wrong walk walked signOf firstWrong rightField rule8 onward leap daysIn isDay yearOf realDay dated payment parties tests.looksTax taxes valuesOf firstBad rule9 rule10 rule11 rule12 rule13 spoken speeches names details noted speeches-of.behind shapeOf heldBy tags103 tags202 cast hidden isInn taxLike breaks unheard rule14 grid signs.sign reads capitalOrDigit tests.lead tests.ends tests.pair tests.isReference tests.isPurpose tests.isPayment tests.isOwnAccount tests.isPartyByBik tests.isParty tests.isBic tests.isAccount tests.isTax tests.isRpp tests.details tests.right rppDates customerTaxes payerTaxes
+unfolding verdictOf rule18 places103 places202 long rule1 framed body same rule2 scan xset isIn digit capital letter marks shared rule3 cut tagged lineBad badLine rule4 upto past grouped fields find wrong walk walked signOf firstWrong rightField rule8 onward leap daysIn isDay yearOf realDay dated payment parties tests.looksTax taxes valuesOf firstBad rule9 rule10 rule11 rule12 rule13 spoken speeches names details noted speeches-of.laterText shapeOf heldBy tags103 tags202 cast hidden isInn taxLike breaks unheard rule14 grid signs.sign reads capitalOrDigit tests.lead tests.ends tests.pair tests.isReference tests.isPurpose tests.isPayment tests.isOwnAccount tests.isPartyByBik tests.isParty tests.isBic tests.isAccount tests.isTax tests.isRpp tests.details tests.right rppDates customerTaxes payerTaxes
 all-fine = (refl, refl, refl, refl)
 
 all-read : (sheetOf Mt103 (bytes sample) ≡ desk sheet103) × (sheetOf Mt202 (bytes plain202) ≡ desk plainSheet) × (sheetOf Mt103 (bytes otherwise103) ≡ desk otherwiseSheet)
-unfolding sheetOf recordsOf gather contentParts body cut upto past grouped fields signOf shapeOf heldBy tags103 tags202 cast tests.looksTax same isIn digit speeches-of.behind plainly xset reads signs.sign grid marks capital letter shared
+unfolding sheetOf recordsOf gather contentParts body cut upto past grouped fields signOf shapeOf heldBy tags103 tags202 cast tests.looksTax same isIn digit speeches-of.laterText plainly xset reads signs.sign grid marks capital letter shared
 all-read = (refl, refl, refl)
 
 all-written : Written Mt103 (desk sheet103) (bytes sample) × Written Mt202 (desk plainSheet) (bytes plain202) × Written Mt202 (desk signedSheet) (bytes signed202)
@@ -124,7 +124,7 @@ signed-easy e =
     }
 
 signed-texts : spoken Mt202 5 (fields (bytes signed202)) ≡ speech asName 120 (bytes "SBERBANK 'OOO'") ∷ speech asDetails 185 (bytes "PEREVOD SREDSTV PO DOGOVORU 'A'") ∷ []
-unfolding spoken speeches names details noted speeches-of.behind shapeOf heldBy tags103 tags202 cast tests.looksTax same digit body cut upto past grouped fields isIn
+unfolding spoken speeches names details noted speeches-of.laterText shapeOf heldBy tags103 tags202 cast tests.looksTax same digit body cut upto past grouped fields isIn
 signed-texts = refl
 
 signed-14 : rule14 Mt202 (fields (bytes signed202)) ≡ Fine
@@ -142,7 +142,7 @@ signed-with a b =
     ∷ field (bytes "72") (bytes "7.240301.5.ELEK.240301" ∷ bytes "10100" ∷ textOf b ∷ []) ∷ [])
 
 signed-sheet : sheetOf Mt202 (bytes signed202) ≡ desk signedSheet
-unfolding sheetOf recordsOf gather contentParts body cut upto past grouped fields signOf shapeOf heldBy tags103 tags202 cast tests.looksTax same isIn digit speeches-of.behind
+unfolding sheetOf recordsOf gather contentParts body cut upto past grouped fields signOf shapeOf heldBy tags103 tags202 cast tests.looksTax same isIn digit speeches-of.laterText
 signed-sheet = ap₂ signed-with (signed-reads .0) (signed-reads .1)
 
 signed-fine : verdictOf Mt202 (bytes signed202) ≡ Fine
@@ -188,7 +188,7 @@ idle-fields = refl
 
 idle-texts : spoken Mt103 5 (fore ++ field (bytes "70") (dashed ∷ bytes "''--" ∷ []) ∷ aft)
     ≡ speech asTaxName 61 (bytes "'NORD'") ∷ speech asTaxName 126 (bytes "OOO PoTR") ∷ speech asDetails 151 (replicate 23 45 ++ bytes "''--") ∷ []
-unfolding spoken speeches names details speeches-of.behind shapeOf heldBy tags103 cast tests.looksTax same digit
+unfolding spoken speeches names details speeches-of.laterText shapeOf heldBy tags103 cast tests.looksTax same digit
 idle-texts = refl
 
 names-heard : (breaks asTaxName (bytes "'NORD'") ≡ false) × (breaks asTaxName (bytes "OOO PoTR") ≡ false)
@@ -212,7 +212,7 @@ idle-fine : verdictOf Mt103 (bytes idle) ≡ Fine
 idle-fine = rules-accepted Mt103 (bytes idle) (idle-easy idle-14)
 
 -- ---- its sheet
-details-record : (form : Form) (t l : List ℕ) (ls : List (List ℕ)) (b d : List ℕ) → shapeOf form t ≡ Details → drop 11 l ++ speeches-of.behind 0 ls ≡ b → reads false b ≡ said d
+details-record : (form : Form) (t l : List ℕ) (ls : List (List ℕ)) (b d : List ℕ) → shapeOf form t ≡ Details → drop 11 l ++ speeches-of.laterText 0 ls ≡ b → reads false b ≡ said d
     → recordFor form true (field t (l ∷ ls)) ≡ field t (codeDigits true l ∷ d ∷ [])
 unfolding contentParts
 details-record form t l ls b d e h r =
@@ -236,8 +236,8 @@ is-details : shapeOf Mt103 (bytes "70") ≡ Details
 unfolding shapeOf heldBy tags103 same
 is-details = refl
 
-is-text : drop 11 dashed ++ speeches-of.behind 0 (bytes "''--" ∷ []) ≡ replicate 23 45 ++ bytes "''--"
-unfolding speeches-of.behind
+is-text : drop 11 dashed ++ speeches-of.laterText 0 (bytes "''--" ∷ []) ≡ replicate 23 45 ++ bytes "''--"
+unfolding speeches-of.laterText
 is-text = refl
 
 idle-record : recordFor Mt103 true (field (bytes "70") (dashed ∷ bytes "''--" ∷ [])) ≡ field (bytes "70") (codeDigits true dashed ∷ (replicate 23 45 ++ bytes "--") ∷ [])

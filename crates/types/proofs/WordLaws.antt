@@ -22,7 +22,7 @@ use Rattle.types.specs.Walk.{optional, find, walk, walked, word, present
 use Rattle.base.specs.Bits.{bit}
 use Rattle.types.proofs.WalkLaws.{seated, accepted-iff}
 use Rattle.base.proofs.BitLaws.{ones-0, ones-under, under, lower, bit-0, bit-under}
-use Rattle.types.specs.Sentences.{placeAt, AllRight, behind, Accepted, placeOfField, Present, Sound}
+use Rattle.types.specs.Sentences.{placeAt, AllRight, nextPlace, Accepted, placeOfField, Present, Sound}
 
 -- ---- the fields of an accepted walk
 pub few : (ps : List Place) (next : ℕ) (fs : List Field) → next ≤ length ps → AllRight ps next fs → next + length fs ≤ length ps
@@ -125,7 +125,7 @@ word-ones ps next (f ∷ fs) r =
     ap (λ (x : ℕ). ones (2 ^ q + x)) (m .1) ∙ ones-under q (m .0) ∙ ap (λ (x : ℕ). suc (ones x)) (sym (m .1)) ∙ ap suc (word-ones ps (suc q) fs (r .1))
 
 -- and all below the place behind the last
-word-under : (ps : List Place) (next : ℕ) (fs : List Field) → AllRight ps next fs → word ps fs + 2 ^ next ≤ 2 ^ behind ps next fs
+word-under : (ps : List Place) (next : ℕ) (fs : List Field) → AllRight ps next fs → word ps fs + 2 ^ next ≤ 2 ^ nextPlace ps next fs
 unfolding word
 word-under ps next [] r = omega arith
 word-under ps next (f ∷ fs) r =
@@ -136,12 +136,12 @@ word-under ps next (f ∷ fs) r =
     let i = word-under ps (suc q) fs (r .1) in
     omega arith
 
-behind-within : (ps : List Place) (next : ℕ) (fs : List Field) → next ≤ length ps → AllRight ps next fs → behind ps next fs ≤ length ps
-behind-within ps next [] h r = h
-behind-within ps next (f ∷ fs) h r = behind-within ps (suc (find ps (tagOf f))) fs (seated ps next (tagOf f) (r .0) .within) (r .1)
+next-within : (ps : List Place) (next : ℕ) (fs : List Field) → next ≤ length ps → AllRight ps next fs → nextPlace ps next fs ≤ length ps
+next-within ps next [] h r = h
+next-within ps next (f ∷ fs) h r = next-within ps (suc (find ps (tagOf f))) fs (seated ps next (tagOf f) (r .0) .within) (r .1)
 
 pub word-below : (ps : List Place) (next : ℕ) (fs : List Field) → next ≤ length ps → AllRight ps next fs → word ps fs < 2 ^ length ps
-word-below ps next fs h r = omega (arith, word-under ps next fs r, pow-pos next, pow-mono (behind-within ps next fs h r))
+word-below ps next fs h r = omega (arith, word-under ps next fs r, pow-pos next, pow-mono (next-within ps next fs h r))
 
 -- ---- the fields before field k: their bits are those below its place
 right-before : (ps : List Place) (next : ℕ) (fs : List Field) (k : ℕ) → AllRight ps next fs → AllRight ps next (take k fs)
@@ -149,10 +149,10 @@ right-before ps next fs zero r = tt
 right-before ps next [] (suc k) r = tt
 right-before ps next (f ∷ fs) (suc k) r = (r .0, right-before ps (suc (find ps (tagOf f))) fs k (r .1))
 
-behind-before : (ps : List Place) (next : ℕ) (fs : List Field) (k : ℕ) → AllRight ps next fs → k < length fs → behind ps next (take k fs) ≤ placeOfField ps fs k
-behind-before ps next [] k r h = absurd (omega arith)
-behind-before ps next (f ∷ fs) zero r h = seated ps next (tagOf f) (r .0) .low
-behind-before ps next (f ∷ fs) (suc k) r h = behind-before ps (suc (find ps (tagOf f))) fs k (r .1) (omega arith)
+next-before : (ps : List Place) (next : ℕ) (fs : List Field) (k : ℕ) → AllRight ps next fs → k < length fs → nextPlace ps next (take k fs) ≤ placeOfField ps fs k
+next-before ps next [] k r h = absurd (omega arith)
+next-before ps next (f ∷ fs) zero r h = seated ps next (tagOf f) (r .0) .low
+next-before ps next (f ∷ fs) (suc k) r h = next-before ps (suc (find ps (tagOf f))) fs k (r .1) (omega arith)
 
 word-parts : (ps : List Place) (next : ℕ) (fs : List Field) (k : ℕ) → AllRight ps next fs → k < length fs → (c : ℕ) × (word ps fs ≡ c * 2 ^ placeOfField ps fs k + word ps (take k fs))
 unfolding word
@@ -171,7 +171,7 @@ ones-before ps next fs k r h =
     let q = placeOfField ps fs k in
     let a = right-before ps next fs k r in
     let w = word-parts ps next fs k r h in
-    let b : word ps (take k fs) < 2 ^ q = omega (arith, word-under ps next (take k fs) a, pow-pos next, pow-mono (behind-before ps next fs k r h)) in
+    let b : word ps (take k fs) < 2 ^ q = omega (arith, word-under ps next (take k fs) a, pow-pos next, pow-mono (next-before ps next fs k r h)) in
     ap ones (ap (λ (x : ℕ). x % 2 ^ q) (w .1) ∙ low (w .0) q b) ∙ word-ones ps next (take k fs) a ∙ length-take-le k fs (omega arith)
 
 either-one : (a b : Bool) → _≡_ {A = ℕ} (pick a 1 (pick b 1 0)) (pick (a || b) 1 0)

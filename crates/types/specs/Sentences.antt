@@ -53,9 +53,9 @@ AllRight ps next [] = Unit {0}
 AllRight ps next (f ∷ fs) = Judged ps next (tagOf f) 0 × AllRight ps (suc (find ps (tagOf f))) fs
 
 -- the place behind the last field's, and where that field ends
-abbrev pub behind : List Place → ℕ → List Field → ℕ
-behind ps next [] = next
-behind ps next (f ∷ fs) = behind ps (suc (find ps (tagOf f))) fs
+abbrev pub nextPlace : List Place → ℕ → List Field → ℕ
+nextPlace ps next [] = next
+nextPlace ps next (f ∷ fs) = nextPlace ps (suc (find ps (tagOf f))) fs
 
 abbrev pub after : ℕ → List Field → ℕ
 after o [] = o
@@ -64,7 +64,7 @@ after o (f ∷ fs) = after (nextOf o f) fs
 -- all fields are right, and no mandatory place is missing at the end
 pub record Accepted (ps : List Place) (next : ℕ) (fs : List Field) : Type 0 where
   pub fine : AllRight ps next fs
-  pub whole : Skipped ps (behind ps next fs) (length ps) → ⊥
+  pub whole : Skipped ps (nextPlace ps next fs) (length ps) → ⊥
 
 -- the first faulty field has its colon at p, and n is what is wrong with it
 pub record Faulty (ps : List Place) (next o : ℕ) (fs : List Field) (n p : ℕ) : Type 0 where
@@ -73,14 +73,14 @@ pub record Faulty (ps : List Place) (next o : ℕ) (fs : List Field) (n p : ℕ)
   pub rest : List Field
   pub list : fs ≡ before ++ this ∷ rest
   pub fine : AllRight ps next before
-  pub fault : Judged ps (behind ps next before) (tagOf this) n
+  pub fault : Judged ps (nextPlace ps next before) (tagOf this) n
   pub faulty : n ≡ 0 → ⊥
   pub colon : p ≡ after o before
 
 -- all fields are right, a mandatory place is missing at the end, and the - stands at p
 pub record Missing (ps : List Place) (next o : ℕ) (fs : List Field) (n p : ℕ) : Type 0 where
   pub fine : AllRight ps next fs
-  pub missing : Skipped ps (behind ps next fs) (length ps)
+  pub missing : Skipped ps (nextPlace ps next fs) (length ps)
   pub number : n ≡ 7
   pub dash : p ≡ after o fs
 

@@ -27,7 +27,7 @@ use Rattle.contents.specs.declared.whole.Bank.the-variants as bank
 use Rattle.contents.specs.Words.{Text, Line}
 use Rattle.contents.specs.Fields.{Then, Any, In72, Right}
 use Rattle.contents.specs.Parts.{paidDate, paidCurrency}
-use Rattle.contents.specs.Answers.{cut, RppWith, BesideSaid, Behind, CustomerSaid, Bare, PayerSaid, IsA, BicSaid, NameSaid, isHeld, isBank, LineOf}
+use Rattle.contents.specs.Answers.{cut, RppWith, BesideSaid, AccountFirst, CustomerSaid, NoAccount, PayerSaid, IsA, BicSaid, NameSaid, isHeld, isBank, LineOf}
 use Rattle.contents.proofs.LineTests.{begins-says}
 use Rattle.contents.proofs.RightLaws.{customer-is, payer-is, bic-is, name-is}
 use Rattle.values.specs.Day.{realDay}
@@ -184,10 +184,10 @@ module _ (content : Content) (ls : List Line) where
       let w = b .1 .0 in
       good-made content ls _ (finding-tax content ls n (cut 3 inn m) (cut (4 + (inn + 3)) kpp m) (λ t. e t ∙ tax-values t n m ms (w .0)) (kpp-size (cut (4 + (inn + 3)) kpp m) kpp (w .2)))
 
-behind-good : (content : Content) (ls : List Line) (twelve : Bool) → ((t : Text) → valuesOf t content ls ≡ customerTaxes t ls) → (h : Held) → Behind twelve ls h → Good content ls (heldFound h)
+account-good : (content : Content) (ls : List Line) (twelve : Bool) → ((t : Text) → valuesOf t content ls ≡ customerTaxes t ls) → (h : Held) → AccountFirst twelve ls h → Good content ls (heldFound h)
 unfolding customerTaxes
-behind-good content [] twelve e h b = absurd b
-behind-good content (l ∷ ls) twelve e h b = beside-good content (l ∷ ls) ls (sizeOf (l ∷ [])) (length l + 2) twelve e h (b .1)
+account-good content [] twelve e h b = absurd b
+account-good content (l ∷ ls) twelve e h b = beside-good content (l ∷ ls) ls (sizeOf (l ∷ [])) (length l + 2) twelve e h (b .1)
 
 held-has : (h : Held) → isHas (heldFound h) ≡ isHeld h
 held-has held.Wrong = refl
@@ -196,8 +196,8 @@ held-has (held.Taxed p inn kpp) = has-made (finds 0 0 0 (not (eqb kpp 0)))
 
 customer-good : (content : Content) (ls : List Line) (twelve : Bool) → ((t : Text) → valuesOf t content ls ≡ customerTaxes t ls) → (h : Held) → CustomerSaid twelve ls h → Good content ls (heldFound h)
 customer-good content ls twelve e held.Wrong s = tt
-customer-good content ls twelve e held.Plain s = behind-good content ls twelve e held.Plain s
-customer-good content ls twelve e (held.Taxed p inn kpp) s = behind-good content ls twelve e (held.Taxed p inn kpp) s
+customer-good content ls twelve e held.Plain s = account-good content ls twelve e held.Plain s
+customer-good content ls twelve e (held.Taxed p inn kpp) s = account-good content ls twelve e (held.Taxed p inn kpp) s
 
 module _ (sign : Bool) (ls : List Line) (h : Held) where
   pub bank-held : CustomerSaid false ls h → FoundIn holds.BeneficiaryBank sign ls (heldFound h)
@@ -209,13 +209,13 @@ module _ (sign : Bool) (ls : List Line) (h : Held) where
   customer-held s = found-by holds.Beneficiary sign ls (heldFound h) (customer-is true ls h (isHas (heldFound h)) (held-has h) s) (customer-good holds.Beneficiary ls true (λ t. refl) h s)
 
 -- 50K by its first line
-payer-behind : (ls : List Line) (h : Held) → Behind true ls h → Good holds.Payer ls (heldFound h)
+payer-account : (ls : List Line) (h : Held) → AccountFirst true ls h → Good holds.Payer ls (heldFound h)
 unfolding valuesOf payerTaxes
-payer-behind [] h b = absurd b
-payer-behind (l ∷ ls) h b =
-    behind-good holds.Payer (l ∷ ls) true (λ t. ap (λ (q : Bool). pick q (customerTaxes t (l ∷ ls)) (taxes t 0 (l ∷ ls))) (ap (begins 47) (b .0 .1 .line))) h b
+payer-account [] h b = absurd b
+payer-account (l ∷ ls) h b =
+    account-good holds.Payer (l ∷ ls) true (λ t. ap (λ (q : Bool). pick q (customerTaxes t (l ∷ ls)) (taxes t 0 (l ∷ ls))) (ap (begins 47) (b .0 .1 .line))) h b
 
-payer-bare : (ls : List Line) (h : Held) → Bare ls h → Good holds.Payer ls (heldFound h)
+payer-bare : (ls : List Line) (h : Held) → NoAccount ls h → Good holds.Payer ls (heldFound h)
 unfolding valuesOf payerTaxes taxes
 payer-bare [] h b = beside-good holds.Payer [] [] 0 0 true (λ t. refl) h (b .1)
 payer-bare (l ∷ ls) h b =
@@ -224,8 +224,8 @@ payer-bare (l ∷ ls) h b =
 
 payer-good : (ls : List Line) (h : Held) → PayerSaid ls h → Good holds.Payer ls (heldFound h)
 payer-good ls held.Wrong s = tt
-payer-good ls held.Plain s = ⊎-elim (payer-behind ls held.Plain) (payer-bare ls held.Plain) s
-payer-good ls (held.Taxed p inn kpp) s = ⊎-elim (payer-behind ls (held.Taxed p inn kpp)) (payer-bare ls (held.Taxed p inn kpp)) s
+payer-good ls held.Plain s = ⊎-elim (payer-account ls held.Plain) (payer-bare ls held.Plain) s
+payer-good ls (held.Taxed p inn kpp) s = ⊎-elim (payer-account ls (held.Taxed p inn kpp)) (payer-bare ls (held.Taxed p inn kpp)) s
 
 pub payer-held : (sign : Bool) (ls : List Line) (h : Held) → PayerSaid ls h → FoundIn holds.Payer sign ls (heldFound h)
 payer-held sign ls h s = found-by holds.Payer sign ls (heldFound h) (payer-is ls h (isHas (heldFound h)) (held-has h) s) (payer-good ls h s)

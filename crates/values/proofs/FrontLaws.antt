@@ -16,7 +16,7 @@ use Rattle.base.specs.Says.{Not}
 use Rattle.base.proofs.ByteLaws.{is-empty, is-filled, drop-take}
 use Rattle.fields.specs.Lines.{linesIn}
 use Rattle.contents.specs.declared.lines.Party.the-variants as party
-use Rattle.contents.specs.Words.{Text, Line, join, behind, Digits, Perhaps}
+use Rattle.contents.specs.Words.{Text, Line, join, withMark, Digits, Perhaps}
 use Rattle.contents.specs.Lines.{RppLine}
 use Rattle.contents.specs.Fields.{Then, Any}
 use Rattle.contents.specs.Answers.{cut, Stand, BikWith, RppWith, IsA}
@@ -124,9 +124,9 @@ pub record RppRead (c : Text) (n value : ℕ) (ls : List Line) : Type 0 where
   pub due-room : Not (value ≡ 0) → 21 + (n + 5) ≤ length c
   pub faults : rppFault ls ≡ pick (realDay (cut (1 + (n + 5)) 6 c)) (pick (eqb value 0) 0 (pick (realDay (cut (15 + (n + 5)) 6 c)) 0 (16 + (n + 5)))) (2 + (n + 5))
 
-behind-size : (s : Text) → Not (length s ≡ 0) → length (behind "." s) ≡ suc (length s)
-behind-size [] z = absurd (z refl)
-behind-size (x ∷ s) z = refl
+mark-size : (s : Text) → Not (length s ≡ 0) → length (withMark "." s) ≡ suc (length s)
+mark-size [] z = absurd (z refl)
+mark-size (x ∷ s) z = refl
 
 read-by : (c : Text) (n value : ℕ) (ls : List Line) → linesIn c ≡ ls → Then (RppWith n value) Any ls → RppRead c n value ls
 read-by c n value [] q w = absurd w
@@ -146,7 +146,7 @@ read-by c n value (l ∷ ls) q w = record {
     mark : ℕ
     mark = length (join (bytes "/RPP/" ∷ cut 5 n l ∷ bytes "." ∷ []))
 
-    size : length l ≡ 14 + (n + 5) + length (behind "." v)
+    size : length l ≡ 14 + (n + 5) + length (withMark "." v)
     size =
         let z = simp length-append at (ap length (p .line)) in
         omega (arith, w .0 .1, p .day .size, p .order .size, way-size (cut (10 + (n + 5)) 4 l) (p .kind))
@@ -155,7 +155,7 @@ read-by c n value (l ∷ ls) q w = record {
     six z = perhaps-size 6 v (p .due) (λ e. z (sym (w .0 .2) ∙ e))
 
     due : Not (value ≡ 0) → length l ≡ 21 + (n + 5)
-    due z = omega (arith, size, six z, behind-size v (λ e. z (sym (w .0 .2) ∙ e)))
+    due z = omega (arith, size, six z, mark-size v (λ e. z (sym (w .0 .2) ∙ e)))
 
     mark-at : suc mark ≡ 2 + (n + 5)
     mark-at = simp length-append (omega (arith, w .0 .1))

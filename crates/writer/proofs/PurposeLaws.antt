@@ -30,7 +30,7 @@ use Rattle.records.specs.Rule19.{digits, sole, detailed}
 use Rattle.records.proofs.PieceLaws.{pieces-at, past-end, end-within, piece-length, at-from, last-at, some-piece}
 use Rattle.details.specs.Lines.{together, Later, none, line, Division, lines}
 use Rattle.details.specs.Breaking.{Fit, fits, unfit}
-use Rattle.details.specs.Layouts.{Layout, layout, divided, DivisionIn, behind, linesOf, linesFor, laidFor, sizeFor, Lays}
+use Rattle.details.specs.Layouts.{Layout, layout, divided, DivisionIn, laterBytes, linesOf, linesFor, laidFor, sizeFor, Lays}
 use Rattle.details.specs.Layouts as layouts
 use Rattle.details.specs.declared.Place.{Place}
 use Rattle.details.specs.declared.Place.the-variants.{In70, In72, BehindRpp}
@@ -57,10 +57,10 @@ later-text : {ok : ℕ → Bool} {ws : List ℕ} {ls : List (List ℕ)} → Late
 later-text none = omega arith
 later-text (line {w} {x} {ws} {l} {ls} h o m) = let i = later-text m in omega (arith, length-append (x ∷ l) (together ls))
 
-later-laid : {ok : ℕ → Bool} {ws : List ℕ} {ls : List (List ℕ)} (next : List ℕ) → Later ok ws ls → length (behind next ls) ≤ roomOf (2 + length next) ws
+later-laid : {ok : ℕ → Bool} {ws : List ℕ} {ls : List (List ℕ)} (next : List ℕ) → Later ok ws ls → length (laterBytes next ls) ≤ roomOf (2 + length next) ws
 later-laid next none = omega arith
 later-laid next (line {w} {x} {ws} {l} {ls} h o m) =
-    let i = later-laid next m in omega (arith, length-append (13 ∷ 10 ∷ next) ((x ∷ l) ++ behind next ls), length-append (x ∷ l) (behind next ls))
+    let i = later-laid next m in omega (arith, length-append (13 ∷ 10 ∷ next) ((x ∷ l) ++ laterBytes next ls), length-append (x ∷ l) (laterBytes next ls))
 
 division-text : {ok : ℕ → Bool} {least w : ℕ} {ws text : List ℕ} {ls : List (List ℕ)} → Division ok least text (w ∷ ws) ls → length text ≤ w + roomOf 0 ws
 division-text (lines {l = l} {ls = ls} a b h m e) = omega (arith, later-text m, length-append l (together ls), ap length e)
@@ -68,7 +68,7 @@ division-text (lines {l = l} {ls = ls} a b h m e) = omega (arith, later-text m, 
 division-laid : {ok : ℕ → Bool} {least w : ℕ} {ws text : List ℕ} {ls : List (List ℕ)} (v : Layout) → Division ok least text (w ∷ ws) ls
     → length (layouts.laid v ls) ≤ length (v .mark) + w + roomOf (2 + length (v .next)) ws
 division-laid v (lines {l = l} {ls = ls} a b h m e) =
-    omega (arith, later-laid (v .next) m, length-append (v .mark) (l ++ behind (v .next) ls), length-append l (behind (v .next) ls))
+    omega (arith, later-laid (v .next) m, length-append (v .mark) (l ++ laterBytes (v .next) ls), length-append l (laterBytes (v .next) ls))
 
 -- no place has room for more than 248 bytes
 place-text : (p : Place) {least : ℕ} {text : List ℕ} {ls : List (List ℕ)} → DivisionIn (layout p) least text ls → length text ≤ 248

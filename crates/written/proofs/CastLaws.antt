@@ -97,8 +97,8 @@ code-size false vo d =
 pub behind-code : (s : Bool) (vo w : List ℕ) → digits 5 vo ≡ true → drop (codeSize s) (code s vo ++ w) ≡ w
 behind-code s vo w d = ap (λ (n : ℕ). drop n (code s vo ++ w)) (sym (code-size s vo d)) ∙ drop-append-seam (code s vo) w
 
-pub unmarked : (m : List ℕ) (ls : List (List ℕ)) → speech.behind (length m) (map (λ (k : List ℕ). m ++ k) ls) ≡ together ls
-unfolding speech.behind
+pub unmarked : (m : List ℕ) (ls : List (List ℕ)) → speech.laterText (length m) (map (λ (k : List ℕ). m ++ k) ls) ≡ together ls
+unfolding speech.laterText
 unmarked m [] = refl
 unmarked m (l ∷ ls) = ap₂ (λ (a b : List ℕ). a ++ b) (drop-append-seam m l) (unmarked m ls)
 
@@ -120,7 +120,7 @@ front-dropped In72 false l = refl
 front-dropped BehindRpp true l = refl
 front-dropped BehindRpp false l = refl
 
-next-dropped : (p : Place) (ls : List (List ℕ)) → speech.behind (nextOf p) (map (λ (k : List ℕ). layout p .next ++ k) ls) ≡ together ls
+next-dropped : (p : Place) (ls : List (List ℕ)) → speech.laterText (nextOf p) (map (λ (k : List ℕ). layout p .next ++ k) ls) ≡ together ls
 next-dropped In70 ls = unmarked (layout In70 .next) ls
 next-dropped In72 ls = unmarked (layout In72 .next) ls
 next-dropped BehindRpp ls = unmarked (layout BehindRpp .next) ls
@@ -131,7 +131,7 @@ pub details-again : (p : Place) (s : Bool) (vo w : List ℕ) (o : ℕ) → digit
 unfolding speech.details
 details-again p s vo w o d h =
     let l : List ℕ = layout p .mark ++ h .front in
-    let text : drop (frontOf p s) l ++ speech.behind (nextOf p) (map (λ (k : List ℕ). layout p .next ++ k) (h .behind)) ≡ w =
+    let text : drop (frontOf p s) l ++ speech.laterText (nextOf p) (map (λ (k : List ℕ). layout p .next ++ k) (h .behind)) ≡ w =
     ap₂ (λ (a b : List ℕ). a ++ b) (front-dropped p s (h .front)) (next-dropped p (h .behind))
     ∙ sym (drop-append-le (codeSize s) (h .front) (together (h .behind)) (h .code)) ∙ ap (drop (codeSize s)) (h .joins) ∙ behind-code s vo w d in
     (detailsStart (frontOf p s) (nextOf p) o l, ap (speech.details (frontOf p s) (nextOf p) o) (h .is) ∙ ap (λ (b : List ℕ). speech asDetails (detailsStart (frontOf p s) (nextOf p) o l) b ∷ []) text)
