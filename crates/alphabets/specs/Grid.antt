@@ -52,11 +52,11 @@ spell latin false x = 0
 spell common s x = x
 
 -- the table backwards: the place of y in the list, counted from k; 0 where y is not there
-abbrev pub place : ℕ → ℕ → List ℕ → ℕ
-place y k [] = 0
-place y k (x ∷ xs) = pick (eqb x y) k (place y (suc k) xs)
+abbrev pub indexOf : ℕ → ℕ → List ℕ → ℕ
+indexOf y k [] = 0
+indexOf y k (x ∷ xs) = pick (eqb x y) k (indexOf y (suc k) xs)
 
 -- the desk sign that a bank byte stands for on a side, 0 where it has no reading
 unfoldable pub sign : Bool → ℕ → ℕ
 sign true y = pick (letter y || shared y) y 0
-sign false y = pick (shared y) y (pick (letter y) (place y 0 grid) 0)
+sign false y = pick (shared y) y (pick (letter y) (indexOf y 0 grid) 0)

@@ -259,10 +259,10 @@ bic-says l =
     made : Capitals 4 (piece 0 (bicParts l)) → Capitals 2 (piece 1 (bicParts l)) → CapitalsOrDigits 2 (piece 2 (bicParts l)) → Perhaps (CapitalsOrDigits 3) (piece 3 (bicParts l)) → IsBic l
     made a b c d = (piece 0 (bicParts l), piece 1 (bicParts l), piece 2 (bicParts l), piece 3 (bicParts l), record { four = a; two = b; town = c; three = d; line = sym (cut-whole (sized 4 ∷ sized 2 ∷ sized 2 ∷ []) l) })
 
-    tested : {bank land place branch : Text} → Bic bank land place branch l → BicTests (bicParts l)
-    tested {bank} {land} {place} {branch} t =
+    tested : {bank land location branch : Text} → Bic bank land location branch l → BicTests (bicParts l)
+    tested {bank} {land} {location} {branch} t =
         subst BicTests
-        (sym (ap bicParts (t .line) ∙ cut-once (sized 4 ∷ sized 2 ∷ sized 2 ∷ []) (bank ∷ land ∷ place ∷ branch ∷ []) (t .four .size, (t .two .size, (t .town .size, tt)))))
+        (sym (ap bicParts (t .line) ∙ cut-once (sized 4 ∷ sized 2 ∷ sized 2 ∷ []) (bank ∷ land ∷ location ∷ branch ∷ []) (t .four .size, (t .two .size, (t .town .size, tt)))))
         (t .four, (t .two, (t .town, t .three)))
 
 -- ---- Ctax

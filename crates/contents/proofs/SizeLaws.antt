@@ -63,7 +63,7 @@ party-name l (inl (bik, account, p)) =
 party-name l (inr (account, p)) = let e = simp length-append at (ap length (p .line)) in let n = p .number in record { least = omega arith; most = omega arith }
 
 bic-name : (l : Line) → IsBic l → Name l
-bic-name l (bank, land, place, branch, p) =
+bic-name l (bank, land, location, branch, p) =
     let e = simp length-append at (ap length (p .line)) in
     let a = p .four in
     let b = p .two in

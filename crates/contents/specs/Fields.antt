@@ -27,7 +27,7 @@ abbrev pub IsParty : Line → Type 0
 IsParty l = ((bik account : Text) × PartyByBik bik account l) or ((account : Text) × PartyByAccount account l)
 
 abbrev pub IsBic : Line → Type 0
-IsBic l = (bank land place branch : Text) × Bic bank land place branch l
+IsBic l = (bank land location branch : Text) × Bic bank land location branch l
 
 abbrev pub IsAccount : Line → Type 0
 IsAccount l = (number : Text) × Account number l

@@ -55,12 +55,12 @@ pub record PartyByAccount (account : Text) (l : Line) : Type 0 where
   pub line : l ≡ join (bytes "/" ∷ account ∷ [])
 
 -- Cbic: four letters, two letters, two letters or digits, perhaps three more, all capitals
-pub record Bic (bank land place branch : Text) (l : Line) : Type 0 where
+pub record Bic (bank land location branch : Text) (l : Line) : Type 0 where
   pub four : Capitals 4 bank
   pub two : Capitals 2 land
-  pub town : CapitalsOrDigits 2 place
+  pub town : CapitalsOrDigits 2 location
   pub three : Perhaps (CapitalsOrDigits 3) branch
-  pub line : l ≡ join (bank ∷ land ∷ place ∷ branch ∷ [])
+  pub line : l ≡ join (bank ∷ land ∷ location ∷ branch ∷ [])
 
 -- Caccount: / and 1 to 34 bytes, the first not /
 pub record Account (number : Text) (l : Line) : Type 0 where

@@ -96,7 +96,7 @@ isPartyByBik l =
 unfoldable pub isParty : Line → Bool
 isParty l = isPartyByBik l || (starts (bytes "/") l && just digit 20 (drop 1 l))
 
--- bank, land, place, branch
+-- bank, land, location, branch
 abbrev pub bicParts : Line → List Text
 bicParts l = cutBy (sized 4 ∷ sized 2 ∷ sized 2 ∷ []) l
 

@@ -16,13 +16,13 @@ use Rattle.fields.specs.ByLines.{joined}
 use Rattle.details.specs.Lines.{together, none, line, Division, lines, Most}
 use Rattle.details.specs.Breaking.{opens, Fit, fits, unfit, last, breaks, pieces, cutBy, broken, steady}
 use Rattle.details.specs.Layouts.{Layout, layout, divided, DivisionIn, marked, laterBytes, laid, linesOf, linesFor, laidFor, sizeOf, sizeFor, Lays}
-use Rattle.details.specs.declared.Place.{Place}
-use Rattle.details.specs.declared.Place.the-variants.{In70, In72, BehindRpp}
+use Rattle.details.specs.declared.DetailsField.{DetailsField}
+use Rattle.details.specs.declared.DetailsField.the-variants.{In70, In72, BehindRpp}
 use Rattle.details.specs.declared.Size.{Size}
 use Rattle.details.specs.declared.Size.the-variants.{Bytes, Unfit}
 use Rattle.details.proofs.BreakLaws.{Took, Came, took, stuck, came, lawful, none-fits, shortened, steadily}
 use Rattle.details.proofs.LineLaws.{breaks-of, division-of, most-of}
-use Rattle.details.proofs.PlaceLaws.{bytes-not}
+use Rattle.details.proofs.LayoutLaws.{bytes-not}
 
 -- ---- over any widths
 pub fits-not : {A : Type 0} {a : A} → fits a ≡ unfit → ⊥
@@ -110,7 +110,7 @@ laid-joined v (l ∷ ls) = sym (append-assoc (v .mark) l (laterBytes (v .next) l
     go x (l ∷ ls) = ap (λ (r : List ℕ). x ++ 13 ∷ 10 ∷ r) (sym (append-assoc (v .next) l (laterBytes (v .next) ls)) ∙ go (v .next ++ l) ls)
 
 -- ---- the places
-steady-in : (p : Place) → steady (layout p .barred) (tail (layout p .widths)) ≡ true
+steady-in : (p : DetailsField) → steady (layout p .barred) (tail (layout p .widths)) ≡ true
 steady-in In70 = refl
 steady-in In72 = refl
 steady-in BehindRpp = refl
@@ -119,7 +119,7 @@ some-laid : {ok : ℕ → Bool} {least : ℕ} {text ws : List ℕ} {ls : List (L
 some-laid v (lines {l = l} {ls = ls} z q w m j) = omega (arith, length-append (v .mark) (l ++ laterBytes (v .next) ls), length-append l (laterBytes (v .next) ls))
 
 -- what fits: its lines are a division, each has the most, and n counts the bytes of these lines with their marks
-pub record Fitted (p : Place) (least : ℕ) (text : List ℕ) (n : ℕ) : Type 0 where
+pub record Fitted (p : DetailsField) (least : ℕ) (text : List ℕ) (n : ℕ) : Type 0 where
   pub ls : List (List ℕ)
   pub is : divided (layout p) least text ≡ fits ls
   pub division : DivisionIn (layout p) least text ls
@@ -127,7 +127,7 @@ pub record Fitted (p : Place) (least : ℕ) (text : List ℕ) (n : ℕ) : Type 0
   pub long : n ≡ length (laidFor p least text)
   pub some : 0 < n
 
-module _ (p : Place) (least : ℕ) (text : List ℕ) where
+module _ (p : DetailsField) (least : ℕ) (text : List ℕ) where
   pub laid-lines : laidFor p least text ≡ joined (linesFor p least text)
   unfolding laidFor linesFor
   laid-lines = laid-joined (layout p) (linesOf (divided (layout p) least text))
@@ -165,8 +165,8 @@ module _ (p : Place) (least : ℕ) (text : List ℕ) where
       go unfit i = absurd (bytes-not (sym e ∙ ap (sizeOf (layout p)) i))
 
 -- ---- at the contracts: any two outcomes are equal, the room counted
-pub size-one : (p : Place) (least : ℕ) (text : List ℕ) {r s : Size} → r ≡ sizeFor p least text → s ≡ sizeFor p least text → r ≡ s
+pub size-one : (p : DetailsField) (least : ℕ) (text : List ℕ) {r s : Size} → r ≡ sizeFor p least text → s ≡ sizeFor p least text → r ≡ s
 size-one p least text e f = one-answer e f
 
-pub lays-one : {p : Place} {least at r s : ℕ} {text out a b : List ℕ} → Lays p least text out at r a → Lays p least text out at s b → (r ≡ s) × (a ≡ b)
+pub lays-one : {p : DetailsField} {least at r s : ℕ} {text out a b : List ℕ} → Lays p least text out at r a → Lays p least text out at s b → (r ≡ s) × (a ≡ b)
 lays-one u v = (one-answer (u .answers) (v .answers), one-answer (u .leaves) (v .leaves))

@@ -46,9 +46,9 @@ use Rattle.records.proofs.RuleLaws.{fine-sound, named}
 use Rattle.records.proofs.SoundLaws.{sound-sheet, sound-type}
 use Rattle.details.specs.Lines.{together}
 use Rattle.details.specs.Layouts.{layout, linesFor, sizeFor}
-use Rattle.details.specs.declared.Place.{Place}
-use Rattle.details.specs.declared.Place.the-variants.{In70, In72, BehindRpp}
-use Rattle.writer.specs.Spread.{castParts, lineFor, code, codeAndText, notePlace, noteLines, contentLines, spread}
+use Rattle.details.specs.declared.DetailsField.{DetailsField}
+use Rattle.details.specs.declared.DetailsField.the-variants.{In70, In72, BehindRpp}
+use Rattle.writer.specs.Spread.{castParts, lineFor, code, codeAndText, noteField, noteLines, contentLines, spread}
 use Rattle.writer.specs.Sheet.{isUnfit, crowded, fieldsOf, messageFor, sheetRules, MessageTo}
 use Rattle.writer.proofs.RuleLaws.{sheet-rules}
 use Rattle.written.proofs.SpeltLaws.{said-is}
@@ -104,17 +104,17 @@ textIn [] = []
 textIn (speech m o t ∷ xs) = t
 
 -- the bytes of the mark before the first line
-abbrev markOf : Place → ℕ
+abbrev markOf : DetailsField → ℕ
 markOf In70 = 0
 markOf In72 = 5
 markOf BehindRpp = 5
 
-mark-dropped : (p : Place) (l : List ℕ) → drop (markOf p) (layout p .mark ++ l) ≡ l
+mark-dropped : (p : DetailsField) (l : List ℕ) → drop (markOf p) (layout p .mark ++ l) ≡ l
 mark-dropped In70 l = refl
 mark-dropped In72 l = refl
 mark-dropped BehindRpp l = refl
 
-mark-and-code : (p : Place) (s : Bool) → markOf p + codeSize s ≡ frontOf p s
+mark-and-code : (p : DetailsField) (s : Bool) → markOf p + codeSize s ≡ frontOf p s
 mark-and-code In70 true = refl
 mark-and-code In70 false = refl
 mark-and-code In72 true = refl
@@ -122,7 +122,7 @@ mark-and-code In72 false = refl
 mark-and-code BehindRpp true = refl
 mark-and-code BehindRpp false = refl
 
-code-text-back : (p : Place) (s : Bool) (vo w : List ℕ) → digits 5 vo ≡ true → Laid p (codeSize s) (code s vo ++ w)
+code-text-back : (p : DetailsField) (s : Bool) (vo w : List ℕ) → digits 5 vo ≡ true → Laid p (codeSize s) (code s vo ++ w)
     → detailsParts s (markOf p) (nextOf p) (linesFor p (codeSize s) (code s vo ++ w)) ≡ vo ∷ textOf (reading s w) ∷ []
 unfolding speech.details
 code-text-back p s vo w d h =
@@ -137,7 +137,7 @@ code-text-back p s vo w d h =
     ∙ ap₂ (λ (v t : List ℕ). v ∷ textOf (reading s t) ∷ []) number text
 
 -- with the text that is written
-spelt-back : (p : Place) (s : Bool) (vo t : List ℕ) → digits 5 vo ≡ true → all (speaks s) (copy vo ∷ name t ∷ []) ≡ true
+spelt-back : (p : DetailsField) (s : Bool) (vo t : List ℕ) → digits 5 vo ≡ true → all (speaks s) (copy vo ∷ name t ∷ []) ≡ true
     → isUnfit (sizeFor p (codeSize s) (codeAndText s (vo ∷ t ∷ []))) ≡ false
     → detailsParts s (markOf p) (nextOf p) (linesFor p (codeSize s) (codeAndText s (vo ∷ t ∷ []))) ≡ vo ∷ t ∷ []
 spelt-back p s vo t d a u =
@@ -146,7 +146,7 @@ spelt-back p s vo t d a u =
 
 -- 72 of a 202: with and without an RPP line
 note-back : (s : Bool) (r vo t : List ℕ) → digits 5 vo ≡ true → all (speaks s) (copy vo ∷ name t ∷ []) ≡ true
-    → isUnfit (sizeFor (notePlace r) (codeSize s) (codeAndText s (vo ∷ t ∷ []))) ≡ false → noteParts s (noteLines s (r ∷ vo ∷ t ∷ [])) ≡ r ∷ vo ∷ t ∷ []
+    → isUnfit (sizeFor (noteField r) (codeSize s) (codeAndText s (vo ∷ t ∷ []))) ≡ false → noteParts s (noteLines s (r ∷ vo ∷ t ∷ [])) ≡ r ∷ vo ∷ t ∷ []
 unfolding same
 note-back s [] vo t d a u =
     let h : Laid In72 (codeSize s) (codeAndText s (vo ∷ t ∷ [])) = laid In72 (codeSize s) (codeAndText s (vo ∷ t ∷ [])) u in

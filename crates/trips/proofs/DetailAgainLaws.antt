@@ -19,12 +19,12 @@ use Rattle.roles.specs.declared.Shape.the-variants.{Details, Note202}
 use Rattle.records.specs.Rule19.{digits}
 use Rattle.records.specs.Sentences as sentences
 use Rattle.details.specs.Layouts.{linesFor, sizeFor}
-use Rattle.details.specs.declared.Place.{Place}
-use Rattle.details.specs.declared.Place.the-variants.{In70}
+use Rattle.details.specs.declared.DetailsField.{DetailsField}
+use Rattle.details.specs.declared.DetailsField.the-variants.{In70}
 use Rattle.details.specs.declared.Size.{Size}
 use Rattle.details.specs.declared.Size.the-variants.{Bytes, Unfit}
 use Rattle.details.proofs.DivisionTheorems.{Fitted, fitted}
-use Rattle.writer.specs.Spread.{castParts, code, codeAndText, rppLine, notePlace, contentLines}
+use Rattle.writer.specs.Spread.{castParts, code, codeAndText, rppLine, noteField, contentLines}
 use Rattle.writer.specs.Sheet.{isUnfit, crowded}
 use Rattle.written.proofs.SpeltLaws.{said-is, spelt-empty}
 use Rattle.written.proofs.ReadyLaws.{speaks, Ready}
@@ -34,7 +34,7 @@ use Rattle.trips.proofs.DetailLaws.{IsIn, rpp-line, rpp-alone, divided-
 
 module _ (s : Bool) where
   -- ---- details that fit
-  laid-pass : (p : Place) (vo text : List ℕ) → digits 5 vo ≡ true → empty text ≡ false → isUnfit (sizeFor p (codeSize s) (code s vo ++ text)) ≡ false
+  laid-pass : (p : DetailsField) (vo text : List ℕ) → digits 5 vo ≡ true → empty text ≡ false → isUnfit (sizeFor p (codeSize s) (code s vo ++ text)) ≡ false
       → IsIn p s (linesFor p (codeSize s) (code s vo ++ text))
   unfolding linesFor
   laid-pass p vo text d e u = go (sizeFor p (codeSize s) (code s vo ++ text)) refl u
@@ -46,7 +46,7 @@ module _ (s : Bool) where
       go Unfit f u = absurd (true≢false u)
 
   -- their text as it is written: it has a byte, as the desk text has one
-  text-pass : (p : Place) (vo t : List ℕ) → digits 5 vo ≡ true → empty t ≡ false → all (speaks s) (copy vo ∷ name t ∷ []) ≡ true
+  text-pass : (p : DetailsField) (vo t : List ℕ) → digits 5 vo ≡ true → empty t ≡ false → all (speaks s) (copy vo ∷ name t ∷ []) ≡ true
       → isUnfit (sizeFor p (codeSize s) (codeAndText s (vo ∷ t ∷ []))) ≡ false → IsIn p s (linesFor p (codeSize s) (codeAndText s (vo ∷ t ∷ [])))
   text-pass p vo t d e a u =
       let k : speaks s (name t) ≡ true = left (speaks s (name t)) _ (right (speaks s (copy vo)) _ a) in
@@ -59,9 +59,9 @@ module _ (s : Bool) where
 
   -- r is what follows /RPP/, or nothing
   behind-pass : {r : List ℕ} {ps : List (List ℕ)} → sentences.Right s Note202 (r ∷ ps) → all (speaks s) (castParts Note202 (r ∷ ps)) ≡ true → crowded s Note202 (r ∷ ps) ≡ false
-      → IsIn (notePlace r) s (linesFor (notePlace r) (codeSize s) (codeAndText s ps))
+      → IsIn (noteField r) s (linesFor (noteField r) (codeSize s) (codeAndText s ps))
   unfolding crowded
-  behind-pass (sentences.note202 r v t d e) a u = text-pass (notePlace r) v t d e (right (speaks s (copy r)) _ a) u
+  behind-pass (sentences.note202 r v t d e) a u = text-pass (noteField r) v t d e (right (speaks s (copy r)) _ a) u
 
   -- ---- 72 of a 202
   note-pass : (ls : List (List ℕ)) → RppAndDetails s ls → Ready s Note202 (contentParts s Note202 ls) → RppAndDetails s (contentLines s Note202 (contentParts s Note202 ls))

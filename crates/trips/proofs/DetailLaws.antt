@@ -28,19 +28,19 @@ use Rattle.records.specs.Rule19.{digits}
 use Rattle.details.specs.Lines.{together, Later, none, line, Division, lines}
 use Rattle.details.specs.Breaking.{opens}
 use Rattle.details.specs.Layouts.{layout, marked}
-use Rattle.details.specs.declared.Place.{Place}
-use Rattle.details.specs.declared.Place.the-variants.{In70, In72, BehindRpp}
+use Rattle.details.specs.declared.DetailsField.{DetailsField}
+use Rattle.details.specs.declared.DetailsField.the-variants.{In70, In72, BehindRpp}
 use Rattle.writer.specs.Spread.{code, rppLine}
 use Rattle.written.proofs.CastLaws.{code-size}
 
 -- ---- details by their place: in 70; in 72 of a 202; there behind an RPP line
-abbrev pub IsIn : Place → Bool → List (List ℕ) → Type 0
+abbrev pub IsIn : DetailsField → Bool → List (List ℕ) → Type 0
 IsIn In70 s ls = fields.In70 s ls
 IsIn In72 s ls = fields.In72 s 6 ls
 IsIn BehindRpp s ls = fields.In72 s 5 ls
 
 -- what the grammar says of a place is its layout: the marks, the room behind them, and how many lines may follow
-record As (p : Place) (first later : String) (room rest more : ℕ) : Type 0 where
+record As (p : DetailsField) (first later : String) (room rest more : ℕ) : Type 0 where
   mark : layout p .mark ≡ bytes first
   next : layout p .next ≡ bytes later
   widths : layout p .widths ≡ room ∷ replicate more rest
@@ -61,7 +61,7 @@ code-on true vo t = ap (λ (k : List ℕ). bytes "'(VO" ++ k) (sym (append-assoc
 code-on false vo t = ap (λ (k : List ℕ). bytes "(VO" ++ k) (sym (append-assoc vo (bytes ")") t))
 
 -- ---- details: their lines, without marks
-pub record DetailsOver (p : Place) (s : Bool) (ls : List (List ℕ)) : Type 0 where
+pub record DetailsOver (p : DetailsField) (s : Bool) (ls : List (List ℕ)) : Type 0 where
   pub vo : List ℕ
   pub text : List ℕ
   pub texts : List (List ℕ)
@@ -72,7 +72,7 @@ pub record DetailsOver (p : Place) (s : Bool) (ls : List (List ℕ)) : Type 0 wh
   pub some : empty (text ++ together texts) ≡ false
 
 -- what goes on as 4 wants it opens a later line lawfully
-lawful : (p : Place) (x : ℕ) (l : List ℕ) → goesOn (layout p .next ++ x ∷ l) ≡ true → opens (layout p .barred) x ≡ true
+lawful : (p : DetailsField) (x : ℕ) (l : List ℕ) → goesOn (layout p .next ++ x ∷ l) ≡ true → opens (layout p .barred) x ≡ true
 unfolding opens isIn
 lawful In70 x l e = go (eqb x 58) (eqb x 45) e
   where
@@ -84,7 +84,7 @@ lawful In70 x l e = go (eqb x 58) (eqb x 45) e
 lawful In72 x l e = refl
 lawful BehindRpp x l e = refl
 
-later-of : (p : Place) (n w : ℕ) (ts : List (List ℕ)) → AllHold (Size 1 w) ts → length ts ≤ n → all goesOn (map (λ (k : List ℕ). layout p .next ++ k) ts) ≡ true
+later-of : (p : DetailsField) (n w : ℕ) (ts : List (List ℕ)) → AllHold (Size 1 w) ts → length ts ≤ n → all goesOn (map (λ (k : List ℕ). layout p .next ++ k) ts) ≡ true
     → Later (opens (layout p .barred)) (replicate n w) ts
 later-of p n w [] e h g = none
 later-of p n w ([] ∷ ts) e h g = absurd (omega (arith, e .0 .least))
@@ -103,7 +103,7 @@ some-text w [] [] e n = absurd (n (refl, refl))
 some-text w [] ([] ∷ ts) e n = absurd (omega (arith, e .0 .least))
 some-text w [] ((x ∷ l) ∷ ts) e n = refl
 
-module _ {p : Place} {first later : String} {room rest more : ℕ} (a : As p first later room rest more) (s : Bool) where
+module _ {p : DetailsField} {first later : String} {room rest more : ℕ} (a : As p first later room rest more) (s : Bool) where
   -- the lines, as the grammar and as the layout have them
   lines-as : (vo t : List ℕ) (ts : List (List ℕ))
       → join (bytes first ∷ opening s ∷ vo ∷ closing s ∷ t ∷ []) ∷ map (λ (k : List ℕ). bytes later ++ k) ts ≡ marked (layout p) ((code s vo ++ t) ∷ ts)
@@ -154,7 +154,7 @@ module _ {p : Place} {first later : String} {room rest more : ℕ} (a : As p fir
         },
       )
 
-pub details-lines : (p : Place) (s : Bool) (ls : List (List ℕ)) → IsIn p s ls → all goesOn (tail ls) ≡ true → DetailsOver p s ls
+pub details-lines : (p : DetailsField) (s : Bool) (ls : List (List ℕ)) → IsIn p s ls → all goesOn (tail ls) ≡ true → DetailsOver p s ls
 details-lines In70 s ls d g = details-by as-70 s (d .3) g
 details-lines In72 s ls d g = details-by as-72 s (d .3) g
 details-lines BehindRpp s ls d g = details-by as-behind s (d .3) g
@@ -191,7 +191,7 @@ note-lines s (l ∷ ls) (inr d) g =
     on (l ∷ ls) g = right (goesOn l) _ g
 
 -- ---- details broken into lines are right
-pub divided-pass : (p : Place) (s : Bool) (vo : List ℕ) → digits 5 vo ≡ true → {ws : List ℕ} {ls : List (List ℕ)} (text : List ℕ) → empty text ≡ false → ws ≡ layout p .widths
+pub divided-pass : (p : DetailsField) (s : Bool) (vo : List ℕ) → digits 5 vo ≡ true → {ws : List ℕ} {ls : List (List ℕ)} (text : List ℕ) → empty text ≡ false → ws ≡ layout p .widths
     → Division (opens (layout p .barred)) (codeSize s) (code s vo ++ text) ws ls → IsIn p s (marked (layout p) ls)
 divided-pass In70 s vo f text e i d = pass-by as-70 s vo text f (code-size s vo f) e i d
 divided-pass In72 s vo f text e i d = pass-by as-72 s vo text f (code-size s vo f) e i d

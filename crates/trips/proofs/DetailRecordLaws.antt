@@ -35,12 +35,12 @@ use Rattle.records.specs.Record.{plainText, line}
 use Rattle.records.specs.Rule19.{digits, detailed, sound}
 use Rattle.details.specs.Lines.{together, lines}
 use Rattle.details.specs.Layouts.{layout, DivisionIn, marked, sizeFor}
-use Rattle.details.specs.declared.Place.{Place}
-use Rattle.details.specs.declared.Place.the-variants.{In70, In72, BehindRpp}
+use Rattle.details.specs.declared.DetailsField.{DetailsField}
+use Rattle.details.specs.declared.DetailsField.the-variants.{In70, In72, BehindRpp}
 use Rattle.details.specs.declared.Size.{Size}
 use Rattle.details.specs.declared.Size.the-variants.{Bytes, Unfit}
 use Rattle.details.proofs.DivisionTheorems.{less-divided, unfit-none}
-use Rattle.writer.specs.Spread.{castParts, coded, code, codeAndText, rppLine, notePlace}
+use Rattle.writer.specs.Spread.{castParts, coded, code, codeAndText, rppLine, noteField}
 use Rattle.writer.specs.Sheet.{isUnfit, crowded}
 use Rattle.written.proofs.SpeltLaws.{said-is}
 use Rattle.written.proofs.ReadyLaws.{speaks}
@@ -79,21 +79,21 @@ marks-set : (m : List ℕ) (ls : List (List ℕ)) → all (all xset) (map (λ (k
 marks-set m [] e = refl
 marks-set m (l ∷ ls) e = all-append xset l (together ls) (all-behind xset m l (left (all xset (m ++ l)) _ e)) (marks-set m ls (right (all xset (m ++ l)) _ e))
 
-abbrev markSize : Place → ℕ
+abbrev markSize : DetailsField → ℕ
 markSize p = length (layout p .mark)
 
-abbrev nextSize : Place → ℕ
+abbrev nextSize : DetailsField → ℕ
 nextSize p = length (layout p .next)
 
-abbrev firstWidth : Place → ℕ
+abbrev firstWidth : DetailsField → ℕ
 firstWidth p = byte (layout p .widths) 0
 
-widths-of : (p : Place) → (layout p .widths ≡ firstWidth p ∷ tail (layout p .widths)) × (firstWidth p + markSize p ≡ 35)
+widths-of : (p : DetailsField) → (layout p .widths ≡ firstWidth p ∷ tail (layout p .widths)) × (firstWidth p + markSize p ≡ 35)
 widths-of In70 = (refl, refl)
 widths-of In72 = (refl, refl)
 widths-of BehindRpp = (refl, refl)
 
-module _ {p : Place} {s : Bool} {ls : List (List ℕ)} (w : DetailsOver p s ls) where
+module _ {p : DetailsField} {s : Bool} {ls : List (List ℕ)} (w : DetailsOver p s ls) where
   abbrev whole : List ℕ
   whole = w .text ++ together (w .texts)
 
@@ -145,7 +145,7 @@ module _ {p : Place} {s : Bool} {ls : List (List ℕ)} (w : DetailsOver p s ls) 
       rw (widths-of p .0) (lines a b c (w .later) (append-assoc (code s (w .vo)) (w .text) (together (w .texts))))
 
 -- ---- their parts: digits, and what the text says
-record Gathered (p : Place) (s : Bool) (ls : List (List ℕ)) (vo d : List ℕ) : Type 0 where
+record Gathered (p : DetailsField) (s : Bool) (ls : List (List ℕ)) (vo d : List ℕ) : Type 0 where
   parts : detailsParts s (markSize p) (nextSize p) ls ≡ vo ∷ d ∷ []
   right-parts : detailed (vo ∷ d ∷ []) ≡ true
   written : all (speaks s) (coded (vo ∷ d ∷ [])) ≡ true
@@ -153,7 +153,7 @@ record Gathered (p : Place) (s : Bool) (ls : List (List ℕ)) (vo d : List ℕ) 
   five : length vo ≡ 5
   short : markSize p + codeSize s + length d + 2 ≤ length (laid ls)
 
-gathered : {p : Place} {s : Bool} {ls : List (List ℕ)} (w : DetailsOver p s ls) (h : Means s (whole w)) → Gathered p s ls (w .vo) (h .desk)
+gathered : {p : DetailsField} {s : Bool} {ls : List (List ℕ)} (w : DetailsOver p s ls) (h : Means s (whole w)) → Gathered p s ls (w .vo) (h .desk)
 gathered {p} {s} {ls} w h = record {
   parts = details-parts w ∙ ap (λ (a : Answer). w .vo ∷ textOf a ∷ []) (h .reads);
   right-parts = both (w .five) (ap not (h .means));
@@ -164,13 +164,13 @@ gathered {p} {s} {ls} w h = record {
 }
 
 -- what it says, by 3 or by 14
-details-says : {p : Place} (s : Bool) {ls : List (List ℕ)} (w : DetailsOver p s ls) (o : ℕ) → all (all xset) ls ≡ true
+details-says : {p : DetailsField} (s : Bool) {ls : List (List ℕ)} (w : DetailsOver p s ls) (o : ℕ) → all (all xset) ls ≡ true
     → (s ≡ true → Heard (speech.details (markSize p + codeSize true) (nextSize p) o ls)) → Means s (whole w)
 details-says true w o e h = says-signed (whole w) (details-heard w o (h refl))
 details-says false w o e h = says-plain (whole w) (details-set w e) (w .some)
 
 -- and so the lines say the digits and the text
-shown-details : {p : Place} {s : Bool} {ls : List (List ℕ)} (w : DetailsOver p s ls) (h : Means s (whole w)) → ShownDetails s p ls (w .vo) (h .desk)
+shown-details : {p : DetailsField} {s : Bool} {ls : List (List ℕ)} (w : DetailsOver p s ls) (h : Means s (whole w)) → ShownDetails s p ls (w .vo) (h .desk)
 shown-details {p} {s} w h = record {
   spelt = whole w;
   rows = (code s (w .vo) ++ w .text) ∷ w .texts;
@@ -181,7 +181,7 @@ shown-details {p} {s} w h = record {
 }
 
 -- ---- whether they fit
-never-unfit : (p : Place) (least : ℕ) (text : List ℕ) {ls : List (List ℕ)} → DivisionIn (layout p) least text ls → isUnfit (sizeFor p least text) ≡ false
+never-unfit : (p : DetailsField) (least : ℕ) (text : List ℕ) {ls : List (List ℕ)} → DivisionIn (layout p) least text ls → isUnfit (sizeFor p least text) ≡ false
 never-unfit p least text d = go (sizeFor p least text) refl
   where
     go : (z : Size) → sizeFor p least text ≡ z → isUnfit z ≡ false
@@ -195,13 +195,13 @@ text-same vo b d r =
     ap (λ (x : List ℕ). code false vo ++ textOf (plainly x)) f ∙ ap (λ (a : Answer). code false vo ++ textOf a) r ∙ ap (λ (x : List ℕ). code false vo ++ x) f
 
 -- so what does not fit has the sign
-unfit-signed : {p : Place} (s : Bool) {ls : List (List ℕ)} (w : DetailsOver p s ls) (h : Means s (whole w)) → isUnfit (sizeFor p (codeSize s) (codeAndText s (w .vo ∷ h .desk ∷ []))) ≡ true → s ≡ true
+unfit-signed : {p : DetailsField} (s : Bool) {ls : List (List ℕ)} (w : DetailsOver p s ls) (h : Means s (whole w)) → isUnfit (sizeFor p (codeSize s) (codeAndText s (w .vo ∷ h .desk ∷ []))) ≡ true → s ≡ true
 unfit-signed true w h q = refl
 unfit-signed {p} false w h q =
     absurd (false≢true (sym (never-unfit p 9 (code false (w .vo) ++ whole w) (details-divides w)) ∙ ap (λ (x : List ℕ). isUnfit (sizeFor p 9 x)) (sym (text-same (w .vo) (whole w) (h .desk) (h .reads))) ∙ q))
 
 -- with it a text may be another, but is no longer: that is enough where no byte is barred
-free-fits : {p : Place} {s : Bool} {ls : List (List ℕ)} (w : DetailsOver p s ls) (h : Means s (whole w)) → layout p .barred ≡ [] → isUnfit (sizeFor p (codeSize s) (codeAndText s (w .vo ∷ h .desk ∷ []))) ≡ false
+free-fits : {p : DetailsField} {s : Bool} {ls : List (List ℕ)} (w : DetailsOver p s ls) (h : Means s (whole w)) → layout p .barred ≡ [] → isUnfit (sizeFor p (codeSize s) (codeAndText s (w .vo ∷ h .desk ∷ []))) ≡ false
 free-fits {p} {s} w h e =
     let t : List ℕ = textOf (writing s (h .desk)) in
     let n : length t ≤ length (whole w) = no-shorter s (h .desk) t (whole w) (said-is (writing s (h .desk)) (says-written s (whole w) (h .desk) (h .reads))) (h .reads) in
@@ -212,7 +212,7 @@ free-fits {p} {s} w h e =
     never-unfit p (codeSize s) (code s (w .vo) ++ t) (d .1)
 
 -- as in 72 of a 202
-note-free : (r : List ℕ) → layout (notePlace r) .barred ≡ []
+note-free : (r : List ℕ) → layout (noteField r) .barred ≡ []
 note-free [] = refl
 note-free (x ∷ r) = refl
 
@@ -257,8 +257,8 @@ module _ (form : Form) (s : Bool) (t : List ℕ) (ls : List (List ℕ)) (h : Hel
       sheeted-as form s t ls Note103 (r ∷ []) e (ap (map (drop 5)) i) (subst (λ (k : List (List ℕ)). Shows s Note103 k (r ∷ [])) (sym i) shown.note103) (h .fair .some) (ap not z) (both (plain-said r x) refl) (both (set-text r x) refl) n (λ q. absurd (false≢true q))
 
   -- r is what follows /RPP/, or nothing
-  noted-by : shapeOf form t ≡ Note202 → (r : List ℕ) (ks : List (List ℕ)) (w : DetailsOver (notePlace r) s ks) (y : Means s (whole w)) → Shows s Note202 ls (r ∷ w .vo ∷ y .desk ∷ [])
-      → noteParts s ls ≡ r ∷ detailsParts s (markSize (notePlace r)) (nextSize (notePlace r)) ks → all xset r ≡ true → length r + length (laid ks) ≤ length (laid ls) → Sheeted form s t ls
+  noted-by : shapeOf form t ≡ Note202 → (r : List ℕ) (ks : List (List ℕ)) (w : DetailsOver (noteField r) s ks) (y : Means s (whole w)) → Shows s Note202 ls (r ∷ w .vo ∷ y .desk ∷ [])
+      → noteParts s ls ≡ r ∷ detailsParts s (markSize (noteField r)) (nextSize (noteField r)) ks → all xset r ≡ true → length r + length (laid ks) ≤ length (laid ls) → Sheeted form s t ls
   unfolding contentParts sound crowded
   noted-by e r ks w y v i x k =
       let g = gathered w y in

@@ -15,8 +15,8 @@ use Rattle.roles.specs.declared.Shape.{Shape}
 use Rattle.roles.specs.declared.Shape.the-variants.{Plain, Payer, Payee, Agent, Details, Note103, Note202}
 use Rattle.details.specs.Lines.{together}
 use Rattle.details.specs.Layouts.{Layout, layout, marked}
-use Rattle.details.specs.declared.Place.{Place}
-use Rattle.details.specs.declared.Place.the-variants.{In72}
+use Rattle.details.specs.declared.DetailsField.{DetailsField}
+use Rattle.details.specs.declared.DetailsField.the-variants.{In72}
 use Rattle.writer.specs.Spread.{code, rppLine}
 use Rattle.written.specs.Sentences.{OneByOne}
 use Rattle.sheets.specs.Gather.{codeDigits}
@@ -51,7 +51,7 @@ rows-back v [] = refl
 rows-back v (l ∷ ls) = ap₂ (λ (y : List ℕ) (ys : List (List ℕ)). y ∷ ys) (drop-append-seam (v .mark) l) (later-back (v .next) ls)
 
 -- so the digits and the text are one only
-pub details-one : {s : Bool} {p : Place} {ls : List (List ℕ)} {vo text vo′ text′ : List ℕ} → ShownDetails s p ls vo text → ShownDetails s p ls vo′ text′ → (vo ≡ vo′) × (text ≡ text′)
+pub details-one : {s : Bool} {p : DetailsField} {ls : List (List ℕ)} {vo text vo′ text′ : List ℕ} → ShownDetails s p ls vo text → ShownDetails s p ls vo′ text′ → (vo ≡ vo′) × (text ≡ text′)
 details-one {s} {p} {ls} {vo} {text} {vo′} {text′} a b =
     let r : a .rows ≡ b .rows = sym (rows-back (layout p) (a .rows)) ∙ ap (unmarked (layout p)) (sym (a .marks) ∙ b .marks) ∙ rows-back (layout p) (b .rows) in
     let j : code s vo ++ a .spelt ≡ code s vo′ ++ b .spelt = sym (a .joined) ∙ ap together r ∙ b .joined in

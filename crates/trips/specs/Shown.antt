@@ -16,8 +16,8 @@ use Rattle.records.specs.Record.{Record}
 use Rattle.records.specs.Rule19.{digits}
 use Rattle.details.specs.Lines.{together}
 use Rattle.details.specs.Layouts.{layout, marked}
-use Rattle.details.specs.declared.Place.{Place}
-use Rattle.details.specs.declared.Place.the-variants.{In70, In72, BehindRpp}
+use Rattle.details.specs.declared.DetailsField.{DetailsField}
+use Rattle.details.specs.declared.DetailsField.the-variants.{In70, In72, BehindRpp}
 use Rattle.writer.specs.Spread.{code, rppLine}
 use Rattle.written.specs.Sentences.{OneByOne}
 
@@ -35,10 +35,10 @@ PartOf s (name l) p = reading s l ≡ said p
 PartOf s (taxName l) p = reading s l ≡ said p
 
 -- details: their lines, the marks left out, are together the code and a text that reads as the sheet's
-pub record ShownDetails (s : Bool) (place : Place) (ls : List (List ℕ)) (vo text : List ℕ) : Type 0 where
+pub record ShownDetails (s : Bool) (into : DetailsField) (ls : List (List ℕ)) (vo text : List ℕ) : Type 0 where
   pub spelt : List ℕ
   pub rows : List (List ℕ)
-  pub marks : ls ≡ marked (layout place) rows
+  pub marks : ls ≡ marked (layout into) rows
   pub number : digits 5 vo ≡ true
   pub joined : together rows ≡ code s vo ++ spelt
   pub reads : reading s spelt ≡ said text

@@ -20,8 +20,8 @@ use Rattle.records.specs.Found.{piecesAt}
 use Rattle.records.specs.Rule19.{detailed, noted}
 use Rattle.records.proofs.PieceLaws.{pieces-at, end-within, piece-length}
 use Rattle.details.specs.Layouts.{linesFor, sizeFor}
-use Rattle.details.specs.declared.Place.{Place}
-use Rattle.details.specs.declared.Place.the-variants.{In72, BehindRpp}
+use Rattle.details.specs.declared.DetailsField.{DetailsField}
+use Rattle.details.specs.declared.DetailsField.the-variants.{In72, BehindRpp}
 use Rattle.writer.specs.Spread.{coded, castParts, codeAndText, rppLine, noteLines}
 use Rattle.writer.specs.Sheet.{stoppedAt, unsaid, isUnfit, crowdedNote}
 use Rattle.writer.specs.Steps.{Adds, AddsDetails}
@@ -69,7 +69,7 @@ module _ (s : Bool) (l : List ℕ) (i e : ℕ) (q : e ≡ i + upTo 9 (drop i l))
   abbrev Noted : List (List ℕ) → List ℕ → ℕ → Step → List ℕ → Type 0
   Noted ps out at k after = Adds (unsaid s i (castParts Note202 ps)) (crowdedNote s ps) (laid (noteLines s ps)) out at k after
 
-  abbrev Behind : Place → List ℕ → ℕ → Step → List ℕ → Type 0
+  abbrev Behind : DetailsField → List ℕ → ℕ → Step → List ℕ → Type 0
   Behind p out at k after = AddsDetails s p (e + 1) rest out at k after
 
   pub note-empty : {out after : List ℕ} {at : ℕ} {k : Step} → e ≡ i → Behind In72 out at k after → Noted (piecesAt 9 l i) out at k after

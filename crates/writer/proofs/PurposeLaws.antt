@@ -32,10 +32,10 @@ use Rattle.details.specs.Lines.{together, Later, none, line, Division, lines}
 use Rattle.details.specs.Breaking.{Fit, fits, unfit}
 use Rattle.details.specs.Layouts.{Layout, layout, divided, DivisionIn, laterBytes, linesOf, linesFor, laidFor, sizeFor, Lays}
 use Rattle.details.specs.Layouts as layouts
-use Rattle.details.specs.declared.Place.{Place}
-use Rattle.details.specs.declared.Place.the-variants.{In70, In72, BehindRpp}
+use Rattle.details.specs.declared.DetailsField.{DetailsField}
+use Rattle.details.specs.declared.DetailsField.the-variants.{In70, In72, BehindRpp}
 use Rattle.details.specs.declared.Size.the-variants as size
-use Rattle.details.proofs.PlaceLaws.{bytes-not}
+use Rattle.details.proofs.LayoutLaws.{bytes-not}
 use Rattle.details.proofs.DivisionTheorems.{Fitted, fitted, none-unfit, laid-lines}
 use Rattle.writer.specs.Spread.{coded, code, codeAndText}
 use Rattle.writer.specs.Sheet.{stoppedAt, unsaid, isUnfit}
@@ -71,27 +71,27 @@ division-laid v (lines {l = l} {ls = ls} a b h m e) =
     omega (arith, later-laid (v .next) m, length-append (v .mark) (l ++ laterBytes (v .next) ls), length-append l (laterBytes (v .next) ls))
 
 -- no place has room for more than 248 bytes
-place-text : (p : Place) {least : ℕ} {text : List ℕ} {ls : List (List ℕ)} → DivisionIn (layout p) least text ls → length text ≤ 248
-place-text In70 d = omega (arith, division-text d)
-place-text In72 d = omega (arith, division-text d)
-place-text BehindRpp d = omega (arith, division-text d)
+field-text : (p : DetailsField) {least : ℕ} {text : List ℕ} {ls : List (List ℕ)} → DivisionIn (layout p) least text ls → length text ≤ 248
+field-text In70 d = omega (arith, division-text d)
+field-text In72 d = omega (arith, division-text d)
+field-text BehindRpp d = omega (arith, division-text d)
 
-place-laid : (p : Place) {least : ℕ} {text : List ℕ} {ls : List (List ℕ)} → DivisionIn (layout p) least text ls → length (layouts.laid (layout p) ls) ≤ 248
-place-laid In70 d = omega (arith, division-laid (layout In70) d)
-place-laid In72 d = omega (arith, division-laid (layout In72) d)
-place-laid BehindRpp d = omega (arith, division-laid (layout BehindRpp) d)
+field-laid : (p : DetailsField) {least : ℕ} {text : List ℕ} {ls : List (List ℕ)} → DivisionIn (layout p) least text ls → length (layouts.laid (layout p) ls) ≤ 248
+field-laid In70 d = omega (arith, division-laid (layout In70) d)
+field-laid In72 d = omega (arith, division-laid (layout In72) d)
+field-laid BehindRpp d = omega (arith, division-laid (layout BehindRpp) d)
 
-pub too-long : (p : Place) (least : ℕ) (text : List ℕ) → 248 < length text → sizeFor p least text ≡ size.Unfit
-too-long p least text h = none-unfit p least text (λ ls d. omega (arith, place-text p d))
+pub too-long : (p : DetailsField) (least : ℕ) (text : List ℕ) → 248 < length text → sizeFor p least text ≡ size.Unfit
+too-long p least text h = none-unfit p least text (λ ls d. omega (arith, field-text p d))
 
 -- ---- lines and the CR LF behind the last
-module _ (p : Place) (least : ℕ) (text : List ℕ) (n : ℕ) (e : size.Bytes n ≡ sizeFor p least text) where
+module _ (p : DetailsField) (least : ℕ) (text : List ℕ) (n : ℕ) (e : size.Bytes n ≡ sizeFor p least text) where
   fit : Fitted p least text n
   fit = fitted p least text n (sym e)
 
   pub laid-few : n ≤ 248
   unfolding laidFor
-  laid-few = let k : length (layouts.laid (layout p) (fit .ls)) ≡ n = ap (λ (a : Fit (List (List ℕ))). length (layouts.laid (layout p) (linesOf a))) (sym (fit .is)) ∙ sym (fit .long) in omega (arith, place-laid p (fit .division))
+  laid-few = let k : length (layouts.laid (layout p) (fit .ls)) ≡ n = ap (λ (a : Fit (List (List ℕ))). length (layouts.laid (layout p) (linesOf a))) (sym (fit .is)) ∙ sym (fit .long) in omega (arith, field-laid p (fit .division))
 
   laid-whole : laidFor p least text ++ 13 ∷ 10 ∷ [] ≡ laid (linesFor p least text)
   unfolding linesFor
@@ -112,7 +112,7 @@ module _ (p : Place) (least : ℕ) (text : List ℕ) (n : ℕ) (e : size.Bytes n
       (puts-by laid-whole
       (puts-on (laidFor p least text) (13 ∷ 10 ∷ []) (puts-put {u = laidFor p least text} (ap (λ (k : ℕ). at + k) (fit .long)) (l .leaves)) (puts-put {u = 13 ∷ 10 ∷ []} refl f)))
 
-pub unfit-lines : (p : Place) (least : ℕ) (text : List ℕ) → sizeFor p least text ≡ size.Unfit → linesFor p least text ≡ []
+pub unfit-lines : (p : DetailsField) (least : ℕ) (text : List ℕ) → sizeFor p least text ≡ size.Unfit → linesFor p least text ≡ []
 unfolding sizeFor linesFor
 unfit-lines p least text e = go (divided (layout p) least text) e
   where
@@ -120,7 +120,7 @@ unfit-lines p least text e = go (divided (layout p) least text) e
     go (fits ls) e = absurd (bytes-not e)
     go unfit e = refl
 
-pub lines-unfit : (p : Place) (least : ℕ) (text out : List ℕ) (at : ℕ) → size.Unfit ≡ sizeFor p least text → Adds Fine (isUnfit (sizeFor p least text)) (laid (linesFor p least text)) out at Unfit out
+pub lines-unfit : (p : DetailsField) (least : ℕ) (text out : List ℕ) (at : ℕ) → size.Unfit ≡ sizeFor p least text → Adds Fine (isUnfit (sizeFor p least text)) (laid (linesFor p least text)) out at Unfit out
 lines-unfit p least text out at e = adds-unfit refl (sym (ap isUnfit e))
 
 -- ---- the parts of a record as code finds them
@@ -205,7 +205,7 @@ module _ {l : List ℕ} {i : ℕ} (w : Detailed l i) where
   pub text-long : length text ≡ length l - (i + 6)
   text-long = piece-length l (i + 6) (length l) (w .inside) (omega arith)
 
-  module _ (s : Bool) (p : Place) where
+  module _ (s : Bool) (p : DetailsField) where
     abbrev whole : List ℕ
     whole = codeAndText s (vo ∷ text ∷ [])
 
@@ -221,8 +221,8 @@ module _ {l : List ℕ} {i : ℕ} (w : Detailed l i) where
 
     -- the text behind the code, in a room of its own
     module _ {least : ℕ} {mid last : List ℕ} {q : Step} (a : Adds (stoppedAt (i + 6) (writing s text)) false (textOf (writing s text)) mid least q last) where
-      pub tell-stop : (out : List ℕ) (at : ℕ) → ((m : ℕ) → q ≡ Put m → ⊥) → AddsDetails s p i (piecesAt 9 l i) out at q out
-      tell-stop out at nope = tells (adds-cut (stoppedAt (i + 6) (writing s text)) Fine (textOf (writing s text)) q nope a)
+      pub details-stop : (out : List ℕ) (at : ℕ) → ((m : ℕ) → q ≡ Put m → ⊥) → AddsDetails s p i (piecesAt 9 l i) out at q out
+      details-stop out at nope = tells (adds-cut (stoppedAt (i + 6) (writing s text)) Fine (textOf (writing s text)) q nope a)
 
       module _ {room : List ℕ} (f : Puts (code s vo) room 0 least mid) {n : ℕ} (g : q ≡ Put n) where
         known : (stoppedAt (i + 6) (writing s text) ≡ Fine) × (_≡_ {A = Bool} false false) × (n ≡ least + length (textOf (writing s text)))
@@ -238,12 +238,12 @@ module _ {l : List ℕ} {i : ℕ} (w : Detailed l i) where
             let q : last ≡ whole ++ drop (length whole) room = u .fills (omega (arith, whole-long)) ∙ sym (over-sets whole room (omega (arith, whole-long))) in
             ap₂ (λ (k : ℕ) (l : List ℕ). take k l) whole-long q ∙ take-append-seam whole (drop (length whole) room)
 
-        pub tell-over : (out : List ℕ) (at : ℕ) → 250 < n → AddsDetails s p i (piecesAt 9 l i) out at Unfit out
-        tell-over out at h = tells (adds-unfit (ap (λ (v : Verdict). then v Fine) (known .0)) (ap isUnfit (too-long p (codeSize s) whole (omega (arith, whole-long)))))
+        pub details-over : (out : List ℕ) (at : ℕ) → 250 < n → AddsDetails s p i (piecesAt 9 l i) out at Unfit out
+        details-over out at h = tells (adds-unfit (ap (λ (v : Verdict). then v Fine) (known .0)) (ap isUnfit (too-long p (codeSize s) whole (omega (arith, whole-long)))))
 
-        pub tell-put : {out after : List ℕ} {at : ℕ} {r : Step} → n ≤ length room → least ≡ codeSize s
+        pub details-put : {out after : List ℕ} {at : ℕ} {r : Step} → n ≤ length room → least ≡ codeSize s
             → Adds Fine (isUnfit (sizeFor p least (take n last))) (laid (linesFor p least (take n last))) out at r after → AddsDetails s p i (piecesAt 9 l i) out at r after
-        tell-put {out} {after} {at} {r} h e d =
+        details-put {out} {after} {at} {r} h e d =
             tells
             (subst (λ (v : Verdict). Adds (then v Fine) (isUnfit (sizeFor p (codeSize s) whole)) (laid (linesFor p (codeSize s) whole)) out at r after) (sym (known .0))
             (subst (λ (t : List ℕ). Adds Fine (isUnfit (sizeFor p (codeSize s) t)) (laid (linesFor p (codeSize s) t)) out at r after) (whole-is h)

@@ -44,12 +44,12 @@ use Rattle.details.specs.Lines.{Division, lines}
 use Rattle.details.specs.Breaking.{Fit}
 use Rattle.details.specs.Layouts.{layout, linesFor, divided, marked, sizeFor}
 use Rattle.details.specs.Layouts as layouts
-use Rattle.details.specs.declared.Place.{Place}
-use Rattle.details.specs.declared.Place.the-variants.{In70}
+use Rattle.details.specs.declared.DetailsField.{DetailsField}
+use Rattle.details.specs.declared.DetailsField.the-variants.{In70}
 use Rattle.details.specs.declared.Size.{Size}
 use Rattle.details.specs.declared.Size.the-variants as size
 use Rattle.details.proofs.DivisionTheorems.{fitted}
-use Rattle.writer.specs.Spread.{saidPart, castParts, lineFor, codeAndText, rppLine, notePlace, noteLines, contentLines, fieldFor, spread}
+use Rattle.writer.specs.Spread.{saidPart, castParts, lineFor, codeAndText, rppLine, noteField, noteLines, contentLines, fieldFor, spread}
 use Rattle.writer.specs.Sheet.{stoppedAt, unsaid, rule15, isUnfit, crowdedNote, crowded, someCrowded}
 use Rattle.writer.specs.declared.Step.{Step}
 use Rattle.writer.specs.declared.Step.the-variants.{Stuck, Unfit}
@@ -115,7 +115,7 @@ some-behind : (ks ls : List (List ℕ)) → Some ls → Some (ks ++ ls)
 some-behind [] ls h = h
 some-behind (k ∷ ks) ls h = record { one = k; more = ks ++ ls; is = refl }
 
-some-details : (p : Place) (least : ℕ) (text : List ℕ) → isUnfit (sizeFor p least text) ≡ false → Some (linesFor p least text)
+some-details : (p : DetailsField) (least : ℕ) (text : List ℕ) → isUnfit (sizeFor p least text) ≡ false → Some (linesFor p least text)
 unfolding linesFor
 some-details p least text e = go (sizeFor p least text) refl e
   where
@@ -139,7 +139,7 @@ content-some s _ _ (payee p ps e g f) c = record { one = lineFor s (pick (begins
 content-some s _ _ (details vo text e g) c = some-details In70 (codeSize s) (codeAndText s (vo ∷ text ∷ [])) c
 content-some s _ _ (note103 rpp e) c = record { one = rppLine rpp; more = []; is = refl }
 content-some s _ _ (note202 rpp vo text e g) c =
-    some-behind (pick (empty rpp) [] (rppLine rpp ∷ [])) (linesFor (notePlace rpp) (codeSize s) (codeAndText s (vo ∷ text ∷ []))) (some-details (notePlace rpp) (codeSize s) (codeAndText s (vo ∷ text ∷ [])) c)
+    some-behind (pick (empty rpp) [] (rppLine rpp ∷ [])) (linesFor (noteField rpp) (codeSize s) (codeAndText s (vo ∷ text ∷ []))) (some-details (noteField rpp) (codeSize s) (codeAndText s (vo ∷ text ∷ [])) c)
 
 -- the field's tag before its lines
 lined-some : (t : List ℕ) (ls : List (List ℕ)) → Some ls → (58 ∷ t ++ 58 ∷ []) ++ laid ls ≡ laid (lined (field t ls))

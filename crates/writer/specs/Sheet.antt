@@ -22,11 +22,11 @@ use Rattle.judge.specs.Message.{verdictOf}
 use Rattle.records.specs.Record.{Record, records}
 use Rattle.records.specs.Places.{nextOf}
 use Rattle.records.specs.Rule19.{sheetForm, sheetSign, rule19}
-use Rattle.details.specs.declared.Place.the-variants.{In70}
+use Rattle.details.specs.declared.DetailsField.the-variants.{In70}
 use Rattle.details.specs.declared.Size.{Size}
 use Rattle.details.specs.declared.Size.the-variants as size
 use Rattle.details.specs.Layouts.{sizeFor}
-use Rattle.writer.specs.Spread.{saidPart, castParts, codeAndText, notePlace, spread}
+use Rattle.writer.specs.Spread.{saidPart, castParts, codeAndText, noteField, spread}
 
 -- ---- 15: the first byte of the sheet that can't be written
 -- a text whose first byte is at o stops
@@ -51,7 +51,7 @@ isUnfit size.Unfit = true
 
 abbrev pub crowdedNote : Bool → List (List ℕ) → Bool
 crowdedNote s [] = false
-crowdedNote s (r ∷ ps) = isUnfit (sizeFor (notePlace r) (codeSize s) (codeAndText s ps))
+crowdedNote s (r ∷ ps) = isUnfit (sizeFor (noteField r) (codeSize s) (codeAndText s ps))
 
 unfoldable pub crowded : Bool → Shape → List (List ℕ) → Bool
 crowded s Details ps = isUnfit (sizeFor In70 (codeSize s) (codeAndText s ps))

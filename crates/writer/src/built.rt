@@ -20,7 +20,7 @@ use super::parts::put_parts;
 use super::purposes::put_purpose;
 use base::bytes::put;
 use base::marks::mark_at;
-use details::Place;
+use details::DetailsField;
 use records::tags::tag_number;
 use roles::Shape;
 use roles::parts::first_role;
@@ -33,7 +33,7 @@ fn put_content(shape: Shape, sign: bool, l: &[u8], i: usize, out: &mut [u8], at:
     ensures { λ r. ⌜ Adds (unsaid sign i (castParts shape (piecesAt 9 (now (l .entry)) i))) (crowded sign shape (piecesAt 9 (now (l .entry)) i)) (laid (contentLines sign shape (piecesAt 9 (now (l .entry)) i))) (now (out .entry)) at r (now (out .exit)) × Within r (length (now (l .entry))) (at + 4 * length (now (l .entry)) + 300) ⌝ }
 {
     match shape {
-        Shape::Details => put_purpose(sign, Place::In70, l, i, out, at),
+        Shape::Details => put_purpose(sign, DetailsField::In70, l, i, out, at),
         Shape::Note103 => put_rpp(l, i, l.len(), out, at),
         Shape::Note202 => put_note(sign, l, i, out, at),
         _ => put_parts(sign, first_role(shape), l, i, out, at),

@@ -17,7 +17,7 @@ use super::purposes::put_purpose;
 use super::texts::put_line;
 use base::bytes::put;
 use base::marks::mark_at;
-use details::Place;
+use details::DetailsField;
 
 // The line with what follows /RPP/: the part from i to e.
 pub(crate) fn put_rpp(l: &[u8], i: usize, e: usize, out: &mut [u8], at: usize) -> Step
@@ -35,11 +35,11 @@ pub(crate) fn put_note(sign: bool, l: &[u8], i: usize, out: &mut [u8], at: usize
 {
     let e = mark_at(b'\t', l, i);
     if e == i {
-        return put_purpose(sign, Place::In72, l, e + 1, out, at);
+        return put_purpose(sign, DetailsField::In72, l, e + 1, out, at);
     }
     let r = put_rpp(l, i, e, out, at);
     let Step::Put(n) = r else {
         return r;
     };
-    put_purpose(sign, Place::BehindRpp, l, e + 1, out, n)
+    put_purpose(sign, DetailsField::BehindRpp, l, e + 1, out, n)
 }

@@ -26,8 +26,8 @@ use Rattle.records.specs.Sentences.{Right}
 use Rattle.records.proofs.SoundLaws.{calm, cast-calm}
 use Rattle.details.specs.Lines.{together}
 use Rattle.details.specs.Layouts.{layout, linesFor}
-use Rattle.details.specs.declared.Place.{Place}
-use Rattle.details.specs.declared.Place.the-variants.{In70, In72, BehindRpp}
+use Rattle.details.specs.declared.DetailsField.{DetailsField}
+use Rattle.details.specs.declared.DetailsField.the-variants.{In70, In72, BehindRpp}
 use Rattle.writer.specs.Spread.{lineFor, code}
 use Rattle.written.proofs.SpeltLaws.{said-is, plain-same, slash, spelt-head, spelt-tax}
 use Rattle.written.proofs.ReadyLaws.{speaks, Laid}
@@ -103,30 +103,30 @@ unmarked m [] = refl
 unmarked m (l ∷ ls) = ap₂ (λ (a b : List ℕ). a ++ b) (drop-append-seam m l) (unmarked m ls)
 
 -- the bytes before a text's first: the mark and the code
-abbrev pub frontOf : Place → Bool → ℕ
+abbrev pub frontOf : DetailsField → Bool → ℕ
 frontOf In70 s = codeSize s
 frontOf In72 s = 5 + codeSize s
 frontOf BehindRpp s = 5 + codeSize s
 
-abbrev pub nextOf : Place → ℕ
+abbrev pub nextOf : DetailsField → ℕ
 nextOf In70 = 0
 nextOf In72 = 2
 nextOf BehindRpp = 2
 
-front-dropped : (p : Place) (s : Bool) (l : List ℕ) → drop (frontOf p s) (layout p .mark ++ l) ≡ drop (codeSize s) l
+front-dropped : (p : DetailsField) (s : Bool) (l : List ℕ) → drop (frontOf p s) (layout p .mark ++ l) ≡ drop (codeSize s) l
 front-dropped In70 s l = refl
 front-dropped In72 true l = refl
 front-dropped In72 false l = refl
 front-dropped BehindRpp true l = refl
 front-dropped BehindRpp false l = refl
 
-next-dropped : (p : Place) (ls : List (List ℕ)) → speech.laterText (nextOf p) (map (λ (k : List ℕ). layout p .next ++ k) ls) ≡ together ls
+next-dropped : (p : DetailsField) (ls : List (List ℕ)) → speech.laterText (nextOf p) (map (λ (k : List ℕ). layout p .next ++ k) ls) ≡ together ls
 next-dropped In70 ls = unmarked (layout In70 .next) ls
 next-dropped In72 ls = unmarked (layout In72 .next) ls
 next-dropped BehindRpp ls = unmarked (layout BehindRpp .next) ls
 
 -- over the lines, behind the marks and the code, stands the text
-pub details-again : (p : Place) (s : Bool) (vo w : List ℕ) (o : ℕ) → digits 5 vo ≡ true → Laid p (codeSize s) (code s vo ++ w)
+pub details-again : (p : DetailsField) (s : Bool) (vo w : List ℕ) (o : ℕ) → digits 5 vo ≡ true → Laid p (codeSize s) (code s vo ++ w)
     → (at : ℕ) × (speech.details (frontOf p s) (nextOf p) o (linesFor p (codeSize s) (code s vo ++ w)) ≡ speech asDetails at w ∷ [])
 unfolding speech.details
 details-again p s vo w o d h =

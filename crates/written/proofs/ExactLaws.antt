@@ -31,8 +31,8 @@ use Rattle.roles.specs.declared.Shape.the-variants.{Plain, Payer, Payee, Agent,
 use Rattle.records.specs.Record.{Record}
 use Rattle.records.specs.Places.{sizeOf, nextOf}
 use Rattle.details.specs.Layouts.{sizeFor}
-use Rattle.details.specs.declared.Place.{Place}
-use Rattle.details.specs.declared.Place.the-variants.{In70, In72, BehindRpp}
+use Rattle.details.specs.declared.DetailsField.{DetailsField}
+use Rattle.details.specs.declared.DetailsField.the-variants.{In70, In72, BehindRpp}
 use Rattle.details.specs.declared.Size.{Size}
 use Rattle.details.specs.declared.Size.the-variants.{Bytes, Unfit}
 use Rattle.details.proofs.DivisionTheorems.{unfit-none, none-unfit}
@@ -188,7 +188,7 @@ module _ (s : Bool) where
 
 -- ---- 16
 module _ (s : Bool) where
-  unfit-undivided : (place : Place) (ps : List (List ℕ)) → (isUnfit (sizeFor place (codeSize s) (codeAndText s ps)) ≡ true) ↔ Undivided s place ps
+  unfit-undivided : (place : DetailsField) (ps : List (List ℕ)) → (isUnfit (sizeFor place (codeSize s) (codeAndText s ps)) ≡ true) ↔ Undivided s place ps
   unfit-undivided place ps = (λ e rows d. unfit-none place (codeSize s) (codeAndText s ps) (go (sizeFor place (codeSize s) (codeAndText s ps)) e) d, λ n. ap isUnfit (none-unfit place (codeSize s) (codeAndText s ps) n))
     where
       go : (z : Size) → isUnfit z ≡ true → z ≡ Unfit

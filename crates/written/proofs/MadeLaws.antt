@@ -22,8 +22,8 @@ use Rattle.records.specs.Sentences.{Right}
 use Rattle.records.specs.Sentences as sentences
 use Rattle.details.specs.Lines.{together, Division, lines}
 use Rattle.details.specs.Layouts.{layout, marked, linesOf, linesFor, sizeFor}
-use Rattle.details.specs.declared.Place.{Place}
-use Rattle.details.specs.declared.Place.the-variants.{In70, In72, BehindRpp}
+use Rattle.details.specs.declared.DetailsField.{DetailsField}
+use Rattle.details.specs.declared.DetailsField.the-variants.{In70, In72, BehindRpp}
 use Rattle.details.specs.declared.Size.{Size}
 use Rattle.details.specs.declared.Size.the-variants.{Bytes, Unfit}
 use Rattle.details.proofs.DivisionTheorems.{Fitted, fitted}
@@ -49,7 +49,7 @@ module _ (s : Bool) where
   rows-join : {ok : ℕ → Bool} {least : ℕ} {text ws : List ℕ} {rows : List (List ℕ)} → Division ok least text ws rows → together rows ≡ text
   rows-join (lines a b c m j) = j
 
-  pub details-made : (place : Place) (vo text : List ℕ) → speaks s (name text) ≡ true → isUnfit (sizeFor place (codeSize s) (codeAndText s (vo ∷ text ∷ []))) ≡ false
+  pub details-made : (place : DetailsField) (vo text : List ℕ) → speaks s (name text) ≡ true → isUnfit (sizeFor place (codeSize s) (codeAndText s (vo ∷ text ∷ []))) ≡ false
       → WrittenDetails s place vo text (linesFor place (codeSize s) (codeAndText s (vo ∷ text ∷ [])))
   unfolding linesFor
   details-made place vo text e u = go (sizeFor place (codeSize s) (codeAndText s (vo ∷ text ∷ []))) refl u

@@ -32,8 +32,8 @@ use Rattle.records.specs.Sentences.{Right, plain, agent, payer, payee, details,
 use Rattle.details.specs.Lines.{together, Later, none, line, Division, lines}
 use Rattle.details.specs.Breaking.{opens}
 use Rattle.details.specs.Layouts.{layout, marked, linesOf, linesFor, sizeFor}
-use Rattle.details.specs.declared.Place.{Place}
-use Rattle.details.specs.declared.Place.the-variants.{In70, In72, BehindRpp}
+use Rattle.details.specs.declared.DetailsField.{DetailsField}
+use Rattle.details.specs.declared.DetailsField.the-variants.{In70, In72, BehindRpp}
 use Rattle.details.specs.declared.Size.{Size}
 use Rattle.details.specs.declared.Size.the-variants.{Bytes, Unfit}
 use Rattle.details.proofs.DivisionTheorems.{Fitted, fitted}
@@ -109,7 +109,7 @@ module _ (form : Form) (s : Bool) where
       go false e = refl
 
 -- ---- details in their lines
-pub record Laid (p : Place) (least : ℕ) (text : List ℕ) : Type 0 where
+pub record Laid (p : DetailsField) (least : ℕ) (text : List ℕ) : Type 0 where
   pub front : List ℕ
   pub behind : List (List ℕ)
   pub is : linesFor p least text ≡ marked (layout p) (front ∷ behind)
@@ -117,7 +117,7 @@ pub record Laid (p : Place) (least : ℕ) (text : List ℕ) : Type 0 where
   pub later : Later (opens (layout p .barred)) (tail (layout p .widths)) behind
   pub joins : together (front ∷ behind) ≡ text
 
-pub laid : (p : Place) (least : ℕ) (text : List ℕ) → isUnfit (sizeFor p least text) ≡ false → Laid p least text
+pub laid : (p : DetailsField) (least : ℕ) (text : List ℕ) → isUnfit (sizeFor p least text) ≡ false → Laid p least text
 unfolding linesFor
 laid p least text e = go (sizeFor p least text) refl e
   where
@@ -184,7 +184,7 @@ together-set : (ls : List (List ℕ)) → all xset (together ls) ≡ true → al
 together-set [] e = refl
 together-set (l ∷ ls) e = both (all-front xset l (together ls) e) (together-set ls (all-behind xset l (together ls) e))
 
-layout-set : (p : Place) → (all xset (layout p .mark) ≡ true) × (all xset (layout p .next) ≡ true)
+layout-set : (p : DetailsField) → (all xset (layout p .mark) ≡ true) × (all xset (layout p .next) ≡ true)
 unfolding xset letter capital shared digit isIn marks
 layout-set In70 = (refl, refl)
 layout-set In72 = (refl, refl)
@@ -194,7 +194,7 @@ next-set : (m : List ℕ) (ls : List (List ℕ)) → all xset m ≡ true → all
 next-set m [] e h = refl
 next-set m (l ∷ ls) e h = both (all-append xset m l e (left (all xset l) _ h)) (next-set m ls e (right (all xset l) _ h))
 
-marked-set : (p : Place) (ls : List (List ℕ)) → all (all xset) ls ≡ true → all (all xset) (marked (layout p) ls) ≡ true
+marked-set : (p : DetailsField) (ls : List (List ℕ)) → all (all xset) ls ≡ true → all (all xset) (marked (layout p) ls) ≡ true
 marked-set p [] e = refl
 marked-set p (l ∷ ls) e =
     both (all-append xset (layout p .mark) l (layout-set p .0) (left (all xset l) _ e)) (next-set (layout p .next) ls (layout-set p .1) (right (all xset l) _ e))
@@ -216,12 +216,12 @@ on-72 : (ls : List (List ℕ)) → all goesOn (map (λ (k : List ℕ). bytes "//
 on-72 [] = refl
 on-72 (l ∷ ls) = on-72 ls
 
-next-on : (p : Place) {ws : List ℕ} {ls : List (List ℕ)} → Later (opens (layout p .barred)) ws ls → all goesOn (map (λ (k : List ℕ). layout p .next ++ k) ls) ≡ true
+next-on : (p : DetailsField) {ws : List ℕ} {ls : List (List ℕ)} → Later (opens (layout p .barred)) ws ls → all goesOn (map (λ (k : List ℕ). layout p .next ++ k) ls) ≡ true
 next-on In70 m = on-70 m
 next-on In72 {ls = ls} m = on-72 ls
 next-on BehindRpp {ls = ls} m = on-72 ls
 
-laid-fair : {p : Place} {least : ℕ} {text : List ℕ} → Laid p least text → all xset text ≡ true → Fair (linesFor p least text)
+laid-fair : {p : DetailsField} {least : ℕ} {text : List ℕ} → Laid p least text → all xset text ≡ true → Fair (linesFor p least text)
 laid-fair {p} {least} {text} w e =
     let f : Fair (marked (layout p) (w .front ∷ w .behind)) =
     record {

@@ -36,8 +36,8 @@ use Rattle.records.specs.Sentences.{BadAt, unbegun, untyped, wrong, unended}
 use Rattle.records.proofs.SheetLaws.{sheet-rest}
 use Rattle.records.proofs.PlaceLaws.{size-sheet, widthOf, size-tabbed}
 use Rattle.details.specs.Layouts.{linesFor, sizeFor}
-use Rattle.details.specs.declared.Place.{Place}
-use Rattle.details.specs.declared.Place.the-variants.{In70, In72, BehindRpp}
+use Rattle.details.specs.declared.DetailsField.{DetailsField}
+use Rattle.details.specs.declared.DetailsField.the-variants.{In70, In72, BehindRpp}
 use Rattle.details.specs.declared.Size.{Size}
 use Rattle.details.specs.declared.Size.the-variants.{Bytes, Unfit}
 use Rattle.writer.specs.Spread.{coded, castParts, lineFor, codeAndText, rppLine, noteLines, contentLines, fieldFor, spread}
@@ -69,7 +69,7 @@ cast-size : (s : Bool) (sh : Shape) (ps : List (List ℕ)) → lines.sizeOf (map
 cast-size s sh ps = omega (arith, parts-size s (cast sh ps), ap widthOf (same-lines sh ps))
 
 -- ---- details and notes
-details-size : (p : Place) (least : ℕ) (text : List ℕ) → lines.sizeOf (linesFor p least text) ≤ 250
+details-size : (p : DetailsField) (least : ℕ) (text : List ℕ) → lines.sizeOf (linesFor p least text) ≤ 250
 details-size p least text = go (sizeFor p least text) refl
   where
     go : (z : Size) → sizeFor p least text ≡ z → lines.sizeOf (linesFor p least text) ≤ 250

@@ -33,8 +33,8 @@ use Rattle.records.specs.Rule19.{digits, sheetForm, sheetSign}
 use Rattle.records.specs.Sentences.{Right, plain, agent, payer, payee, details, note103, note202}
 use Rattle.records.proofs.SoundLaws.{calm, cast-calm}
 use Rattle.details.specs.Layouts.{linesFor, sizeFor}
-use Rattle.details.specs.declared.Place.{Place}
-use Rattle.details.specs.declared.Place.the-variants.{In70, In72, BehindRpp}
+use Rattle.details.specs.declared.DetailsField.{DetailsField}
+use Rattle.details.specs.declared.DetailsField.the-variants.{In70, In72, BehindRpp}
 use Rattle.writer.specs.Spread.{castParts, lineFor, code, rppLine, contentLines, fieldFor, spread}
 use Rattle.writer.specs.Spread as spread
 use Rattle.writer.specs.Sheet.{isUnfit, crowded, fieldsOf, sheetRules}
@@ -96,7 +96,7 @@ parts-heard o sh p ps r n g e =
     subst (λ (l : List Part). Heard (names o l)) (sym (cast-again true sh (p ∷ ps) r e)) (names-heard o xs e k (cast-untaxed sh (p ∷ ps)) (cast-calm sh (p ∷ ps) r))
 
 -- ---- details
-heard-details : (q : Place) (vo p : List ℕ) (o : ℕ) → digits 5 vo ≡ true → empty p ≡ false → speaks true (name p) ≡ true → Laid q (codeSize true) (code true vo ++ textOf (writing true p))
+heard-details : (q : DetailsField) (vo p : List ℕ) (o : ℕ) → digits 5 vo ≡ true → empty p ≡ false → speaks true (name p) ≡ true → Laid q (codeSize true) (code true vo ++ textOf (writing true p))
     → Heard (speech.details (frontOf q true) (nextOf q) o (linesFor q (codeSize true) (code true vo ++ textOf (writing true p))))
 heard-details q vo p o d n e h =
     let w = details-again q true vo (textOf (writing true p)) o d h in

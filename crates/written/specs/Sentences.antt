@@ -30,8 +30,8 @@ use Rattle.records.specs.Sentences.{BadAt}
 use Rattle.details.specs.Lines.{together, Most}
 use Rattle.details.specs.Breaking.{opens}
 use Rattle.details.specs.Layouts.{layout, DivisionIn, marked}
-use Rattle.details.specs.declared.Place.{Place}
-use Rattle.details.specs.declared.Place.the-variants.{In70, In72, BehindRpp}
+use Rattle.details.specs.declared.DetailsField.{DetailsField}
+use Rattle.details.specs.declared.DetailsField.the-variants.{In70, In72, BehindRpp}
 use Rattle.writer.specs.Spread.{castParts, code, codeAndText, rppLine}
 use Rattle.writer.specs.Sheet.{messageFor}
 
@@ -52,14 +52,14 @@ Line s (taxName p) l = Shortest s p l
 
 -- details: their lines, the marks left out, are together the code and the shortest text for it (D3); they are a division, and each has the most
 -- that it lawfully can
-pub record WrittenDetails (s : Bool) (place : Place) (vo text : List ℕ) (ls : List (List ℕ)) : Type 0 where
+pub record WrittenDetails (s : Bool) (into : DetailsField) (vo text : List ℕ) (ls : List (List ℕ)) : Type 0 where
   pub spelt : List ℕ
   pub shortest : Shortest s text spelt
   pub rows : List (List ℕ)
-  pub marks : ls ≡ marked (layout place) rows
+  pub marks : ls ≡ marked (layout into) rows
   pub joined : together rows ≡ code s vo ++ spelt
-  pub division : DivisionIn (layout place) (codeSize s) (code s vo ++ spelt) rows
-  pub fullest : Most (opens (layout place .barred)) (layout place .widths) rows
+  pub division : DivisionIn (layout into) (codeSize s) (code s vo ++ spelt) rows
+  pub fullest : Most (opens (layout into .barred)) (layout into .widths) rows
 
 pub data Content (s : Bool) : Shape → List (List ℕ) → List (List ℕ) → Type 0 where
   plain : {ps ls : List (List ℕ)} → OneByOne (Line s) (cast Plain ps) ls → Content s Plain ps ls
@@ -125,8 +125,8 @@ pub record StuckAt (form : Form) (s : Bool) (o : ℕ) (rs : List Record) (p : �
 
 -- ---- 16
 -- the code and the text written for it can't be divided in any way
-abbrev pub Undivided : Bool → Place → List (List ℕ) → Type 0
-Undivided s place ps = (rows : List (List ℕ)) → DivisionIn (layout place) (codeSize s) (codeAndText s ps) rows → ⊥
+abbrev pub Undivided : Bool → DetailsField → List (List ℕ) → Type 0
+Undivided s into ps = (rows : List (List ℕ)) → DivisionIn (layout into) (codeSize s) (codeAndText s ps) rows → ⊥
 
 pub data NoWay (s : Bool) : Shape → List (List ℕ) → Type 0 where
   in70 : {ps : List (List ℕ)} → Undivided s In70 ps → NoWay s Details ps
