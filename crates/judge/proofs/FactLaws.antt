@@ -31,7 +31,7 @@ use Rattle.values.proofs.JudgedLaws.{Ordered, none, next}
 use Rattle.values.proofs.ValueLaws.{values-order}
 use Rattle.values.proofs.StepLaws.{among-two, first-field, first-tag, has-tag, has-kpp, rule11-by, rule13-by}
 use Rattle.judge.specs.declared.facts.Facts.{Facts}
-use Rattle.judge.specs.Facts.{orElse, within, marked, kppAt, asVerdict, nothingYet, markedBy, notedBy, Unmarked, valuesFor, noted, factsFrom, openBank, taxRule, valueRules}
+use Rattle.judge.specs.Facts.{orElse, within, marked, kppAt, asVerdict, nothingYet, markedBy, withFinds, Unmarked, valuesFor, withField, factsFrom, openBank, taxRule, valueRules}
 
 -- ---- places
 pub else-old : {a : ℕ} (b : ℕ) → (a ≡ 0 → ⊥) → a ≡ orElse a b
@@ -88,12 +88,12 @@ pub made-marked : (f : Facts) (o : ℕ) (t : List ℕ) {b u g : ℕ} {w : Bool}
 unfolding markedBy
 made-marked f o t b w u g = rw (b, w, u, g)
 
-pub made-noted : (f : Facts) (s : ℕ) (t : List ℕ) (x : Finds) {d m p : ℕ} {y e : Bool}
+pub made-with : (f : Facts) (s : ℕ) (t : List ℕ) (x : Finds) {d m p : ℕ} {y e : Bool}
     → d ≡ orElse (f .day) (within s (x .day)) → m ≡ orElse (f .currency) (within s (x .currency)) → p ≡ orElse (f .party) (within s (x .party))
     → y ≡ (f .payer || kppAt (x .kpp) t (bytes "50K")) → e ≡ (f .payee || kppAt (x .kpp) t (bytes "59"))
-    → _≡_ {A = Facts} (record { day = d; currency = m; bank = f .bank; through = f .through; party = p; payer = y; payee = e; purpose = f .purpose; budget = f .budget }) (notedBy f s t x)
-unfolding notedBy
-made-noted f s t x d m p y e = rw (d, m, p, y, e)
+    → _≡_ {A = Facts} (record { day = d; currency = m; bank = f .bank; through = f .through; party = p; payer = y; payee = e; purpose = f .purpose; budget = f .budget }) (withFinds f s t x)
+unfolding withFinds
+made-with f s t x d m p y e = rw (d, m, p, y, e)
 
 -- none at all
 else-none : (a : ℕ) → a ≡ orElse a 0
@@ -120,19 +120,19 @@ unmarked n h26 h56a h56d h57a h57d h77 f o =
     (no-mark (f .purpose) o (other n (pack (bytes "26T")) h26)) (no-mark (f .budget) o (other n (pack (bytes "77B")) h77))
 
 -- where nothing is found
-pub nothing-noted : (f : Facts) (s : ℕ) (t : List ℕ) {x : Finds} → x ≡ finds 0 0 0 false → f ≡ notedBy f s t x
-unfolding notedBy within
-nothing-noted f s t e = go ∙ ap (notedBy f s t) (sym e)
+pub nothing-found : (f : Facts) (s : ℕ) (t : List ℕ) {x : Finds} → x ≡ finds 0 0 0 false → f ≡ withFinds f s t x
+unfolding withFinds within
+nothing-found f s t e = go ∙ ap (withFinds f s t) (sym e)
   where
-    go : f ≡ notedBy f s t (finds 0 0 0 false)
+    go : f ≡ withFinds f s t (finds 0 0 0 false)
     go =
-        made-noted f s t (finds 0 0 0 false) (else-none (f .day)) (else-none (f .currency)) (else-none (f .party))
+        made-with f s t (finds 0 0 0 false) (else-none (f .day)) (else-none (f .currency)) (else-none (f .party))
         (sym (ap (λ (b : Bool). f .payer || b) (and-false (same t (bytes "50K"))) ∙ or-false (f .payer)))
         (sym (ap (λ (b : Bool). f .payee || b) (and-false (same t (bytes "59"))) ∙ or-false (f .payee)))
 
 -- ---- the fields' facts, one by one: any place, and any test
 module _ (form : Form) (get : Facts → ℕ) (place : ℕ → Field → ℕ) (number : ℕ) (bad : Kind → Bool)
-    (turn : (f : Facts) (o : ℕ) (g : Field) → get (noted form f o g) ≡ orElse (get f) (place o g))
+    (turn : (f : Facts) (o : ℕ) (g : Field) → get (withField form f o g) ≡ orElse (get f) (place o g))
     (step : (o : ℕ) (g : Field) (gs : List Field) → firstBad number bad (valuesIn form o (g ∷ gs)) ≡ then (asVerdict number (place o g)) (firstBad number bad (valuesIn form (nextOf o g) gs))) where
   then-else : (a b : ℕ) (v : Verdict) → then (asVerdict number (orElse a b)) v ≡ then (asVerdict number a) (then (asVerdict number b) v)
   unfolding orElse
@@ -143,19 +143,19 @@ module _ (form : Form) (get : Facts → ℕ) (place : ℕ → Field → ℕ) (nu
   unfolding factsFrom firstBad
   place-from f o [] = sym (then-fine (asVerdict number (get f)))
   place-from f o (g ∷ gs) =
-      place-from (noted form f o g) (nextOf o g) gs
+      place-from (withField form f o g) (nextOf o g) gs
       ∙ ap (λ (k : ℕ). then (asVerdict number k) (firstBad number bad (valuesIn form (nextOf o g) gs))) (turn f o g)
       ∙ then-else (get f) (place o g) (firstBad number bad (valuesIn form (nextOf o g) gs))
       ∙ ap (then (asVerdict number (get f))) (sym (step o g gs))
 
 module _ (form : Form) (get : Facts → Bool) (test : Field → Bool) (t : Kind → Bool)
-    (turn : (f : Facts) (o : ℕ) (g : Field) → get (noted form f o g) ≡ (get f || test g))
+    (turn : (f : Facts) (o : ℕ) (g : Field) → get (withField form f o g) ≡ (get f || test g))
     (step : (o : ℕ) (g : Field) (gs : List Field) → has t (valuesIn form o (g ∷ gs)) ≡ (test g || has t (valuesIn form (nextOf o g) gs))) where
   pub test-from : (f : Facts) (o : ℕ) (gs : List Field) → get (factsFrom form f o gs) ≡ (get f || has t (valuesIn form o gs))
   unfolding factsFrom
   test-from f o [] = sym (or-false (get f))
   test-from f o (g ∷ gs) =
-      test-from (noted form f o g) (nextOf o g) gs
+      test-from (withField form f o g) (nextOf o g) gs
       ∙ ap (λ (b : Bool). b || has t (valuesIn form (nextOf o g) gs)) (turn f o g)
       ∙ or-or (get f) (test g) (has t (valuesIn form (nextOf o g) gs))
       ∙ ap (λ (b : Bool). get f || b) (sym (step o g gs))
@@ -202,44 +202,44 @@ module _ (form : Form) where
 
   module _ (fs : List Field) where
     day-verdict : verdictOn 9 (λ f. f .day) fs ≡ rule9 form fs
-    unfolding nothingYet notedBy markedBy rule9
+    unfolding nothingYet withFinds markedBy rule9
     day-verdict = place-from form (λ f. f .day) (λ o g. within (startOf o g) (faultOf noDay (valuesFor form g))) 9 noDay (λ f o g. refl) (fault-step 9 noDay (λ t. refl)) nothingYet 5 fs
 
     currency-verdict : verdictOn 10 (λ f. f .currency) fs ≡ rule10 form fs
-    unfolding nothingYet notedBy markedBy rule10
+    unfolding nothingYet withFinds markedBy rule10
     currency-verdict = place-from form (λ f. f .currency) (λ o g. within (startOf o g) (faultOf foreign (valuesFor form g))) 10 foreign (λ f o g. refl) (fault-step 10 foreign (λ t. refl)) nothingYet 5 fs
 
     party-verdict : verdictOn 12 (λ f. f .party) fs ≡ rule12 form fs
-    unfolding nothingYet notedBy markedBy rule12
+    unfolding nothingYet withFinds markedBy rule12
     party-verdict = place-from form (λ f. f .party) (λ o g. within (startOf o g) (faultOf apart (valuesFor form g))) 12 apart (λ f o g. refl) (fault-step 12 apart (λ t. refl)) nothingYet 5 fs
 
     bank-verdict : verdictOn 11 (λ f. f .bank) fs ≡ firstBad 11 is56 (valuesIn form 5 fs)
-    unfolding nothingYet notedBy markedBy
+    unfolding nothingYet withFinds markedBy
     bank-verdict = place-from form (λ f. f .bank) (λ o g. marked (among (tagOf g) tags56) o) 11 is56 (λ f o g. refl) (tag-step 11 tags56) nothingYet 5 fs
 
     purpose-verdict : verdictOn 13 (λ f. f .purpose) fs ≡ firstBad 13 is26T (valuesIn form 5 fs)
-    unfolding nothingYet notedBy markedBy
+    unfolding nothingYet withFinds markedBy
     purpose-verdict =
         place-from form (λ f. f .purpose) (λ o g. marked (among (tagOf g) (bytes "26T" ∷ [])) o) 13 is26T
         (λ f o g. ap (λ (b : Bool). orElse (f .purpose) (marked b o)) (one-tag (tagOf g) (bytes "26T"))) (tag-step 13 (bytes "26T" ∷ [])) nothingYet 5 fs
 
     budget-verdict : verdictOn 13 (λ f. f .budget) fs ≡ firstBad 13 is77B (valuesIn form 5 fs)
-    unfolding nothingYet notedBy markedBy
+    unfolding nothingYet withFinds markedBy
     budget-verdict =
         place-from form (λ f. f .budget) (λ o g. marked (among (tagOf g) (bytes "77B" ∷ [])) o) 13 is77B
         (λ f o g. ap (λ (b : Bool). orElse (f .budget) (marked b o)) (one-tag (tagOf g) (bytes "77B"))) (tag-step 13 (bytes "77B" ∷ [])) nothingYet 5 fs
 
     through-is : factsFrom form nothingYet 5 fs .through ≡ has is57 (valuesIn form 5 fs)
-    unfolding nothingYet notedBy markedBy
+    unfolding nothingYet withFinds markedBy
     through-is = test-from form (λ f. f .through) (λ g. among (tagOf g) tags57) is57 (λ f o g. refl) (has-step tags57) nothingYet 5 fs
 
     payer-is : factsFrom form nothingYet 5 fs .payer ≡ has (kppIn (bytes "50K")) (valuesIn form 5 fs)
-    unfolding nothingYet notedBy markedBy
+    unfolding nothingYet withFinds markedBy
     payer-is =
         test-from form (λ f. f .payer) (λ g. kppAt (has hasKpp (valuesFor form g)) (tagOf g) (bytes "50K")) (kppIn (bytes "50K")) (λ f o g. refl) (kpp-step (bytes "50K")) nothingYet 5 fs
 
     payee-is : factsFrom form nothingYet 5 fs .payee ≡ has (kppIn (bytes "59")) (valuesIn form 5 fs)
-    unfolding nothingYet notedBy markedBy
+    unfolding nothingYet withFinds markedBy
     payee-is =
         test-from form (λ f. f .payee) (λ g. kppAt (has hasKpp (valuesFor form g)) (tagOf g) (bytes "59")) (kppIn (bytes "59")) (λ f o g. refl) (kpp-step (bytes "59")) nothingYet 5 fs
 

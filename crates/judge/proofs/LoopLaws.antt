@@ -43,7 +43,7 @@ use Rattle.roles.proofs.CodeLaws.{field-found, spoken-next}
 use Rattle.judge.specs.declared.parts.Part.{Part}
 use Rattle.judge.specs.declared.facts.Facts.{Facts}
 use Rattle.judge.specs.Parts.{Settled, Here}
-use Rattle.judge.specs.Facts.{markedBy, notedBy, valuesFor, findsIn, noted, factsFrom}
+use Rattle.judge.specs.Facts.{markedBy, withFinds, valuesFor, findsIn, withField, factsFrom}
 use Rattle.judge.proofs.FactLaws.{faults-in}
 use Rattle.judge.proofs.PartLaws.{fieldOf, at-field, next-field}
 
@@ -147,11 +147,11 @@ place-small {m} {spots} s form k n q h e =
     omega (arith, s .stand k h .dash, unheard-within (spoken form o fs) (o + 2) (o + sizeOf (linesOf fs) + 2) n q (spoken-within form o fs) (sym e))
 
 -- ---- 9 to 13: one field more
-pub noted-on : {m spots : List ℕ} {k : ℕ} {p : Part} (h : Here m spots k p) (form : Form) (f : Facts) {e g : Facts} {x : Finds} → x ≡ findsIn form (fieldOf h)
-    → e ≡ markedBy f (p .colon) (unpack (p .tag)) → g ≡ notedBy e (p .start) (unpack (p .tag)) x
+pub field-on : {m spots : List ℕ} {k : ℕ} {p : Part} (h : Here m spots k p) (form : Form) (f : Facts) {e g : Facts} {x : Finds} → x ≡ findsIn form (fieldOf h)
+    → e ≡ markedBy f (p .colon) (unpack (p .tag)) → g ≡ withFinds e (p .start) (unpack (p .tag)) x
     → factsFrom form f (byte spots k) (drop k (fields m)) ≡ factsFrom form g (byte spots (k + 1)) (drop (k + 1) (fields m))
 unfolding factsFrom
-noted-on {m} {spots} {k} {p} h form f {e} {g} {x} i a b =
-    let same : noted form f (p .colon) (fieldOf h) ≡ g =
-    sym (b ∙ ap (λ (y : Facts). notedBy y (p .start) (unpack (p .tag)) x) a ∙ ap₂ (λ (t : List ℕ) (s : ℕ). notedBy (markedBy f (p .colon) t) s t x) (h .tag-is) (h .start-is) ∙ ap (notedBy (markedBy f (p .colon) (h .tag)) (startOf (p .colon) (fieldOf h)) (h .tag)) i) in
+field-on {m} {spots} {k} {p} h form f {e} {g} {x} i a b =
+    let same : withField form f (p .colon) (fieldOf h) ≡ g =
+    sym (b ∙ ap (λ (y : Facts). withFinds y (p .start) (unpack (p .tag)) x) a ∙ ap₂ (λ (t : List ℕ) (s : ℕ). withFinds (markedBy f (p .colon) t) s t x) (h .tag-is) (h .start-is) ∙ ap (withFinds (markedBy f (p .colon) (h .tag)) (startOf (p .colon) (fieldOf h)) (h .tag)) i) in
     at-field h (factsFrom form f) ∙ ap (λ (y : Facts). factsFrom form y (nextOf (p .colon) (fieldOf h)) (drop (k + 1) (fields m))) same ∙ next-field h (factsFrom form g)

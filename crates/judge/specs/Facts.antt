@@ -69,8 +69,8 @@ markedBy f o t =
     }
 
 -- what is found in its content, which starts at s
-unfoldable pub notedBy : Facts → ℕ → List ℕ → Finds → Facts
-notedBy f s t x =
+unfoldable pub withFinds : Facts → ℕ → List ℕ → Finds → Facts
+withFinds f s t x =
     record {
       day = orElse (f .day) (within s (x .day));
       currency = orElse (f .currency) (within s (x .currency));
@@ -93,12 +93,12 @@ valuesFor form (field t ls) = valuesOf t (heldBy form t) ls
 abbrev pub findsIn : Form → Field → Finds
 findsIn form g = finds (faultOf noDay (valuesFor form g)) (faultOf foreign (valuesFor form g)) (faultOf apart (valuesFor form g)) (has hasKpp (valuesFor form g))
 
-abbrev pub noted : Form → Facts → ℕ → Field → Facts
-noted form f o g = notedBy (markedBy f o (tagOf g)) (startOf o g) (tagOf g) (findsIn form g)
+abbrev pub withField : Form → Facts → ℕ → Field → Facts
+withField form f o g = withFinds (markedBy f o (tagOf g)) (startOf o g) (tagOf g) (findsIn form g)
 
 unfoldable pub factsFrom : Form → Facts → ℕ → List Field → Facts
 factsFrom form f o [] = f
-factsFrom form f o (g ∷ gs) = factsFrom form (noted form f o g) (nextOf o g) gs
+factsFrom form f o (g ∷ gs) = factsFrom form (withField form f o g) (nextOf o g) gs
 
 -- 8 at the first content that isn't right, or the facts of all
 abbrev pub ReadOf : Form → Bool → List Field → Read → Type 0

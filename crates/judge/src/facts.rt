@@ -7,7 +7,7 @@ ghost use lib.ListN.{length};
 ghost use Rattle.fields.specs.Field.{fields};
 ghost use Rattle.fields.specs.Shapes.{unpack};
 ghost use Rattle.judge.specs.Parts.{Settled};
-ghost use Rattle.judge.specs.Facts.{orElse, within, marked, nothingYet, markedBy, notedBy, kppAt, Unmarked, ReadOf};
+ghost use Rattle.judge.specs.Facts.{orElse, within, marked, nothingYet, markedBy, withFinds, kppAt, Unmarked, ReadOf};
 use super::parts::field_at;
 use contents::tags::held_by;
 use frame::SPOTS;
@@ -148,7 +148,7 @@ fn is_kpp(kpp: bool, tag: u32, want: u32) -> bool
 // 9, 10, 12 and 13: what is found in its content, which starts at s.
 fn note(f: Facts, s: usize, tag: u32, x: Finds) -> Facts
     requires { ⌜ (s + x .day ≤ 100000) × (s + x .currency ≤ 100000) × (s + x .party ≤ 100000) ⌝ }
-    ensures { λ r. ⌜ r ≡ notedBy f s (unpack tag) x ⌝ }
+    ensures { λ r. ⌜ r ≡ withFinds f s (unpack tag) x ⌝ }
 {
     Facts {
         day: fault_of(f.day, s, x.day),

@@ -36,7 +36,7 @@ use Rattle.values.specs.Judged.{firstBad, rule9, rule10, rule11, rule12, rule13
 use Rattle.values.specs.Answers.{dateOf, kopecksOf, faultOf}
 use Rattle.contents.specs.Tags.{tags103, tags202, heldBy}
 use Rattle.roles.specs.Role.{shapeOf, cast}
-use Rattle.roles.specs.Speech.{asName, asDetails, speech, names, details, noted, speeches}
+use Rattle.roles.specs.Speech.{asName, asDetails, speech, nameSpeeches, detailsSpeech, noteSpeeches, speeches}
 use Rattle.roles.specs.Speech as roles-speech
 use Rattle.roles.specs.Sentences.{Heard}
 use Rattle.roles.proofs.BreachLaws.{rule14-fine}
@@ -129,7 +129,7 @@ signed-easy e =
     }
 
 signed-texts : spoken Mt202 5 (fields (bytes signed202)) ≡ speech asName 120 (bytes "'OOO' SBERBANK") ∷ speech asDetails 185 (bytes "PEREVOD SREDSTVPO DOGOVORU 'A'") ∷ []
-unfolding spoken speeches names details noted roles-speech.laterText shapeOf heldBy tags103 tags202 cast tests.looksTax same digit body cut upto past grouped fields isIn
+unfolding spoken speeches nameSpeeches detailsSpeech noteSpeeches roles-speech.laterText shapeOf heldBy tags103 tags202 cast tests.looksTax same digit body cut upto past grouped fields isIn
 signed-texts = refl
 
 name-heard : breaks asName (bytes "'OOO' SBERBANK") ≡ false
@@ -150,11 +150,11 @@ signed-fine =
 
 -- ---- the example of the rules, as a 103 and as a 202
 sample-verdicts : (verdictOf Mt103 (bytes sample) ≡ Fine) × (verdictOf Mt202 (bytes sample) ≡ Broken 5 15)
-unfolding verdictOf rule18 places103 places202 long rule1 framed body same rule2 scan xset isIn digit capital letter marks shared rule3 cut tagged lineBad badLine rule4 upto past grouped fields find wrong walk walked signOf firstWrong rightField rule8 onward leap daysIn isDay yearOf realDay dated payment parties tests.looksTax taxes valuesOf firstBad rule9 rule10 rule11 rule12 rule13 spoken speeches names details noted roles-speech.laterText shapeOf heldBy tags103 tags202 cast hidden isInn taxLike breaks unheard rule14 grid alphabets-grid.sign reads capitalOrDigit tests.lead tests.ends tests.pair tests.isReference tests.isPurpose tests.isPayment tests.isOwnAccount tests.isPartyByBik tests.isParty tests.isBic tests.isAccount tests.isTax tests.isRpp tests.details tests.right rppDates customerTaxes payerTaxes
+unfolding verdictOf rule18 places103 places202 long rule1 framed body same rule2 scan xset isIn digit capital letter marks shared rule3 cut tagged lineBad badLine rule4 upto past grouped fields find wrong walk walked signOf firstWrong rightField rule8 onward leap daysIn isDay yearOf realDay dated payment parties tests.looksTax taxes valuesOf firstBad rule9 rule10 rule11 rule12 rule13 spoken speeches nameSpeeches detailsSpeech noteSpeeches roles-speech.laterText shapeOf heldBy tags103 tags202 cast hidden isInn taxLike breaks unheard rule14 grid alphabets-grid.sign reads capitalOrDigit tests.lead tests.ends tests.pair tests.isReference tests.isPurpose tests.isPayment tests.isOwnAccount tests.isPartyByBik tests.isParty tests.isBic tests.isAccount tests.isTax tests.isRpp tests.details tests.right rppDates customerTaxes payerTaxes
 sample-verdicts = (refl, refl)
 
 computed : AllHold Computed cases
-unfolding cases verdictOf rule18 places103 places202 long rule1 framed body same rule2 scan xset isIn digit capital letter marks shared rule3 cut tagged lineBad badLine rule4 upto past grouped fields find wrong walk walked signOf firstWrong rightField rule8 onward leap daysIn isDay yearOf realDay dated payment parties tests.looksTax taxes valuesOf firstBad rule9 rule10 rule11 rule12 rule13 spoken speeches names details noted roles-speech.laterText shapeOf heldBy tags103 tags202 cast hidden isInn taxLike breaks unheard rule14 grid alphabets-grid.sign reads message listed word partAt short dateOf kopecksOf kopecks faultOf capitalOrDigit tests.lead tests.ends tests.pair tests.isReference tests.isPurpose tests.isPayment tests.isOwnAccount tests.isPartyByBik tests.isParty tests.isBic tests.isAccount tests.isTax tests.isRpp tests.details tests.right rppDates customerTaxes payerTaxes
+unfolding cases verdictOf rule18 places103 places202 long rule1 framed body same rule2 scan xset isIn digit capital letter marks shared rule3 cut tagged lineBad badLine rule4 upto past grouped fields find wrong walk walked signOf firstWrong rightField rule8 onward leap daysIn isDay yearOf realDay dated payment parties tests.looksTax taxes valuesOf firstBad rule9 rule10 rule11 rule12 rule13 spoken speeches nameSpeeches detailsSpeech noteSpeeches roles-speech.laterText shapeOf heldBy tags103 tags202 cast hidden isInn taxLike breaks unheard rule14 grid alphabets-grid.sign reads message listed word partAt short dateOf kopecksOf kopecks faultOf capitalOrDigit tests.lead tests.ends tests.pair tests.isReference tests.isPurpose tests.isPayment tests.isOwnAccount tests.isPartyByBik tests.isParty tests.isBic tests.isAccount tests.isTax tests.isRpp tests.details tests.right rppDates customerTaxes payerTaxes
 computed =
     (sample-verdicts .0, refl, refl, refl, refl, refl, refl, refl) also (signed-fine, refl, refl, refl, refl, refl, refl, refl) also (refl, refl, refl, refl, refl, refl, refl, refl)
     also refl also refl also refl also refl also refl also refl also refl also refl also refl also (sample-verdicts .0, refl) also sample-verdicts .1

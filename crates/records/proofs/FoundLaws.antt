@@ -27,7 +27,7 @@ use Rattle.roles.specs.declared.Shape.the-variants.{Payer, Payee}
 use Rattle.types.specs.declared.Form.the-variants.{Other}
 use Rattle.records.specs.Record.{Record, pieces, parted, recordOf}
 use Rattle.records.specs.Found.{partsIn, piecesAt, tagNumber}
-use Rattle.records.specs.Rule19.{digits, general, sole, detailed, noted, taxPart, untaxed, sound, good, typed, formIn}
+use Rattle.records.specs.Rule19.{digits, general, sole, detailed, rppAndDetailed, taxPart, untaxed, sound, good, typed, formIn}
 use Rattle.records.proofs.PieceLaws.{past-end, at-from, pieces-at, pieces-head, end-within, last-at, more-at, piece-length}
 
 -- ---- no part from a place on
@@ -48,8 +48,8 @@ module _ (l : List ℕ) (i : ℕ) (h : length l < i) where
   pub detailed-none : false ≡ detailed (piecesAt 9 l i)
   detailed-none = sym (ap detailed none)
 
-  pub noted-none : false ≡ noted (piecesAt 9 l i)
-  noted-none = sym (ap noted none)
+  pub rpp-none : false ≡ rppAndDetailed (piecesAt 9 l i)
+  rpp-none = sym (ap rppAndDetailed none)
 
   pub untaxed-none : (s : Bool) → true ≡ untaxed s (firstLine (piecesAt 9 l i))
   unfolding untaxed isInn digit same
@@ -120,8 +120,8 @@ module _ (l : List ℕ) (i e : ℕ) (h : i ≤ length l) (q : e ≡ i + upTo 9 (
   pub detailed-on : {r : Bool} → digits 5 part ≡ true → r ≡ sole behind → r ≡ detailed (piecesAt 9 l i)
   detailed-on g k = k ∙ sym (ap detailed here ∙ ap (λ (b : Bool). b && sole behind) g)
 
-  pub noted-on : {r : Bool} → r ≡ detailed behind → r ≡ noted (piecesAt 9 l i)
-  noted-on g = g ∙ sym (ap noted here)
+  pub rpp-on : {r : Bool} → r ≡ detailed behind → r ≡ rppAndDetailed (piecesAt 9 l i)
+  rpp-on g = g ∙ sym (ap rppAndDetailed here)
 
   pub untaxed-part : {r : Bool} (s : Bool) → s ≡ true → r ≡ isInn part → not r ≡ untaxed s (firstLine (piecesAt 9 l i))
   unfolding untaxed

@@ -47,9 +47,9 @@ detailed [] = false
 detailed (v ∷ ps) = digits 5 v && sole ps
 
 -- what follows /RPP/ or an empty part, then VO digits and text
-abbrev pub noted : List (List ℕ) → Bool
-noted [] = false
-noted (r ∷ ps) = detailed ps
+abbrev pub rppAndDetailed : List (List ℕ) → Bool
+rppAndDetailed [] = false
+rppAndDetailed (r ∷ ps) = detailed ps
 
 -- S6: the part in the tax place, empty where there is none
 abbrev pub taxPart : Shape → List (List ℕ) → List ℕ
@@ -76,7 +76,7 @@ sound s Payer ps = general ps && untaxed s (taxPart Payer ps)
 sound s Payee ps = general ps && untaxed s (taxPart Payee ps)
 sound s Details ps = detailed ps
 sound s Note103 ps = sole ps
-sound s Note202 ps = noted ps
+sound s Note202 ps = rppAndDetailed ps
 
 -- a record behind the first; that MT is no tag of the right shape refuses a second one
 abbrev pub good : Form → Bool → Record → Bool

@@ -21,7 +21,7 @@ use Rattle.fields.proofs.PlaceLaws.{size-append}
 use Rattle.contents.specs.Tests.{looksTax}
 use Rattle.contents.specs.Parts.{opensRpp}
 use Rattle.roles.specs.Role.{Part, copy, name, taxName, lineOf, shapeOf, taxed, cast}
-use Rattle.roles.specs.Speech.{Manner, asName, asTaxName, asDetails, Speech, speech, saidAt, names, details, codeSize, noted, speeches}
+use Rattle.roles.specs.Speech.{Manner, asName, asTaxName, asDetails, Speech, speech, saidAt, nameSpeeches, detailsSpeech, codeSize, noteSpeeches, speeches}
 use Rattle.types.specs.declared.Form.{Form}
 use Rattle.types.specs.Sign.{signOf}
 use Rattle.roles.specs.Rule14.{texts, mute, hidden, taxLike, clauses, breaks, unheard, spoken, rule14}
@@ -173,12 +173,12 @@ said-within o (copy p) = omega arith
 said-within o (name p) = (omega arith, omega arith)
 said-within o (taxName p) = (omega arith, omega arith)
 
-names-within : (o : ℕ) (ps : List Part) → Within o (o + sizeOf (map lineOf ps)) (names o ps)
-unfolding names
+names-within : (o : ℕ) (ps : List Part) → Within o (o + sizeOf (map lineOf ps)) (nameSpeeches o ps)
+unfolding nameSpeeches
 names-within o [] = omega arith
 names-within o (p ∷ ps) =
     let e : o + length (lineOf p) + 2 + sizeOf (map lineOf ps) ≡ o + (length (lineOf p) + 2 + sizeOf (map lineOf ps)) = omega arith in
-    rw (← e) (within-append (saidAt o p) (names (o + length (lineOf p) + 2) ps) o (o + length (lineOf p) + 2) (o + length (lineOf p) + 2 + sizeOf (map lineOf ps)) (said-within o p) (names-within (o + length (lineOf p) + 2) ps))
+    rw (← e) (within-append (saidAt o p) (nameSpeeches (o + length (lineOf p) + 2) ps) o (o + length (lineOf p) + 2) (o + length (lineOf p) + 2 + sizeOf (map lineOf ps)) (said-within o p) (names-within (o + length (lineOf p) + 2) ps))
 
 -- casting keeps the lines
 same-names : (ls : List (List ℕ)) → map lineOf (map name ls) ≡ ls
@@ -218,11 +218,11 @@ same-lines Details ls = same-copies ls
 same-lines Note103 ls = same-copies ls
 same-lines Note202 ls = same-copies ls
 
-cast-within : (s : Shape) (o : ℕ) (ls : List (List ℕ)) → Within o (o + sizeOf ls + 2) (names o (cast s ls))
-cast-within s o ls = within-end (names o (cast s ls)) o (o + sizeOf ls) (o + sizeOf ls + 2) (rw (same-lines s ls) at (names-within o (cast s ls))) (omega arith)
+cast-within : (s : Shape) (o : ℕ) (ls : List (List ℕ)) → Within o (o + sizeOf ls + 2) (nameSpeeches o (cast s ls))
+cast-within s o ls = within-end (nameSpeeches o (cast s ls)) o (o + sizeOf ls) (o + sizeOf ls + 2) (rw (same-lines s ls) at (names-within o (cast s ls))) (omega arith)
 
-details-within : (front mark o : ℕ) (ls : List (List ℕ)) → mark ≤ 2 → Within o (o + sizeOf ls + 2) (details front mark o ls)
-unfolding details
+details-within : (front mark o : ℕ) (ls : List (List ℕ)) → mark ≤ 2 → Within o (o + sizeOf ls + 2) (detailsSpeech front mark o ls)
+unfolding detailsSpeech
 details-within front mark o [] h = omega arith
 details-within front mark o (l ∷ ls) h = go (ltb front (length l)) refl
   where
@@ -231,7 +231,7 @@ details-within front mark o (l ∷ ls) h = go (ltb front (length l)) refl
     go false e = (omega arith, omega arith)
 
 pub speeches-within : (s : Bool) (shape : Shape) (o : ℕ) (ls : List (List ℕ)) → Within o (o + sizeOf ls + 2) (speeches s shape o ls)
-unfolding speeches noted
+unfolding speeches noteSpeeches
 speeches-within s Plain o ls = omega arith
 speeches-within s Payer o ls = cast-within Payer o ls
 speeches-within s Payee o ls = cast-within Payee o ls
@@ -241,14 +241,14 @@ speeches-within s Note103 o ls = omega arith
 speeches-within s Note202 o [] = omega arith
 speeches-within s Note202 o (l ∷ ls) = go (opensRpp l)
   where
-    go : (q : Bool) → Within o (o + sizeOf (l ∷ ls) + 2) (pick q (details (5 + codeSize s) 2 (o + length l + 2) ls) (details (5 + codeSize s) 2 o (l ∷ ls)))
+    go : (q : Bool) → Within o (o + sizeOf (l ∷ ls) + 2) (pick q (detailsSpeech (5 + codeSize s) 2 (o + length l + 2) ls) (detailsSpeech (5 + codeSize s) 2 o (l ∷ ls)))
     go true =
-        within-start (details (5 + codeSize s) 2 (o + length l + 2) ls) o (o + length l + 2) (o + sizeOf (l ∷ ls) + 2) (omega arith)
-        (within-end (details (5 + codeSize s) 2 (o + length l + 2) ls) (o + length l + 2) (o + length l + 2 + sizeOf ls + 2) (o + sizeOf (l ∷ ls) + 2) (details-within (5 + codeSize s) 2 (o + length l + 2) ls (omega arith)) (omega arith))
+        within-start (detailsSpeech (5 + codeSize s) 2 (o + length l + 2) ls) o (o + length l + 2) (o + sizeOf (l ∷ ls) + 2) (omega arith)
+        (within-end (detailsSpeech (5 + codeSize s) 2 (o + length l + 2) ls) (o + length l + 2) (o + length l + 2 + sizeOf ls + 2) (o + sizeOf (l ∷ ls) + 2) (details-within (5 + codeSize s) 2 (o + length l + 2) ls (omega arith)) (omega arith))
     go false = details-within (5 + codeSize s) 2 o (l ∷ ls) (omega arith)
 
 pub speeches-none : (s : Bool) (shape : Shape) (o : ℕ) → speeches s shape o [] ≡ []
-unfolding speeches noted details names cast
+unfolding speeches noteSpeeches detailsSpeech nameSpeeches cast
 speeches-none s Plain o = refl
 speeches-none s Payer o = refl
 speeches-none s Payee o = refl

@@ -29,7 +29,7 @@ use Rattle.fields.proofs.PlaceLaws.{joined-length}
 use Rattle.contents.specs.Tests.{numbered, looksTax}
 use Rattle.contents.specs.Parts.{opensRpp}
 use Rattle.roles.specs.Role.{Part, copy, name, taxName, lineOf, shapeOf, cast}
-use Rattle.roles.specs.Speech.{Manner, asName, asTaxName, asDetails, Speech, speech, saidAt, names, laterText, details, codeSize, noted, speeches}
+use Rattle.roles.specs.Speech.{Manner, asName, asTaxName, asDetails, Speech, speech, saidAt, nameSpeeches, laterText, detailsSpeech, codeSize, noteSpeeches, speeches}
 use Rattle.roles.specs.Rule14.{mute, hidden, isInn, taxLike, clauses, breaks, unheard, texts, spoken}
 use Rattle.roles.specs.Found.{muteIn, breaksIn, found, brokenIn, verdictAt}
 use Rattle.roles.specs.declared.Shape.{Shape}
@@ -98,16 +98,16 @@ said-moved o i (copy p) = refl
 said-moved o i (name p) = refl
 said-moved o i (taxName p) = refl
 
-names-moved : (o i : ℕ) (ps : List Part) → names (o + i) ps ≡ map (moved o) (names i ps)
-unfolding names
+names-moved : (o i : ℕ) (ps : List Part) → nameSpeeches (o + i) ps ≡ map (moved o) (nameSpeeches i ps)
+unfolding nameSpeeches
 names-moved o i [] = refl
 names-moved o i (p ∷ ps) =
     let z : o + i + length (lineOf p) + 2 ≡ o + (i + length (lineOf p) + 2) = omega arith in
-    ap₂ (λ (xs ys : List Speech). xs ++ ys) (said-moved o i p) (ap (λ (k : ℕ). names k ps) z ∙ names-moved o (i + length (lineOf p) + 2) ps)
-    ∙ sym (map-append o (saidAt i p) (names (i + length (lineOf p) + 2) ps))
+    ap₂ (λ (xs ys : List Speech). xs ++ ys) (said-moved o i p) (ap (λ (k : ℕ). nameSpeeches k ps) z ∙ names-moved o (i + length (lineOf p) + 2) ps)
+    ∙ sym (map-append o (saidAt i p) (nameSpeeches (i + length (lineOf p) + 2) ps))
 
-details-moved : (front mark o i : ℕ) (ls : List (List ℕ)) → details front mark (o + i) ls ≡ map (moved o) (details front mark i ls)
-unfolding details
+details-moved : (front mark o i : ℕ) (ls : List (List ℕ)) → detailsSpeech front mark (o + i) ls ≡ map (moved o) (detailsSpeech front mark i ls)
+unfolding detailsSpeech
 details-moved front mark o i [] = refl
 details-moved front mark o i (l ∷ ls) = ap (λ (k : ℕ). speech asDetails k (drop front l ++ laterText mark ls) ∷ []) (go (ltb front (length l)))
   where
@@ -115,15 +115,15 @@ details-moved front mark o i (l ∷ ls) = ap (λ (k : ℕ). speech asDetails k (
     go true = omega arith
     go false = omega arith
 
-noted-moved : (s : Bool) (o i : ℕ) (ls : List (List ℕ)) → noted s (o + i) ls ≡ map (moved o) (noted s i ls)
-unfolding noted
-noted-moved s o i [] = refl
-noted-moved s o i (l ∷ ls) = go (opensRpp l)
+note-moved : (s : Bool) (o i : ℕ) (ls : List (List ℕ)) → noteSpeeches s (o + i) ls ≡ map (moved o) (noteSpeeches s i ls)
+unfolding noteSpeeches
+note-moved s o i [] = refl
+note-moved s o i (l ∷ ls) = go (opensRpp l)
   where
-    go : (q : Bool) → pick q (details (5 + codeSize s) 2 (o + i + length l + 2) ls) (details (5 + codeSize s) 2 (o + i) (l ∷ ls)) ≡ map (moved o) (pick q (details (5 + codeSize s) 2 (i + length l + 2) ls) (details (5 + codeSize s) 2 i (l ∷ ls)))
+    go : (q : Bool) → pick q (detailsSpeech (5 + codeSize s) 2 (o + i + length l + 2) ls) (detailsSpeech (5 + codeSize s) 2 (o + i) (l ∷ ls)) ≡ map (moved o) (pick q (detailsSpeech (5 + codeSize s) 2 (i + length l + 2) ls) (detailsSpeech (5 + codeSize s) 2 i (l ∷ ls)))
     go true =
         let z : o + i + length l + 2 ≡ o + (i + length l + 2) = omega arith in
-        ap (λ (k : ℕ). details (5 + codeSize s) 2 k ls) z ∙ details-moved (5 + codeSize s) 2 o (i + length l + 2) ls
+        ap (λ (k : ℕ). detailsSpeech (5 + codeSize s) 2 k ls) z ∙ details-moved (5 + codeSize s) 2 o (i + length l + 2) ls
     go false = details-moved (5 + codeSize s) 2 o i (l ∷ ls)
 
 pub speeches-moved : (s : Bool) (shape : Shape) (o i : ℕ) (ls : List (List ℕ)) → speeches s shape (o + i) ls ≡ map (moved o) (speeches s shape i ls)
@@ -134,7 +134,7 @@ speeches-moved s Payee o i ls = names-moved o i (cast Payee ls)
 speeches-moved s Agent o i ls = names-moved o i (cast Agent ls)
 speeches-moved s Details o i ls = details-moved (codeSize s) 0 o i ls
 speeches-moved s Note103 o i ls = refl
-speeches-moved s Note202 o i ls = noted-moved s o i ls
+speeches-moved s Note202 o i ls = note-moved s o i ls
 
 -- ---- what is found is the rule
 found-unheard : (o : ℕ) (xs : List Speech) → unheard (map (moved o) xs) ≡ verdictAt o (found codes xs)

@@ -9,7 +9,7 @@ ghost use Rattle.fields.specs.Shapes.{unpack};
 ghost use Rattle.alphabets.specs.Pieces.{pieceIn};
 ghost use Rattle.fields.specs.Lines.{linesIn};
 ghost use Rattle.roles.specs.declared.Shape.the-variants.{Payer, Payee, Agent, Note202};
-ghost use Rattle.roles.specs.Speech.{names, details, speeches};
+ghost use Rattle.roles.specs.Speech.{nameSpeeches, detailsSpeech, speeches};
 ghost use Rattle.roles.specs.Found.{linesPast, castFrom, detailsText, muteIn, found, brokenIn};
 use super::Shape;
 use super::Spot;
@@ -25,7 +25,7 @@ use types::Form;
 
 // The lines behind the one that ends at end are names, the first in the tax place or not.
 fn in_names(back: &[u8; 256], c: &[u8], end: usize, tax: bool) -> Spot
-    ensures { λ r. ⌜ r ≡ found (now (back .entry)) (names (end + 2) (castFrom tax (linesPast (now (c .entry)) end))) ⌝ }
+    ensures { λ r. ⌜ r ≡ found (now (back .entry)) (nameSpeeches (end + 2) (castFrom tax (linesPast (now (c .entry)) end))) ⌝ }
 {
     let mut e = end;
     let mut first = tax;
@@ -121,7 +121,7 @@ fn is_mute_text(back: &[u8; 256], c: &[u8], from: usize, front: usize, mark: usi
 // The lines from a place on are details.
 fn in_details(back: &[u8; 256], c: &[u8], at: usize, front: usize, mark: usize) -> Spot
     requires { ⌜ (at ≤ length (now c) + 1) × (mark ≤ 2) ⌝ }
-    ensures { λ r. ⌜ r ≡ found (now (back .entry)) (details front mark at (linesIn (drop at (now (c .entry))))) ⌝ }
+    ensures { λ r. ⌜ r ≡ found (now (back .entry)) (detailsSpeech front mark at (linesIn (drop at (now (c .entry))))) ⌝ }
 {
     if !is_mute_text(back, c, at, front, mark) {
         return Spot::Nowhere;

@@ -32,7 +32,7 @@ use Rattle.contents.specs.Parts.{opensRpp}
 use Rattle.roles.specs.Role.{shapeOf, Part, copy, name, taxName, lineOf, cast}
 use Rattle.roles.specs.Parts.{castBy, named, nextRole}
 use Rattle.roles.specs.Speech as speech
-use Rattle.roles.specs.Speech.{Manner, asDetails, asTaxName, Speech, names, laterText, codeSize, speeches}
+use Rattle.roles.specs.Speech.{Manner, asDetails, asTaxName, Speech, nameSpeeches, laterText, codeSize, speeches}
 use Rattle.roles.specs.Rule14.{mute, clauses, breaks, spoken as texts}
 use Rattle.roles.specs.Sentences.{Heard}
 use Rattle.roles.specs.declared.Shape.{Shape}
@@ -216,20 +216,20 @@ heard-speaks m b e = go (reading true b) refl
     go (said d) f = (d, f)
     go (stuck k) f = absurd (true≢false (sym (first-clause m b []) ∙ ap (λ (a : Answer). clauses m (mute a) b (textOf a)) (sym f) ∙ e))
 
-names-read : (o : ℕ) (xs : List Part) → Heard (names o xs) → AllRead true xs
-unfolding names
+names-read : (o : ℕ) (xs : List Part) → Heard (nameSpeeches o xs) → AllRead true xs
+unfolding nameSpeeches
 names-read o [] h = tt
 names-read o (copy p ∷ xs) h = (tt, names-read (o + length p + 2) xs h)
 names-read o (name p ∷ xs) h = (heard-speaks speech.asName p (h .0), names-read (o + length p + 2) xs (h .1))
 names-read o (taxName p ∷ xs) h = (heard-speaks asTaxName p (h .0), names-read (o + length p + 2) xs (h .1))
 
-details-heard : (front mark o : ℕ) (ls : List (List ℕ)) → Heard (speech.details front mark o ls) → DetailsSpeak true front mark ls
-unfolding speech.details
+details-heard : (front mark o : ℕ) (ls : List (List ℕ)) → Heard (speech.detailsSpeech front mark o ls) → DetailsSpeak true front mark ls
+unfolding speech.detailsSpeech
 details-heard front mark o [] h = tt
 details-heard front mark o (l ∷ ls) h = heard-speaks asDetails (drop front l ++ laterText mark ls) (h .0)
 
 signed-readable : (sh : Shape) (o : ℕ) (ls : List (List ℕ)) → Heard (speeches true sh o ls) → Readable true sh ls
-unfolding speeches speech.noted
+unfolding speeches speech.noteSpeeches
 signed-readable Plain o ls h = tt
 signed-readable Payer o ls h = names-read o (cast Payer ls) h
 signed-readable Payee o ls h = names-read o (cast Payee ls) h
@@ -238,8 +238,8 @@ signed-readable Details o ls h = details-heard 11 0 o ls h
 signed-readable Note103 o ls h = tt
 signed-readable Note202 o [] h = tt
 signed-readable Note202 o (l ∷ ls) h = record {
-  behind-rpp = λ e. details-heard 16 2 (o + length l + 2) ls (subst (λ (b : Bool). Heard (pick b (speech.details 16 2 (o + length l + 2) ls) (speech.details 16 2 o (l ∷ ls)))) e h);
-  from-first = λ e. details-heard 16 2 o (l ∷ ls) (subst (λ (b : Bool). Heard (pick b (speech.details 16 2 (o + length l + 2) ls) (speech.details 16 2 o (l ∷ ls)))) e h);
+  behind-rpp = λ e. details-heard 16 2 (o + length l + 2) ls (subst (λ (b : Bool). Heard (pick b (speech.detailsSpeech 16 2 (o + length l + 2) ls) (speech.detailsSpeech 16 2 o (l ∷ ls)))) e h);
+  from-first = λ e. details-heard 16 2 o (l ∷ ls) (subst (λ (b : Bool). Heard (pick b (speech.detailsSpeech 16 2 (o + length l + 2) ls) (speech.detailsSpeech 16 2 o (l ∷ ls)))) e h);
 }
 
 -- ---- without it, by 3

@@ -38,16 +38,16 @@ use Rattle.trips.specs.Again.{Crowded70}
 use Rattle.trips.proofs.Held as held
 use Rattle.trips.specs.Shown as shown
 use Rattle.trips.specs.Shown.{LineByLine, Shown}
-use Rattle.trips.proofs.Held.{Held, HeldField, Noted, Sheeted, SheetedField}
+use Rattle.trips.proofs.Held.{Held, HeldField, DetailsOrRpp, Sheeted, SheetedField}
 use Rattle.trips.proofs.NameLaws.{sheeted-names}
-use Rattle.trips.proofs.DetailRecordLaws.{sheeted-noted}
+use Rattle.trips.proofs.DetailRecordLaws.{sheeted-details}
 use Rattle.trips.proofs.HeldLaws.{all-held}
 use Rattle.trips.proofs.BackLaws.{sheet-back}
 use Rattle.trips.proofs.SheetLaws.{accepted-type, accepted-sign, accepted-records, accepted-size, accepted-passes}
 use Rattle.trips.proofs.VerdictLaws.{verdict-again}
 
 -- ---- every shape goes line by line, or holds details or an RPP line
-either : (sh : Shape) → LineByLine sh ⊎ Noted sh
+either : (sh : Shape) → LineByLine sh ⊎ DetailsOrRpp sh
 either Plain = inl shown.plain
 either Payer = inl shown.payer
 either Payee = inl shown.payee
@@ -60,9 +60,9 @@ module _ (form : Form) (s : Bool) where
   one-sheeted : (t : List ℕ) (ls : List (List ℕ)) → Held form s t ls → Sheeted form s t ls
   one-sheeted t ls h = go (either (shapeOf form t))
     where
-      go : LineByLine (shapeOf form t) ⊎ Noted (shapeOf form t) → Sheeted form s t ls
+      go : LineByLine (shapeOf form t) ⊎ DetailsOrRpp (shapeOf form t) → Sheeted form s t ls
       go (inl v) = sheeted-names form s t ls v h
-      go (inr v) = sheeted-noted form s t ls v h
+      go (inr v) = sheeted-details form s t ls v h
 
   all-sheeted : (fs : List Field) → AllHold (HeldField form s) fs → AllHold (SheetedField form s) fs
   all-sheeted [] h = tt

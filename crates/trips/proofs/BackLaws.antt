@@ -124,14 +124,14 @@ mark-and-code BehindRpp false = refl
 
 code-text-back : (p : DetailsField) (s : Bool) (vo w : List ℕ) → digits 5 vo ≡ true → Laid p (codeSize s) (code s vo ++ w)
     → detailsParts s (markOf p) (nextOf p) (linesFor p (codeSize s) (code s vo ++ w)) ≡ vo ∷ textOf (reading s w) ∷ []
-unfolding speech.details
+unfolding speech.detailsSpeech
 code-text-back p s vo w d h =
     let l : List ℕ = layout p .mark ++ h .front in
     let ls : List (List ℕ) = map (λ (k : List ℕ). layout p .next ++ k) (h .behind) in
     let number : codeDigits s (drop (markOf p) l) ≡ vo =
     ap (codeDigits s) (mark-dropped p (h .front)) ∙ digits-in s (h .front) (together (h .behind)) (h .code) ∙ ap (codeDigits s) (h .joins) ∙ digits-back s vo w d in
     let text : drop (frontOf p s) l ++ speech.laterText (nextOf p) ls ≡ w =
-    ap textIn (ap (speech.details (frontOf p s) (nextOf p) 0) (sym (h .is)) ∙ details-again p s vo w 0 d h .1) in
+    ap textIn (ap (speech.detailsSpeech (frontOf p s) (nextOf p) 0) (sym (h .is)) ∙ details-again p s vo w 0 d h .1) in
     ap (detailsParts s (markOf p) (nextOf p)) (h .is)
     ∙ ap (λ (n : ℕ). codeDigits s (drop (markOf p) l) ∷ textOf (reading s (drop n l ++ speech.laterText (nextOf p) ls)) ∷ []) (mark-and-code p s)
     ∙ ap₂ (λ (v t : List ℕ). v ∷ textOf (reading s t) ∷ []) number text

@@ -29,7 +29,7 @@ use Rattle.writer.specs.Sheet.{isUnfit, crowded}
 use Rattle.written.proofs.SpeltLaws.{said-is, spelt-empty}
 use Rattle.written.proofs.ReadyLaws.{speaks, Ready}
 use Rattle.sheets.specs.Gather.{contentParts}
-use Rattle.trips.proofs.Held.{Noted}
+use Rattle.trips.proofs.Held.{DetailsOrRpp}
 use Rattle.trips.proofs.DetailLaws.{IsIn, rpp-line, rpp-alone, divided-pass}
 
 module _ (s : Bool) where
@@ -79,9 +79,9 @@ module _ (s : Bool) where
       go (c ∷ r) e z i w = let v = rw e at w in rw e (inr (rw e at i, behind-pass (v .is-right) (v .says) (v .fits)))
 
 -- ---- by what the field holds
-pub noted-again : (c : Content) (s : Bool) (ls : List (List ℕ)) → Noted (shapeFor c) → Right c s ls → Ready s (shapeFor c) (contentParts s (shapeFor c) ls)
+pub details-again : (c : Content) (s : Bool) (ls : List (List ℕ)) → DetailsOrRpp (shapeFor c) → Right c s ls → Ready s (shapeFor c) (contentParts s (shapeFor c) ls)
     → Right c s (contentLines s (shapeFor c) (contentParts s (shapeFor c) ls))
 unfolding contentParts contentLines
-noted-again holds.Details s ls n r w = details-pass s (w .is-right) (w .says) (w .fits)
-noted-again holds.Document s ls n r w = let k = rpp-alone ls r in rw (k .1) (rw (k .1) at r)
-noted-again holds.DocumentAndDetails s ls n r w = note-pass s ls r w
+details-again holds.Details s ls n r w = details-pass s (w .is-right) (w .says) (w .fits)
+details-again holds.Document s ls n r w = let k = rpp-alone ls r in rw (k .1) (rw (k .1) at r)
+details-again holds.DocumentAndDetails s ls n r w = note-pass s ls r w

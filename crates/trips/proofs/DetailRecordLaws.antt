@@ -48,7 +48,7 @@ use Rattle.written.proofs.CastLaws.{behind-code, code-size, unmarked}
 use Rattle.sheets.specs.Gather.{codeDigits, detailsParts, noteParts, contentParts}
 use Rattle.trips.specs.Shown.{ShownDetails, Shows}
 use Rattle.trips.specs.Shown as shown
-use Rattle.trips.proofs.Held.{Held, Noted, Sheeted}
+use Rattle.trips.proofs.Held.{Held, DetailsOrRpp, Sheeted}
 use Rattle.trips.proofs.DetailLaws.{DetailsOver, details-lines, rpp-alone, Note, with-rpp, without, note-lines}
 use Rattle.trips.proofs.SaidLaws.{Means, says-plain, says-signed, says-written, plain-said, says-short, set-text, says-text, digits-set}
 
@@ -109,8 +109,8 @@ module _ {p : DetailsField} {s : Bool} {ls : List (List ℕ)} (w : DetailsOver p
       ap (detailsParts s (markSize p) (nextSize p)) (w .is)
       ∙ ap₂ (λ (a b : List ℕ). a ∷ textOf (reading s b) ∷ []) (ap (codeDigits s) (drop-append-seam (layout p .mark) (code s (w .vo) ++ w .text)) ∙ code-digits s (w .vo) (w .text) (w .five)) whole-text
 
-  details-heard : (o : ℕ) → Heard (speech.details (markSize p + codeSize s) (nextSize p) o ls) → breaks speech.asDetails whole ≡ false
-  unfolding speech.details
+  details-heard : (o : ℕ) → Heard (speech.detailsSpeech (markSize p + codeSize s) (nextSize p) o ls) → breaks speech.asDetails whole ≡ false
+  unfolding speech.detailsSpeech
   details-heard o h = ap (breaks speech.asDetails) (sym whole-text) ∙ (rw (w .is) at h) .0
 
   details-set : all (all xset) ls ≡ true → all xset whole ≡ true
@@ -165,7 +165,7 @@ gathered {p} {s} {ls} w h = record {
 
 -- what it says, by 3 or by 14
 details-says : {p : DetailsField} (s : Bool) {ls : List (List ℕ)} (w : DetailsOver p s ls) (o : ℕ) → all (all xset) ls ≡ true
-    → (s ≡ true → Heard (speech.details (markSize p + codeSize true) (nextSize p) o ls)) → Means s (whole w)
+    → (s ≡ true → Heard (speech.detailsSpeech (markSize p + codeSize true) (nextSize p) o ls)) → Means s (whole w)
 details-says true w o e h = says-signed (whole w) (details-heard w o (h refl))
 details-says false w o e h = says-plain (whole w) (details-set w e) (w .some)
 
@@ -257,10 +257,10 @@ module _ (form : Form) (s : Bool) (t : List ℕ) (ls : List (List ℕ)) (h : Hel
       sheeted-as form s t ls Note103 (r ∷ []) e (ap (map (drop 5)) i) (subst (λ (k : List (List ℕ)). Shows s Note103 k (r ∷ [])) (sym i) shown.note103) (h .fair .some) (ap not z) (both (plain-said r x) refl) (both (set-text r x) refl) n (λ q. absurd (false≢true q))
 
   -- r is what follows /RPP/, or nothing
-  noted-by : shapeOf form t ≡ Note202 → (r : List ℕ) (ks : List (List ℕ)) (w : DetailsOver (noteField r) s ks) (y : Means s (whole w)) → Shows s Note202 ls (r ∷ w .vo ∷ y .desk ∷ [])
+  note-by : shapeOf form t ≡ Note202 → (r : List ℕ) (ks : List (List ℕ)) (w : DetailsOver (noteField r) s ks) (y : Means s (whole w)) → Shows s Note202 ls (r ∷ w .vo ∷ y .desk ∷ [])
       → noteParts s ls ≡ r ∷ detailsParts s (markSize (noteField r)) (nextSize (noteField r)) ks → all xset r ≡ true → length r + length (laid ks) ≤ length (laid ls) → Sheeted form s t ls
   unfolding contentParts sound crowded
-  noted-by e r ks w y v i x k =
+  note-by e r ks w y v i x k =
       let g = gathered w y in
       let n : length (line (field t (r ∷ w .vo ∷ y .desk ∷ []))) ≤ length t + 1 + length (laid ls) =
       omega (
@@ -277,16 +277,16 @@ module _ (form : Form) (s : Bool) (t : List ℕ) (ls : List (List ℕ)) (h : Hel
       (both (plain-said r x) (g .written)) (both (set-text r x) (g .plain)) n (λ q. absurd (true≢false (sym q ∙ free-fits w y (note-free r))))
 
   sheeted-202 : shapeOf form t ≡ Note202 → Note s ls → Sheeted form s t ls
-  unfolding same speeches speech.noted
+  unfolding same speeches speech.noteSpeeches
   sheeted-202 e (without w) =
-      let u : s ≡ true → Heard (speech.details 16 2 0 ls) = λ q. subst Heard (ap (speech.noted true 0) (w .is) ∙ ap (speech.details 16 2 0) (sym (w .is))) (heard-as e q) in
+      let u : s ≡ true → Heard (speech.detailsSpeech 16 2 0 ls) = λ q. subst Heard (ap (speech.noteSpeeches true 0) (w .is) ∙ ap (speech.detailsSpeech 16 2 0) (sym (w .is))) (heard-as e q) in
       let i : noteParts s ls ≡ [] ∷ detailsParts s 5 2 ls = ap (noteParts s) (w .is) ∙ ap (λ (k : List (List ℕ)). [] ∷ detailsParts s 5 2 k) (sym (w .is)) in
       let y : Means s (whole w) = details-says s w 0 (h .fair .inside) u in
-      noted-by e [] ls w y (shown.note202 (shown-details w y)) i refl (omega arith)
+      note-by e [] ls w y (shown.note202 (shown-details w y)) i refl (omega arith)
   sheeted-202 e (with-rpp r ks j z w) =
       let o : ℕ = 0 + length (rppLine r) + 2 in
       let f : all (all xset) (rppLine r ∷ ks) ≡ true = rw j at (h .fair .inside) in
-      let y : Means s (whole w) = details-says s w o (right (all xset (rppLine r)) _ f) (λ q. subst Heard (ap (speech.noted true 0) j) (heard-as e q)) in
+      let y : Means s (whole w) = details-says s w o (right (all xset (rppLine r)) _ f) (λ q. subst Heard (ap (speech.noteSpeeches true 0) j) (heard-as e q)) in
       let k : length r + length (laid ks) ≤ length (laid ls) = omega (arith, ap (λ (x : List (List ℕ)). length (laid x)) j, length-append (rppLine r) (13 ∷ 10 ∷ laid ks)) in
       by r z (ap (noteParts s) j) (all-behind xset (bytes "/RPP/") r (left (all xset (rppLine r)) _ f)) k w y
       (subst (λ (x : List (List ℕ)). Shows s Note202 x (r ∷ w .vo ∷ y .desk ∷ [])) (sym j) (shown.behindRpp z (shown-details w y)))
@@ -294,14 +294,14 @@ module _ (form : Form) (s : Bool) (t : List ℕ) (ls : List (List ℕ)) (h : Hel
       by : (r : List ℕ) {ks : List (List ℕ)} → empty r ≡ false → noteParts s ls ≡ r ∷ detailsParts s 5 2 ks → all xset r ≡ true → length r + length (laid ks) ≤ length (laid ls)
           → (w : DetailsOver BehindRpp s ks) (y : Means s (whole w)) → Shows s Note202 ls (r ∷ w .vo ∷ y .desk ∷ []) → Sheeted form s t ls
       by [] z i x k w y v = absurd (true≢false z)
-      by (c ∷ r) {ks} z i x k w y v = noted-by e (c ∷ r) ks w y v i x k
+      by (c ∷ r) {ks} z i x k w y v = note-by e (c ∷ r) ks w y v i x k
 
   -- by what the field holds
-  held-sheeted : (c : Content) → shapeOf form t ≡ shapeFor c → Noted (shapeFor c) → Right c s ls → Sheeted form s t ls
+  held-sheeted : (c : Content) → shapeOf form t ≡ shapeFor c → DetailsOrRpp (shapeFor c) → Right c s ls → Sheeted form s t ls
   held-sheeted holds.Details e n r = sheeted-70 e (details-lines In70 s ls r (h .fair .on))
   held-sheeted holds.Document e n r = let w = rpp-alone ls r in sheeted-103 e (w .0) (w .1) (w .2)
   held-sheeted holds.DocumentAndDetails e n r = sheeted-202 e (note-lines s ls r (h .fair .on))
 
-pub sheeted-noted : (form : Form) (s : Bool) (t : List ℕ) (ls : List (List ℕ)) → Noted (shapeOf form t) → Held form s t ls → Sheeted form s t ls
+pub sheeted-details : (form : Form) (s : Bool) (t : List ℕ) (ls : List (List ℕ)) → DetailsOrRpp (shapeOf form t) → Held form s t ls → Sheeted form s t ls
 unfolding shapeOf
-sheeted-noted form s t ls n h = held-sheeted form s t ls h (heldBy form t) refl n (field-says form s (field t ls) .0 (h .right))
+sheeted-details form s t ls n h = held-sheeted form s t ls h (heldBy form t) refl n (field-says form s (field t ls) .0 (h .right))

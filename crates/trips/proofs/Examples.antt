@@ -35,7 +35,7 @@ use Rattle.values.specs.Values.{payment, rppDates, parties, taxes, customerTaxe
 use Rattle.values.specs.Judged.{firstBad, rule9, rule10, rule11, rule12, rule13}
 use Rattle.contents.specs.Tags.{tags103, tags202, heldBy}
 use Rattle.roles.specs.Role.{shapeOf, cast}
-use Rattle.roles.specs.Speech.{Manner, speech, asName, asTaxName, asDetails, names, details, noted, speeches}
+use Rattle.roles.specs.Speech.{Manner, speech, asName, asTaxName, asDetails, nameSpeeches, detailsSpeech, noteSpeeches, speeches}
 use Rattle.roles.specs.Speech as speeches-of
 use Rattle.roles.specs.Sentences.{Heard}
 use Rattle.roles.specs.declared.Shape.{Shape}
@@ -93,7 +93,7 @@ there-and-back form m s n e h (r, t, w) v = (
 
 -- ---- the trips with short texts
 all-fine : (verdictOf Mt103 (bytes sample) ≡ Fine) × (verdictOf Mt202 (bytes plain202) ≡ Fine) × (verdictOf Mt103 (bytes otherwise103) ≡ Fine) × (verdictOf Mt103 (bytes best103) ≡ Fine)
-unfolding verdictOf rule18 places103 places202 long rule1 framed body same rule2 scan xset isIn digit capital letter marks shared rule3 cut tagged lineBad badLine rule4 upto past grouped fields find wrong walk walked signOf firstWrong rightField rule8 onward leap daysIn isDay yearOf realDay dated payment parties tests.looksTax taxes valuesOf firstBad rule9 rule10 rule11 rule12 rule13 spoken speeches names details noted speeches-of.laterText shapeOf heldBy tags103 tags202 cast hidden isInn taxLike breaks unheard rule14 grid signs.sign reads capitalOrDigit tests.lead tests.ends tests.pair tests.isReference tests.isPurpose tests.isPayment tests.isOwnAccount tests.isPartyByBik tests.isParty tests.isBic tests.isAccount tests.isTax tests.isRpp tests.details tests.right rppDates customerTaxes payerTaxes
+unfolding verdictOf rule18 places103 places202 long rule1 framed body same rule2 scan xset isIn digit capital letter marks shared rule3 cut tagged lineBad badLine rule4 upto past grouped fields find wrong walk walked signOf firstWrong rightField rule8 onward leap daysIn isDay yearOf realDay dated payment parties tests.looksTax taxes valuesOf firstBad rule9 rule10 rule11 rule12 rule13 spoken speeches nameSpeeches detailsSpeech noteSpeeches speeches-of.laterText shapeOf heldBy tags103 tags202 cast hidden isInn taxLike breaks unheard rule14 grid signs.sign reads capitalOrDigit tests.lead tests.ends tests.pair tests.isReference tests.isPurpose tests.isPayment tests.isOwnAccount tests.isPartyByBik tests.isParty tests.isBic tests.isAccount tests.isTax tests.isRpp tests.details tests.right rppDates customerTaxes payerTaxes
 all-fine = (refl, refl, refl, refl)
 
 all-read : (sheetOf Mt103 (bytes sample) ≡ desk sheet103) × (sheetOf Mt202 (bytes plain202) ≡ desk plainSheet) × (sheetOf Mt103 (bytes otherwise103) ≡ desk otherwiseSheet)
@@ -124,7 +124,7 @@ signed-easy e =
     }
 
 signed-texts : spoken Mt202 5 (fields (bytes signed202)) ≡ speech asName 120 (bytes "SBERBANK 'OOO'") ∷ speech asDetails 185 (bytes "PEREVOD SREDSTV PO DOGOVORU 'A'") ∷ []
-unfolding spoken speeches names details noted speeches-of.laterText shapeOf heldBy tags103 tags202 cast tests.looksTax same digit body cut upto past grouped fields isIn
+unfolding spoken speeches nameSpeeches detailsSpeech noteSpeeches speeches-of.laterText shapeOf heldBy tags103 tags202 cast tests.looksTax same digit body cut upto past grouped fields isIn
 signed-texts = refl
 
 signed-14 : rule14 Mt202 (fields (bytes signed202)) ≡ Fine
@@ -188,7 +188,7 @@ idle-fields = refl
 
 idle-texts : spoken Mt103 5 (fore ++ field (bytes "70") (dashed ∷ bytes "''--" ∷ []) ∷ aft)
     ≡ speech asTaxName 61 (bytes "'NORD'") ∷ speech asTaxName 126 (bytes "OOO PoTR") ∷ speech asDetails 151 (replicate 23 45 ++ bytes "''--") ∷ []
-unfolding spoken speeches names details speeches-of.laterText shapeOf heldBy tags103 cast tests.looksTax same digit
+unfolding spoken speeches nameSpeeches detailsSpeech speeches-of.laterText shapeOf heldBy tags103 cast tests.looksTax same digit
 idle-texts = refl
 
 names-heard : (breaks asTaxName (bytes "'NORD'") ≡ false) × (breaks asTaxName (bytes "OOO PoTR") ≡ false)

@@ -21,7 +21,7 @@ use Rattle.types.specs.Sign.{firstLine}
 use Rattle.contents.proofs.SizeLaws.{right-nonempty}
 use Rattle.contents.specs.Tests.{looksTax, starts}
 use Rattle.roles.specs.Role.{shapeOf, Part, copy, name, taxName, lineOf, taxed, cast}
-use Rattle.roles.specs.Speech.{names, speeches}
+use Rattle.roles.specs.Speech.{nameSpeeches, speeches}
 use Rattle.roles.specs.Rule14.{isInn}
 use Rattle.roles.specs.Sentences.{Heard}
 use Rattle.roles.specs.declared.Shape.{Shape}
@@ -75,8 +75,8 @@ ClearPart s (taxName l) = ClearTax s l
 abbrev some : List ℕ → Bool
 some l = not (empty l)
 
-signed-parts : (o : ℕ) (xs : List Part) → Heard (names o xs) → all (all xset) (map lineOf xs) ≡ true → all untaxed xs ≡ true → AllHold (ClearPart true) xs
-unfolding names
+signed-parts : (o : ℕ) (xs : List Part) → Heard (nameSpeeches o xs) → all (all xset) (map lineOf xs) ≡ true → all untaxed xs ≡ true → AllHold (ClearPart true) xs
+unfolding nameSpeeches
 signed-parts o [] h i t = tt
 signed-parts o (copy l ∷ xs) h i t = (left (all xset l) _ i, signed-parts (o + length l + 2) xs h (right (all xset l) _ i) t)
 signed-parts o (name l ∷ xs) h i t = (heard-clear l (h .0), signed-parts (o + length l + 2) xs (h .1) (right (all xset l) _ i) t)

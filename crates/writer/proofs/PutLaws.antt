@@ -32,7 +32,7 @@ use Rattle.roles.specs.declared.Shape.the-variants.{Details, Note103, Note202}
 use Rattle.records.specs.Record.{Record, line, recordOf}
 use Rattle.records.specs.Places.{nextOf}
 use Rattle.records.specs.Found.{piecesAt, tagNumber, badLine}
-use Rattle.records.specs.Rule19.{sole, detailed, noted, sound, good}
+use Rattle.records.specs.Rule19.{sole, detailed, rppAndDetailed, sound, good}
 use Rattle.records.specs.Sentences.{Right, plain, agent, payer, payee, details, note103, note202}
 use Rattle.records.proofs.PieceLaws.{end-within, piece-length}
 use Rattle.records.proofs.PlaceLaws.{front-at, front-end}
@@ -101,7 +101,7 @@ pub sound-details : (s : Bool) (ps : List (List ℕ)) {sh : Shape} → sh ≡ De
 unfolding sound
 sound-details s ps e g = sound-as s ps Details e g
 
-pub sound-note : (s : Bool) (ps : List (List ℕ)) {sh : Shape} → sh ≡ Note202 → sound s sh ps ≡ true → noted ps ≡ true
+pub sound-note : (s : Bool) (ps : List (List ℕ)) {sh : Shape} → sh ≡ Note202 → sound s sh ps ≡ true → rppAndDetailed ps ≡ true
 unfolding sound
 sound-note s ps e g = sound-as s ps Note202 e g
 

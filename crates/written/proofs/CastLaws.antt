@@ -127,11 +127,11 @@ next-dropped BehindRpp ls = unmarked (layout BehindRpp .next) ls
 
 -- over the lines, behind the marks and the code, stands the text
 pub details-again : (p : DetailsField) (s : Bool) (vo w : List ℕ) (o : ℕ) → digits 5 vo ≡ true → Laid p (codeSize s) (code s vo ++ w)
-    → (at : ℕ) × (speech.details (frontOf p s) (nextOf p) o (linesFor p (codeSize s) (code s vo ++ w)) ≡ speech asDetails at w ∷ [])
-unfolding speech.details
+    → (at : ℕ) × (speech.detailsSpeech (frontOf p s) (nextOf p) o (linesFor p (codeSize s) (code s vo ++ w)) ≡ speech asDetails at w ∷ [])
+unfolding speech.detailsSpeech
 details-again p s vo w o d h =
     let l : List ℕ = layout p .mark ++ h .front in
     let text : drop (frontOf p s) l ++ speech.laterText (nextOf p) (map (λ (k : List ℕ). layout p .next ++ k) (h .behind)) ≡ w =
     ap₂ (λ (a b : List ℕ). a ++ b) (front-dropped p s (h .front)) (next-dropped p (h .behind))
     ∙ sym (drop-append-le (codeSize s) (h .front) (together (h .behind)) (h .code)) ∙ ap (drop (codeSize s)) (h .joins) ∙ behind-code s vo w d in
-    (detailsStart (frontOf p s) (nextOf p) o l, ap (speech.details (frontOf p s) (nextOf p) o) (h .is) ∙ ap (λ (b : List ℕ). speech asDetails (detailsStart (frontOf p s) (nextOf p) o l) b ∷ []) text)
+    (detailsStart (frontOf p s) (nextOf p) o l, ap (speech.detailsSpeech (frontOf p s) (nextOf p) o) (h .is) ∙ ap (λ (b : List ℕ). speech asDetails (detailsStart (frontOf p s) (nextOf p) o l) b ∷ []) text)

@@ -21,7 +21,7 @@ use Rattle.fields.specs.Places as fields
 use Rattle.fields.specs.Shapes.{goesOn}
 use Rattle.contents.specs.Tests.{looksTax}
 use Rattle.roles.specs.Role.{shapeOf, Part, copy, name, taxName, lineOf, cast}
-use Rattle.roles.specs.Speech.{Manner, asName, asTaxName, asDetails, Speech, speech, saidAt, names, noted, codeSize, speeches}
+use Rattle.roles.specs.Speech.{Manner, asName, asTaxName, asDetails, Speech, speech, saidAt, nameSpeeches, noteSpeeches, codeSize, speeches}
 use Rattle.roles.specs.Speech as speech
 use Rattle.roles.specs.Rule14.{mute, isInn, taxLike, clauses, breaks, spoken, rule14}
 use Rattle.roles.specs.Sentences.{Heard}
@@ -77,11 +77,11 @@ heard-both : (xs ys : List Speech) → Heard xs → Heard ys → Heard (xs ++ ys
 heard-both [] ys h k = k
 heard-both (speech m o b ∷ xs) ys h k = (h .0, heard-both xs ys (h .1) k)
 
-names-heard : (o : ℕ) (xs : List Part) → all (speaks true) xs ≡ true → all some (map lineOf xs) ≡ true → all untaxed xs ≡ true → all calm xs ≡ true → Heard (names o (map (turned true) xs))
-unfolding names
+names-heard : (o : ℕ) (xs : List Part) → all (speaks true) xs ≡ true → all some (map lineOf xs) ≡ true → all untaxed xs ≡ true → all calm xs ≡ true → Heard (nameSpeeches o (map (turned true) xs))
+unfolding nameSpeeches
 names-heard o [] e n t c = tt
 names-heard o (x ∷ xs) e n t c =
-    heard-both (saidAt o (turned true x)) (names (o + length (lineOf (turned true x)) + 2) (map (turned true) xs))
+    heard-both (saidAt o (turned true x)) (nameSpeeches (o + length (lineOf (turned true x)) + 2) (map (turned true) xs))
     (part-heard o x (left (speaks true x) _ e) (left (some (lineOf x)) _ n) (left (untaxed x) _ t) (left (calm x) _ c))
     (names-heard (o + length (lineOf (turned true x)) + 2) xs (right (speaks true x) _ e) (right (some (lineOf x)) _ n) (right (untaxed x) _ t) (right (calm x) _ c))
 
@@ -89,39 +89,39 @@ on-some : (ps : List (List ℕ)) → all goesOn ps ≡ true → all some ps ≡ 
 on-some ps g = all-imp goesOn some (λ p h. left (some p) _ h) ps g
 
 parts-heard : (o : ℕ) (sh : Shape) (p : List ℕ) (ps : List (List ℕ)) → Right true sh (p ∷ ps) → empty p ≡ false → all goesOn ps ≡ true → all (speaks true) (cast sh (p ∷ ps)) ≡ true
-    → Heard (names o (cast sh (map (lineFor true) (cast sh (p ∷ ps)))))
+    → Heard (nameSpeeches o (cast sh (map (lineFor true) (cast sh (p ∷ ps)))))
 parts-heard o sh p ps r n g e =
     let xs : List Part = cast sh (p ∷ ps) in
     let k : all some (map lineOf xs) ≡ true = ap (all some) (same-lines sh (p ∷ ps)) ∙ both (ap not n) (on-some ps g) in
-    subst (λ (l : List Part). Heard (names o l)) (sym (cast-again true sh (p ∷ ps) r e)) (names-heard o xs e k (cast-untaxed sh (p ∷ ps)) (cast-calm sh (p ∷ ps) r))
+    subst (λ (l : List Part). Heard (nameSpeeches o l)) (sym (cast-again true sh (p ∷ ps) r e)) (names-heard o xs e k (cast-untaxed sh (p ∷ ps)) (cast-calm sh (p ∷ ps) r))
 
 -- ---- details
 heard-details : (q : DetailsField) (vo p : List ℕ) (o : ℕ) → digits 5 vo ≡ true → empty p ≡ false → speaks true (name p) ≡ true → Laid q (codeSize true) (code true vo ++ textOf (writing true p))
-    → Heard (speech.details (frontOf q true) (nextOf q) o (linesFor q (codeSize true) (code true vo ++ textOf (writing true p))))
+    → Heard (speech.detailsSpeech (frontOf q true) (nextOf q) o (linesFor q (codeSize true) (code true vo ++ textOf (writing true p))))
 heard-details q vo p o d n e h =
     let w = details-again q true vo (textOf (writing true p)) o d h in
     subst Heard (sym (w .1)) (details-heard p e n, tt)
 
 -- /NZP/ is no RPP line, /RPP/ is one
-noted-first : (o : ℕ) (least : ℕ) (text : List ℕ) → Laid In72 least text → noted true o (linesFor In72 least text) ≡ speech.details (frontOf In72 true) (nextOf In72) o (linesFor In72 least text)
-unfolding noted same
-noted-first o least text h = ap (noted true o) (h .is) ∙ ap (speech.details (frontOf In72 true) (nextOf In72) o) (sym (h .is))
+note-first : (o : ℕ) (least : ℕ) (text : List ℕ) → Laid In72 least text → noteSpeeches true o (linesFor In72 least text) ≡ speech.detailsSpeech (frontOf In72 true) (nextOf In72) o (linesFor In72 least text)
+unfolding noteSpeeches same
+note-first o least text h = ap (noteSpeeches true o) (h .is) ∙ ap (speech.detailsSpeech (frontOf In72 true) (nextOf In72) o) (sym (h .is))
 
-noted-behind : (o : ℕ) (r : List ℕ) (ls : List (List ℕ)) → noted true o (rppLine r ∷ ls) ≡ speech.details (frontOf BehindRpp true) (nextOf BehindRpp) (o + length (rppLine r) + 2) ls
-unfolding noted same
-noted-behind o r ls = refl
+note-behind : (o : ℕ) (r : List ℕ) (ls : List (List ℕ)) → noteSpeeches true o (rppLine r ∷ ls) ≡ speech.detailsSpeech (frontOf BehindRpp true) (nextOf BehindRpp) (o + length (rppLine r) + 2) ls
+unfolding noteSpeeches same
+note-behind o r ls = refl
 
 note-heard : (b : Bool) (o : ℕ) (r vo p : List ℕ) → digits 5 vo ≡ true → empty p ≡ false → speaks true (name p) ≡ true
     → isUnfit (sizeFor (pick b In72 BehindRpp) (codeSize true) (code true vo ++ textOf (writing true p))) ≡ false
-    → Heard (noted true o (pick b [] (rppLine r ∷ []) ++ linesFor (pick b In72 BehindRpp) (codeSize true) (code true vo ++ textOf (writing true p))))
+    → Heard (noteSpeeches true o (pick b [] (rppLine r ∷ []) ++ linesFor (pick b In72 BehindRpp) (codeSize true) (code true vo ++ textOf (writing true p))))
 note-heard true o r vo p d n e u =
     let text : List ℕ = code true vo ++ textOf (writing true p) in
     let h = laid In72 (codeSize true) text u in
-    subst Heard (sym (noted-first o (codeSize true) text h)) (heard-details In72 vo p o d n e h)
+    subst Heard (sym (note-first o (codeSize true) text h)) (heard-details In72 vo p o d n e h)
 note-heard false o r vo p d n e u =
     let text : List ℕ = code true vo ++ textOf (writing true p) in
     let h = laid BehindRpp (codeSize true) text u in
-    subst Heard (sym (noted-behind o r (linesFor BehindRpp (codeSize true) text))) (heard-details BehindRpp vo p (o + length (rppLine r) + 2) d n e h)
+    subst Heard (sym (note-behind o r (linesFor BehindRpp (codeSize true) text))) (heard-details BehindRpp vo p (o + length (rppLine r) + 2) d n e h)
 
 -- ---- a record, the records
 ready-heard : (o : ℕ) (sh : Shape) (ps : List (List ℕ)) → Ready true sh ps → Heard (speeches true sh o (contentLines true sh ps))
