@@ -13,7 +13,7 @@ use Rattle.contents.specs.Words.{Text, Digits, Perhaps, join, withMark}
 use Rattle.contents.specs.Lines.{RppLine}
 use Rattle.contents.specs.Answers.{cut, Leads, RppBody, RppWith}
 use Rattle.contents.proofs.LineTests.{way-size}
-use Rattle.contents.proofs.Laws.{Spot, spot, laid, Laid, made, cut-one, cut-first, cut-length, mark-stops, run-once, mark-some}
+use Rattle.contents.proofs.Laws.{Spot, spot, stands-at, StandsAt, made, cut-one, cut-first, cut-length, mark-stops, run-once, mark-some}
 
 abbrev spots : ℕ → List Spot → List Spot
 spots i tail = spot 1 (1 + i) ∷ spot 6 (7 + i) ∷ spot 1 (8 + i) ∷ spot 1 (9 + i) ∷ spot 1 (10 + i) ∷ spot 4 (14 + i) ∷ tail
@@ -34,15 +34,15 @@ pub record RppTests (n : ℕ) (l : Text) : Type 0 where
   pub tail : Not (length l ≡ 14 + (n + 5)) → (length l ≡ 21 + (n + 5)) × (byte l (14 + (n + 5)) ≡ 46) × Digits 6 (cut (15 + (n + 5)) 6 l)
 
 module _ (number date turn way value l : Text) (t : RppLine number date turn way value l) where
-  short-laid : value ≡ [] → Laid 0 (short (length number)) (bytes "/RPP/" ∷ number ∷ bytes "." ∷ date ∷ bytes "." ∷ turn ∷ bytes "." ∷ way ∷ [] ∷ []) l
+  short-laid : value ≡ [] → StandsAt 0 (short (length number)) (bytes "/RPP/" ∷ number ∷ bytes "." ∷ date ∷ bytes "." ∷ turn ∷ bytes "." ∷ way ∷ [] ∷ []) l
   short-laid e =
-      laid (short (length number)) (bytes "/RPP/" ∷ number ∷ bytes "." ∷ date ∷ bytes "." ∷ turn ∷ bytes "." ∷ way ∷ [] ∷ []) l
+      stands-at (short (length number)) (bytes "/RPP/" ∷ number ∷ bytes "." ∷ date ∷ bytes "." ∷ turn ∷ bytes "." ∷ way ∷ [] ∷ []) l
       (refl, refl, (refl, refl, (refl, refl, (t .day .size, omega arith, (refl, omega arith, (t .order .size, omega arith, (refl, omega arith, (way-size way (t .kind), omega arith, (refl, omega arith, tt)))))))))
       (t .line ∙ rw e)
 
-  long-laid : Digits 6 value → Laid 0 (long (length number)) (bytes "/RPP/" ∷ number ∷ bytes "." ∷ date ∷ bytes "." ∷ turn ∷ bytes "." ∷ way ∷ bytes "." ∷ value ∷ []) l
+  long-laid : Digits 6 value → StandsAt 0 (long (length number)) (bytes "/RPP/" ∷ number ∷ bytes "." ∷ date ∷ bytes "." ∷ turn ∷ bytes "." ∷ way ∷ bytes "." ∷ value ∷ []) l
   long-laid d =
-      laid (long (length number)) (bytes "/RPP/" ∷ number ∷ bytes "." ∷ date ∷ bytes "." ∷ turn ∷ bytes "." ∷ way ∷ bytes "." ∷ value ∷ []) l
+      stands-at (long (length number)) (bytes "/RPP/" ∷ number ∷ bytes "." ∷ date ∷ bytes "." ∷ turn ∷ bytes "." ∷ way ∷ bytes "." ∷ value ∷ []) l
       (refl, refl, (refl, refl, (refl, refl, (t .day .size, omega arith, (refl, omega arith, (t .order .size, omega arith, (refl, omega arith, (way-size way (t .kind), omega arith, (refl, omega arith, (d .size, omega arith, tt))))))))))
       (t .line ∙ rw (mark-some "." value (omega (arith, d .size))))
 

@@ -12,7 +12,7 @@ use Rattle.contents.specs.Words.{Text, Line, Size, Digits, join}
 use Rattle.contents.specs.Lines.{opening, closing}
 use Rattle.contents.specs.Fields.{Names, Several, In70, In72}
 use Rattle.contents.specs.Answers.{cut, VoFirst, textAt, IsMarked, NzpFirst, RppWith}
-use Rattle.contents.proofs.Laws.{Spot, spot, laid, made}
+use Rattle.contents.proofs.Laws.{Spot, spot, stands-at, made}
 use Rattle.contents.proofs.RppLaws.{rpp-front}
 use Rattle.base.specs.Bytes.{byte}
 use Rattle.base.specs.Examples.{AllHold}
@@ -32,7 +32,7 @@ pub record VoTests (sign : Bool) (l : Text) : Type 0 where
 
 pub vo-tests : (sign : Bool) (l : Text) → VoFirst sign l → VoTests sign l
 vo-tests sign l v =
-    let p = laid (spots sign (length (v .text))) (opening sign ∷ v .code ∷ closing sign ∷ v .text ∷ []) l (refl, omega arith, (v .digits .size, refl, (refl, refl, (refl, refl, tt)))) (v .line) in
+    let p = stands-at (spots sign (length (v .text))) (opening sign ∷ v .code ∷ closing sign ∷ v .text ∷ []) l (refl, omega arith, (v .digits .size, refl, (refl, refl, (refl, refl, tt)))) (v .line) in
     record { size = omega (arith, p .1 .1 .1 .1); front = p .0; close = p .1 .1 .0; digits = rw (p .1 .0) (v .digits) }
 
 pub vo-made : (sign : Bool) (l : Text) → VoTests sign l → VoFirst sign l
@@ -53,7 +53,7 @@ same-lines (t ∷ ts) = ap (λ (x : List Text). t ∷ x) (same-lines ts)
 
 pub vo-size : (sign : Bool) (l : Text) (v : VoFirst sign l) → length l ≡ length (v .text) + textAt sign
 vo-size sign l v =
-    let p = laid (spots sign (length (v .text))) (opening sign ∷ v .code ∷ closing sign ∷ v .text ∷ []) l (refl, omega arith, (v .digits .size, refl, (refl, refl, (refl, refl, tt)))) (v .line) in
+    let p = stands-at (spots sign (length (v .text))) (opening sign ∷ v .code ∷ closing sign ∷ v .text ∷ []) l (refl, omega arith, (v .digits .size, refl, (refl, refl, (refl, refl, tt)))) (v .line) in
     p .1 .1 .1 .1
 
 empty : (s : Text) → length s ≡ 0 → s ≡ []

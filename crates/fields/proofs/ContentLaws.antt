@@ -14,8 +14,8 @@ use Rattle.base.proofs.Bools.{left, right, isnt}
 use Rattle.base.proofs.MarkLaws.{up-rest}
 use Rattle.fields.specs.Field.{onto, lines}
 use Rattle.fields.specs.ByLines.{joined}
-use Rattle.fields.proofs.LineLaws.{lines-laid}
-use Rattle.fields.proofs.PlaceLaws.{laid-joined}
+use Rattle.fields.proofs.LineLaws.{lines-crlf}
+use Rattle.fields.proofs.PlaceLaws.{crlf-joined}
 use Rattle.fields.specs.Lines.{split, linesIn}
 
 -- ---- lines that are joined are found again, as in a message
@@ -37,7 +37,7 @@ lines-joined l (k ∷ ls) e =
 
 -- so they are the lines that the content has in a message, where CR LF ends it
 pub lines-in : (l : List ℕ) (ls : List (List ℕ)) → all (without 13) (l ∷ ls) ≡ true → linesIn (joined (l ∷ ls)) ≡ lines (joined (l ∷ ls) ++ 13 ∷ 10 ∷ [])
-lines-in l ls e = lines-joined l ls e ∙ sym (ap lines (sym (laid-joined l ls)) ∙ lines-laid (l ∷ ls) e)
+lines-in l ls e = lines-joined l ls e ∙ sym (ap lines (sym (crlf-joined l ls)) ∙ lines-crlf (l ∷ ls) e)
 
 -- ---- the first line, and the others
 behind-cr : (s : List ℕ) → split true s ≡ split false (drop 1 s)

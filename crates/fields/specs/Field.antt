@@ -22,9 +22,9 @@ abbrev pub closing : List ℕ
 closing = 45 ∷ 125 ∷ []
 
 -- lines that each end in CR LF
-abbrev pub laid : List (List ℕ) → List ℕ
-laid [] = []
-laid (l ∷ ls) = l ++ 13 ∷ 10 ∷ laid ls
+abbrev pub withCrLf : List (List ℕ) → List ℕ
+withCrLf [] = []
+withCrLf (l ∷ ls) = l ++ 13 ∷ 10 ∷ withCrLf ls
 
 -- the lines of a field: its first begins with colon, tag, colon
 abbrev pub lined : Field → List (List ℕ)
@@ -36,7 +36,7 @@ linesOf [] = []
 linesOf (f ∷ fs) = lined f ++ linesOf fs
 
 unfoldable pub message : List Field → List ℕ
-message fs = opening ++ (laid (linesOf fs) ++ closing)
+message fs = opening ++ (withCrLf (linesOf fs) ++ closing)
 
 -- ---- from bytes to fields
 -- what stands between {4: CR LF and -}

@@ -17,8 +17,8 @@ use Rattle.fields.specs.Field.{Field, tagOf, lined, linesOf, body, lines, field
 use Rattle.fields.specs.Frame.{limit, rule1, rule2, rule3, rule4, framed, scan, lineBad, badLine}
 use Rattle.fields.specs.Places.{sizeOf, nextOf}
 use Rattle.fields.proofs.FrameLaws.{rule2-fine, body-length, body-ended}
-use Rattle.fields.proofs.LineLaws.{laid-lines}
-use Rattle.fields.proofs.FieldLaws.{laid-size, fields-dash}
+use Rattle.fields.proofs.LineLaws.{crlf-lines}
+use Rattle.fields.proofs.FieldLaws.{crlf-size, fields-dash}
 use Rattle.fields.proofs.PlaceLaws.{size-append}
 use Rattle.types.specs.declared.Form.{Form}
 use Rattle.types.specs.Form.{Place, placesOf}
@@ -80,7 +80,7 @@ refusal-small form m =
     let w = rule2-fine m .0 e2 in
     let c : length (body m) + 7 ≡ length m = body-length m w in
     then-small limit (rule3 m) _ (scan-small limit false 5 (body m) (omega arith)) (λ e3.
-    let d : sizeOf (lines (body m)) ≡ length (body m) = sym (laid-size (lines (body m))) ∙ ap length (laid-lines 5 (body m) (body-ended m w) e3) in
+    let d : sizeOf (lines (body m)) ≡ length (body m) = sym (crlf-size (lines (body m))) ∙ ap length (crlf-lines 5 (body m) (body-ended m w) e3) in
     then-small limit (rule4 m) _ (line-small limit true 5 (lines (body m)) (omega arith)) (λ e4.
     let f : 5 + sizeOf (linesOf (fields m)) ≡ length m - 2 = fields-dash m e2 e3 e4 in
     then-small limit (walked form m) Fine (walk-small limit (placesOf form) 0 5 (fields m) (omega arith)) (λ e5. tt))))))

@@ -24,7 +24,7 @@ use Rattle.types.specs.Walk.{among}
 use Rattle.contents.specs.declared.Content.{Content}
 use Rattle.values.specs.declared.Finds.{Finds}
 use Rattle.values.specs.Values.{Kind, tag, Value, placeOf, kindOf, valuesOf, valuesIn}
-use Rattle.values.specs.Judged.{firstBad, has, noDay, foreign, apart, tagged, hasKpp, kppIn, is56, is57, is26T, is77B, tags56, tags57, rule9, rule10, rule11, rule12, rule13}
+use Rattle.values.specs.Judged.{firstBad, has, noDay, foreign, bikDiffers, tagged, hasKpp, kppIn, is56, is57, is26T, is77B, tags56, tags57, rule9, rule10, rule11, rule12, rule13}
 use Rattle.values.specs.Answers.{faultOf, answered}
 use Rattle.values.specs.Steps.{finds}
 use Rattle.values.proofs.JudgedLaws.{Ordered, none, next}
@@ -211,7 +211,7 @@ module _ (form : Form) where
 
     party-verdict : verdictOn 12 (λ f. f .party) fs ≡ rule12 form fs
     unfolding nothingYet withFinds markedBy rule12
-    party-verdict = place-from form (λ f. f .party) (λ o g. within (startOf o g) (faultOf apart (valuesFor form g))) 12 apart (λ f o g. refl) (fault-step 12 apart (λ t. refl)) nothingYet 5 fs
+    party-verdict = place-from form (λ f. f .party) (λ o g. within (startOf o g) (faultOf bikDiffers (valuesFor form g))) 12 bikDiffers (λ f o g. refl) (fault-step 12 bikDiffers (λ t. refl)) nothingYet 5 fs
 
     bank-verdict : verdictOn 11 (λ f. f .bank) fs ≡ firstBad 11 is56 (valuesIn form 5 fs)
     unfolding nothingYet withFinds markedBy

@@ -29,7 +29,7 @@ use Rattle.contents.specs.Rule8.{firstWrong, rightField}
 use Rattle.contents.proofs.FieldTests.{right-says}
 use Rattle.values.specs.declared.Finds.{Finds}
 use Rattle.values.specs.Values.{Kind, Value, valuesOf}
-use Rattle.values.specs.Judged.{has, noDay, foreign, apart, hasKpp}
+use Rattle.values.specs.Judged.{has, noDay, foreign, bikDiffers, hasKpp}
 use Rattle.values.specs.Answers.{faultOf, nothing, Finding, FoundIn}
 use Rattle.values.specs.declared.Found.{Found}
 use Rattle.values.specs.declared.Found.the-variants.{Wrong, Plain, Has}
@@ -94,8 +94,8 @@ module _ {m spots : List ℕ} {k : ℕ} {p : Part} (h : Here m spots k p) where
         pub finds-are : x ≡ findsIn form (fieldOf h)
         finds-are =
             let t = h .tag in
-            let e : x ≡ finds (faultOf noDay here) (faultOf foreign here) (faultOf apart here) (has hasKpp here) = rw (sym (w .day-is t), sym (w .currency-is t), sym (w .party-is t), sym (w .kpp-is t)) refl in
-            e ∙ ap (λ (vs : List Value). finds (faultOf noDay vs) (faultOf foreign vs) (faultOf apart vs) (has hasKpp vs)) values-are
+            let e : x ≡ finds (faultOf noDay here) (faultOf foreign here) (faultOf bikDiffers here) (has hasKpp here) = rw (sym (w .day-is t), sym (w .currency-is t), sym (w .party-is t), sym (w .kpp-is t)) refl in
+            e ∙ ap (λ (vs : List Value). finds (faultOf noDay vs) (faultOf foreign vs) (faultOf bikDiffers vs) (has hasKpp vs)) values-are
 
         -- they stand in the message
         inside : (bad : Kind → Bool) → p .start + faultOf bad (valuesFor form (fieldOf h)) ≤ length m + 1
@@ -105,7 +105,7 @@ module _ {m spots : List ℕ} {k : ℕ} {p : Part} (h : Here m spots k p) where
         pub found-small : length m ≤ limit → (p .start + x .day ≤ 100000) × (p .start + x .currency ≤ 100000) × (p .start + x .party ≤ 100000)
         found-small z =
             let e = finds-are in
-            (omega (arith, z, inside noDay, ap (λ (f : Finds). f .day) e), omega (arith, z, inside foreign, ap (λ (f : Finds). f .currency) e), omega (arith, z, inside apart, ap (λ (f : Finds). f .party) e))
+            (omega (arith, z, inside noDay, ap (λ (f : Finds). f .day) e), omega (arith, z, inside foreign, ap (λ (f : Finds). f .currency) e), omega (arith, z, inside bikDiffers, ap (λ (f : Finds). f .party) e))
 
     pub wrong-here : rightField form sign (fieldOf h) ≡ false → Broken 8 (p .start) ≡ wrong8 (byte spots k) (drop k (fields m))
     unfolding firstWrong

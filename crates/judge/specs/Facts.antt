@@ -17,7 +17,7 @@ use Rattle.types.specs.Walk.{among}
 use Rattle.contents.specs.Tags.{heldBy}
 use Rattle.contents.specs.Rule8.{firstWrong, rightField}
 use Rattle.values.specs.Values.{Value, valuesOf}
-use Rattle.values.specs.Judged.{noDay, foreign, apart, hasKpp, has, tags56, tags57}
+use Rattle.values.specs.Judged.{noDay, foreign, bikDiffers, hasKpp, has, tags56, tags57}
 use Rattle.values.specs.Answers.{faultOf}
 use Rattle.values.specs.Steps.{finds}
 use Rattle.values.specs.declared.Finds.{Finds}
@@ -91,7 +91,7 @@ abbrev pub valuesFor : Form → Field → List Value
 valuesFor form (field t ls) = valuesOf t (heldBy form t) ls
 
 abbrev pub findsIn : Form → Field → Finds
-findsIn form g = finds (faultOf noDay (valuesFor form g)) (faultOf foreign (valuesFor form g)) (faultOf apart (valuesFor form g)) (has hasKpp (valuesFor form g))
+findsIn form g = finds (faultOf noDay (valuesFor form g)) (faultOf foreign (valuesFor form g)) (faultOf bikDiffers (valuesFor form g)) (has hasKpp (valuesFor form g))
 
 abbrev pub withField : Form → Facts → ℕ → Field → Facts
 withField form f o g = withFinds (markedBy f o (tagOf g)) (startOf o g) (tagOf g) (findsIn form g)

@@ -27,7 +27,7 @@ use Rattle.roles.specs.declared.Shape.the-variants.{Payer, Payee}
 use Rattle.types.specs.declared.Form.the-variants.{Other}
 use Rattle.records.specs.Record.{Record, pieces, parted, recordOf}
 use Rattle.records.specs.Found.{partsIn, piecesAt, tagNumber}
-use Rattle.records.specs.Rule19.{digits, general, sole, detailed, rppAndDetailed, taxPart, untaxed, sound, good, typed, formIn}
+use Rattle.records.specs.Rule19.{isDigits, general, sole, detailed, rppAndDetailed, taxPart, untaxed, sound, good, typed, formIn}
 use Rattle.records.proofs.PieceLaws.{past-end, at-from, pieces-at, pieces-head, end-within, last-at, more-at, piece-length}
 
 -- ---- no part from a place on
@@ -114,10 +114,10 @@ module _ (l : List ℕ) (i e : ℕ) (h : i ≤ length l) (q : e ≡ i + upTo 9 (
           let z : e ≡ length l = omega (arith, end-within 9 l i e h q) in
           eq-eqb e (length l) z ∙ sym (ap sole (last-at 9 l i e h q z) ∙ ap not (some k))
 
-  pub detailed-code : digits 5 part ≡ false → false ≡ detailed (piecesAt 9 l i)
+  pub detailed-code : isDigits 5 part ≡ false → false ≡ detailed (piecesAt 9 l i)
   detailed-code g = sym (ap detailed here ∙ ap (λ (b : Bool). b && sole behind) g)
 
-  pub detailed-on : {r : Bool} → digits 5 part ≡ true → r ≡ sole behind → r ≡ detailed (piecesAt 9 l i)
+  pub detailed-on : {r : Bool} → isDigits 5 part ≡ true → r ≡ sole behind → r ≡ detailed (piecesAt 9 l i)
   detailed-on g k = k ∙ sym (ap detailed here ∙ ap (λ (b : Bool). b && sole behind) g)
 
   pub rpp-on : {r : Bool} → r ≡ detailed behind → r ≡ rppAndDetailed (piecesAt 9 l i)
@@ -254,8 +254,8 @@ pub record Three (p : List ℕ) : Type 0 where
   pub second : 48 ≤ byte p 1
   pub third : 48 ≤ byte p 2
 
-pub three : (p : List ℕ) → digits 3 p ≡ true → Three p
-unfolding digits
+pub three : (p : List ℕ) → isDigits 3 p ≡ true → Three p
+unfolding isDigits
 three p e = go p (eqb-true (length p) 3 (left (eqb (length p) 3) (all digit p) e)) (right (eqb (length p) 3) (all digit p) e)
   where
     go : (p : List ℕ) → length p ≡ 3 → all digit p ≡ true → Three p

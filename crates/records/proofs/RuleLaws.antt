@@ -27,7 +27,7 @@ use Rattle.types.specs.declared.Form.the-variants.{Other}
 use Rattle.types.specs.Form.{formOf}
 use Rattle.records.specs.Record.{Record, line, records, rest}
 use Rattle.records.specs.Places.{sizeOf, nextOf}
-use Rattle.records.specs.Rule19.{digits, general, taxPart, untaxed, sound, good, typed, number, formIn, badFrom, judge, sheetSign, sheetForm, rule19, sheetVerdict}
+use Rattle.records.specs.Rule19.{isDigits, general, taxPart, untaxed, sound, good, typed, number, formIn, badFrom, judge, sheetSign, sheetForm, rule19, sheetVerdict}
 use Rattle.records.specs.Sentences.{Right, plain, agent, payer, payee, details, note103, note202, BadAt, unbegun, untyped, wrong, unended, Sound}
 
 -- ---- the parts of a record by its shape
@@ -56,17 +56,17 @@ module _ (s : Bool) where
       let g = left (general (p ∷ ps)) _ e in
       payee p ps (isnt (empty p) (left (not (empty p)) _ g)) (right (not (empty p)) _ g) (free s (taxPart Payee (p ∷ ps)) (right (general (p ∷ ps)) _ e))
   sound-right Details [] e = absurd (false≢true e)
-  sound-right Details (v ∷ []) e = absurd (false≢true (right (digits 5 v) false e))
-  sound-right Details (v ∷ t ∷ []) e = details v t (left (digits 5 v) _ e) (isnt (empty t) (right (digits 5 v) _ e))
-  sound-right Details (v ∷ t ∷ x ∷ ps) e = absurd (false≢true (right (digits 5 v) false e))
+  sound-right Details (v ∷ []) e = absurd (false≢true (right (isDigits 5 v) false e))
+  sound-right Details (v ∷ t ∷ []) e = details v t (left (isDigits 5 v) _ e) (isnt (empty t) (right (isDigits 5 v) _ e))
+  sound-right Details (v ∷ t ∷ x ∷ ps) e = absurd (false≢true (right (isDigits 5 v) false e))
   sound-right Note103 [] e = absurd (false≢true e)
   sound-right Note103 (r ∷ []) e = note103 r (isnt (empty r) e)
   sound-right Note103 (r ∷ x ∷ ps) e = absurd (false≢true e)
   sound-right Note202 [] e = absurd (false≢true e)
   sound-right Note202 (r ∷ []) e = absurd (false≢true e)
-  sound-right Note202 (r ∷ v ∷ []) e = absurd (false≢true (right (digits 5 v) false e))
-  sound-right Note202 (r ∷ v ∷ t ∷ []) e = note202 r v t (left (digits 5 v) _ e) (isnt (empty t) (right (digits 5 v) _ e))
-  sound-right Note202 (r ∷ v ∷ t ∷ x ∷ ps) e = absurd (false≢true (right (digits 5 v) false e))
+  sound-right Note202 (r ∷ v ∷ []) e = absurd (false≢true (right (isDigits 5 v) false e))
+  sound-right Note202 (r ∷ v ∷ t ∷ []) e = note202 r v t (left (isDigits 5 v) _ e) (isnt (empty t) (right (isDigits 5 v) _ e))
+  sound-right Note202 (r ∷ v ∷ t ∷ x ∷ ps) e = absurd (false≢true (right (isDigits 5 v) false e))
 
   pub right-sound : (sh : Shape) (ps : List (List ℕ)) → Right s sh ps → sound s sh ps ≡ true
   unfolding sound general
@@ -85,7 +85,7 @@ module _ (s : Bool) where
 pub record Named (r : Record) : Type 0 where
   pub type : List ℕ
   pub is : r ≡ field (bytes "MT") (type ∷ [])
-  pub three : digits 3 type ≡ true
+  pub three : isDigits 3 type ≡ true
   pub worth : formIn r ≡ formOf (number type)
 
 pub named : (r : Record) → typed r ≡ true → Named r
@@ -101,7 +101,7 @@ named (field t (p ∷ q ∷ ps)) e = absurd (false≢true (right (same t (bytes 
 
 -- it takes seven bytes with its LF
 pub named-size : (r : Record) → typed r ≡ true → length (line r) ≡ 6
-unfolding digits
+unfolding isDigits
 named-size r e =
     let n = named r e in
     let k : length (n .type) ≡ 3 = eqb-true (length (n .type)) 3 (left (eqb (length (n .type)) 3) _ (n .three)) in

@@ -27,8 +27,8 @@ use Rattle.records.specs.declared.Judged.{Judged}
 
 -- ---- parts
 -- n digits
-unfoldable pub digits : ℕ → List ℕ → Bool
-digits n p = eqb (length p) n && all digit p
+unfoldable pub isDigits : ℕ → List ℕ → Bool
+isDigits n p = eqb (length p) n && all digit p
 
 -- S3: at least one part, none empty, none from the second on beginning with : or -
 unfoldable pub general : List (List ℕ) → Bool
@@ -44,7 +44,7 @@ sole (p ∷ q ∷ ps) = false
 -- VO digits and text
 abbrev pub detailed : List (List ℕ) → Bool
 detailed [] = false
-detailed (v ∷ ps) = digits 5 v && sole ps
+detailed (v ∷ ps) = isDigits 5 v && sole ps
 
 -- what follows /RPP/ or an empty part, then VO digits and text
 abbrev pub rppAndDetailed : List (List ℕ) → Bool
@@ -85,7 +85,7 @@ good form s (field t ps) = shaped t && sound s (shapeOf form t) ps
 -- the first: MT, and just one part of three digits
 abbrev pub numbered : List (List ℕ) → Bool
 numbered [] = false
-numbered (p ∷ []) = digits 3 p
+numbered (p ∷ []) = isDigits 3 p
 numbered (p ∷ q ∷ ps) = false
 
 abbrev pub typed : Record → Bool

@@ -11,7 +11,7 @@ use Rattle.roles.specs.declared.Shape.{Shape}
 use Rattle.roles.specs.declared.Shape.the-variants.{Plain, Payer, Payee, Agent, Details, Note103, Note202}
 use Rattle.records.specs.Record.{Record, records, rest}
 use Rattle.records.specs.Places.{sizeOf}
-use Rattle.records.specs.Rule19.{digits, taxPart, good, typed, formIn, sheetSign}
+use Rattle.records.specs.Rule19.{isDigits, taxPart, good, typed, formIn, sheetSign}
 
 -- ---- the parts of a right record; s: with the sign
 pub data Right (s : Bool) : Shape → List (List ℕ) → Type 0 where
@@ -19,9 +19,9 @@ pub data Right (s : Bool) : Shape → List (List ℕ) → Type 0 where
   agent : (p : List ℕ) (ps : List (List ℕ)) → empty p ≡ false → all goesOn ps ≡ true → Right s Agent (p ∷ ps)
   payer : (p : List ℕ) (ps : List (List ℕ)) → empty p ≡ false → all goesOn ps ≡ true → (s ≡ true → isInn (taxPart Payer (p ∷ ps)) ≡ false) → Right s Payer (p ∷ ps)
   payee : (p : List ℕ) (ps : List (List ℕ)) → empty p ≡ false → all goesOn ps ≡ true → (s ≡ true → isInn (taxPart Payee (p ∷ ps)) ≡ false) → Right s Payee (p ∷ ps)
-  details : (vo text : List ℕ) → digits 5 vo ≡ true → empty text ≡ false → Right s Details (vo ∷ text ∷ [])
+  details : (vo text : List ℕ) → isDigits 5 vo ≡ true → empty text ≡ false → Right s Details (vo ∷ text ∷ [])
   note103 : (rpp : List ℕ) → empty rpp ≡ false → Right s Note103 (rpp ∷ [])
-  note202 : (rpp vo text : List ℕ) → digits 5 vo ≡ true → empty text ≡ false → Right s Note202 (rpp ∷ vo ∷ text ∷ [])
+  note202 : (rpp vo text : List ℕ) → isDigits 5 vo ≡ true → empty text ≡ false → Right s Note202 (rpp ∷ vo ∷ text ∷ [])
 
 -- ---- 19 is given at p
 pub data BadAt (s : List ℕ) (p : ℕ) : Type 0 where

@@ -6,7 +6,7 @@ ghost use Rattle.types.specs.Sign.{firstLine};
 ghost use Rattle.roles.specs.declared.Shape.the-variants.{Payer, Payee};
 ghost use Rattle.records.specs.Record.{recordOf};
 ghost use Rattle.records.specs.Found.{piecesAt};
-ghost use Rattle.records.specs.Rule19.{digits, general, sole, detailed, rppAndDetailed, untaxed, sound, good};
+ghost use Rattle.records.specs.Rule19.{isDigits, general, sole, detailed, rppAndDetailed, untaxed, sound, good};
 use super::tags::tag_number;
 use base::bytes::is_digit;
 use base::marks::mark_at;
@@ -71,7 +71,7 @@ fn is_sole(l: &[u8], i: usize) -> bool
 }
 
 pub(crate) fn is_digits(n: usize, p: &[u8]) -> bool
-    ensures { λ r. ⌜ r ≡ digits n (now (p .entry)) ⌝ }
+    ensures { λ r. ⌜ r ≡ isDigits n (now (p .entry)) ⌝ }
 {
     if p.len() != n {
         return false;

@@ -12,7 +12,7 @@ ghost use Rattle.types.specs.Sign.{firstLine};
 ghost use Rattle.fields.specs.Field.{tagOf};
 ghost use Rattle.records.specs.Record.{recordOf};
 ghost use Rattle.records.specs.Found.{partsIn, piecesAt, badLine, noType};
-ghost use Rattle.records.specs.Rule19.{digits, typed, number, sheetSign, judged};
+ghost use Rattle.records.specs.Rule19.{isDigits, typed, number, sheetSign, judged};
 use super::Judged;
 use super::parts::is_digits;
 use super::parts::is_good;
@@ -87,7 +87,7 @@ fn is_typed(l: &[u8]) -> bool
 }
 
 fn number_of(p: &[u8]) -> u32
-    requires { ⌜ digits 3 (now p) ≡ true ⌝ }
+    requires { ⌜ isDigits 3 (now p) ≡ true ⌝ }
     ensures { λ r. ⌜ r ≡ number (now (p .entry)) ⌝ }
 {
     (p[0] as u32 - ZERO) * 100 + (p[1] as u32 - ZERO) * 10 + (p[2] as u32 - ZERO)

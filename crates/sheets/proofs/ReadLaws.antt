@@ -30,7 +30,7 @@ use Rattle.frame.proofs.CallLaws.{taken}
 use Rattle.contents.specs.Tests.{looksTax}
 use Rattle.contents.specs.Parts.{opensRpp}
 use Rattle.roles.specs.Role.{shapeOf, Part, copy, name, taxName, lineOf, cast}
-use Rattle.roles.specs.Parts.{castBy, named, nextRole}
+use Rattle.roles.specs.Parts.{castBy, isNameBy, nextRole}
 use Rattle.roles.specs.Speech as speech
 use Rattle.roles.specs.Speech.{Manner, asDetails, asTaxName, Speech, nameSpeeches, laterText, codeSize, speeches}
 use Rattle.roles.specs.Rule14.{mute, clauses, breaks, spoken as texts}
@@ -76,7 +76,7 @@ voiced : (s : Bool) (p : List ℕ) → Speaks s p → saidBy codes (s && true) f
 voiced true p w = spoken-whole p w
 voiced false p w = plain-whole p w
 
-first-read : (s : Bool) (role : Role) (p : List ℕ) → Reads s (firstPart role p) → saidBy codes (s && named role p) false p ≡ partFor s (firstPart role p)
+first-read : (s : Bool) (role : Role) (p : List ℕ) → Reads s (firstPart role p) → saidBy codes (s && isNameBy role p) false p ≡ partFor s (firstPart role p)
 first-read s Copies p w = copied s p
 first-read s OfPayer p w = go (begins 47 p) (looksTax p) w
   where

@@ -19,7 +19,7 @@ use Rattle.fields.specs.Frame.{limit}
 use Rattle.fields.specs.Lines.{linesIn}
 use Rattle.base.proofs.MarkLaws.{up-rest}
 use Rattle.base.proofs.Room.{puts-put, puts-on, puts-by, Leads, leads-on, leads-last}
-use Rattle.roles.specs.Parts.{named, nextRole}
+use Rattle.roles.specs.Parts.{isNameBy, nextRole}
 use Rattle.roles.specs.declared.Role.{Role}
 use Rattle.roles.proofs.LineLaws.{lines-from, past-none, past-at, line-length}
 use Rattle.records.specs.Record.{tabbed}
@@ -126,7 +126,7 @@ module _ (c : List ℕ) (i e : ℕ) (q : e ≡ i + upTo 13 (drop i c)) where
     piece-last b = omega (arith, cut-small d z, this-within h)
 
   -- each as a part
-  module _ (t : List ℕ) (s : Bool) (role : Role) (mark : ℕ) {l : List ℕ} (z : l ≡ drop mark this) {b : Bool} (y : b ≡ (s && named role l)) where
+  module _ (t : List ℕ) (s : Bool) (role : Role) (mark : ℕ) {l : List ℕ} (z : l ≡ drop mark this) {b : Bool} (y : b ≡ (s && isNameBy role l)) where
     abbrev left : ℕ → Role → List ℕ
     left j r = tabbed (partsBy t s r (map (drop mark) (linesIn (drop j c))))
 

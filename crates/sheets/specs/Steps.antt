@@ -20,7 +20,7 @@ use Rattle.fields.specs.Shapes.{unpack, packed}
 use Rattle.fields.specs.Lines.{linesIn}
 use Rattle.contents.specs.Parts.{opensRpp}
 use Rattle.roles.specs.Role.{shapeOf}
-use Rattle.roles.specs.Parts.{named, nextRole}
+use Rattle.roles.specs.Parts.{isNameBy, nextRole}
 use Rattle.roles.specs.Speech.{codeSize}
 use Rattle.roles.specs.declared.Shape.{Shape}
 use Rattle.roles.specs.declared.Shape.the-variants.{Plain, Payer, Payee, Agent, Details, Note103, Note202}
@@ -46,7 +46,7 @@ sideBy t spoken latin p = pick spoken (sideOf latin (pieceIn t latin p)) latin
 -- ---- lines as parts, by their roles
 unfoldable pub partsBy : List ℕ → Bool → Role → List (List ℕ) → List (List ℕ)
 partsBy t s role [] = []
-partsBy t s role (l ∷ ls) = saidBy t (s && named role l) false l ∷ partsBy t s (nextRole role l) ls
+partsBy t s role (l ∷ ls) = saidBy t (s && isNameBy role l) false l ∷ partsBy t s (nextRole role l) ls
 
 -- ---- a text over lines: what stands behind the marks, one piece behind another
 abbrev pub cutBy : ℕ → ℕ → List (List ℕ) → List (List ℕ)

@@ -40,7 +40,7 @@ use Rattle.roles.specs.declared.Shape.the-variants.{Plain, Payer, Payee, Agent}
 use Rattle.roles.proofs.BreachLaws.{same-lines}
 use Rattle.judge.specs.Message.{messageRules, verdictOf}
 use Rattle.records.specs.Record.{Record, sheet, records}
-use Rattle.records.specs.Rule19.{digits, number, sheetForm, sheetSign}
+use Rattle.records.specs.Rule19.{isDigits, number, sheetForm, sheetSign}
 use Rattle.records.specs.Sentences.{Right, plain, agent, payer, payee, details, note103, note202, Sound}
 use Rattle.records.proofs.RuleLaws.{fine-sound, named}
 use Rattle.records.proofs.SoundLaws.{sound-sheet, sound-type}
@@ -85,13 +85,13 @@ five-in n l r h =
     let k : 5 ≤ length (drop n l) = omega (arith, length-drop n l) in
     sym (ap (take 5) (drop-append-le n l r (omega arith)) ∙ take-append-le 5 (drop n l) r k)
 
-five-of : (vo e w : List ℕ) → digits 5 vo ≡ true → take 5 ((vo ++ e) ++ w) ≡ vo
-unfolding digits
+five-of : (vo e w : List ℕ) → isDigits 5 vo ≡ true → take 5 ((vo ++ e) ++ w) ≡ vo
+unfolding isDigits
 five-of vo e w d =
     let n : length vo ≡ 5 = eqb-true (length vo) 5 (left (eqb (length vo) 5) _ d) in
     take-append-le 5 (vo ++ e) w (omega (arith, length-append vo e)) ∙ take-at vo e 5 n
 
-digits-back : (s : Bool) (vo w : List ℕ) → digits 5 vo ≡ true → codeDigits s (code s vo ++ w) ≡ vo
+digits-back : (s : Bool) (vo w : List ℕ) → isDigits 5 vo ≡ true → codeDigits s (code s vo ++ w) ≡ vo
 digits-back true vo w d = five-of vo (bytes ")'") w d
 digits-back false vo w d = five-of vo (bytes ")") w d
 
@@ -122,7 +122,7 @@ mark-and-code In72 false = refl
 mark-and-code BehindRpp true = refl
 mark-and-code BehindRpp false = refl
 
-code-text-back : (p : DetailsField) (s : Bool) (vo w : List ℕ) → digits 5 vo ≡ true → Laid p (codeSize s) (code s vo ++ w)
+code-text-back : (p : DetailsField) (s : Bool) (vo w : List ℕ) → isDigits 5 vo ≡ true → Laid p (codeSize s) (code s vo ++ w)
     → detailsParts s (markOf p) (nextOf p) (linesFor p (codeSize s) (code s vo ++ w)) ≡ vo ∷ textOf (reading s w) ∷ []
 unfolding speech.detailsSpeech
 code-text-back p s vo w d h =
@@ -137,7 +137,7 @@ code-text-back p s vo w d h =
     ∙ ap₂ (λ (v t : List ℕ). v ∷ textOf (reading s t) ∷ []) number text
 
 -- with the text that is written
-spelt-back : (p : DetailsField) (s : Bool) (vo t : List ℕ) → digits 5 vo ≡ true → all (speaks s) (copy vo ∷ name t ∷ []) ≡ true
+spelt-back : (p : DetailsField) (s : Bool) (vo t : List ℕ) → isDigits 5 vo ≡ true → all (speaks s) (copy vo ∷ name t ∷ []) ≡ true
     → isUnfit (sizeFor p (codeSize s) (codeAndText s (vo ∷ t ∷ []))) ≡ false
     → detailsParts s (markOf p) (nextOf p) (linesFor p (codeSize s) (codeAndText s (vo ∷ t ∷ []))) ≡ vo ∷ t ∷ []
 spelt-back p s vo t d a u =
@@ -145,7 +145,7 @@ spelt-back p s vo t d a u =
     ∙ ap (λ (k : List ℕ). vo ∷ k ∷ []) (text-back s t (left (speaks s (name t)) _ (right (speaks s (copy vo)) _ a)))
 
 -- 72 of a 202: with and without an RPP line
-note-back : (s : Bool) (r vo t : List ℕ) → digits 5 vo ≡ true → all (speaks s) (copy vo ∷ name t ∷ []) ≡ true
+note-back : (s : Bool) (r vo t : List ℕ) → isDigits 5 vo ≡ true → all (speaks s) (copy vo ∷ name t ∷ []) ≡ true
     → isUnfit (sizeFor (noteField r) (codeSize s) (codeAndText s (vo ∷ t ∷ []))) ≡ false → noteParts s (noteLines s (r ∷ vo ∷ t ∷ [])) ≡ r ∷ vo ∷ t ∷ []
 unfolding same
 note-back s [] vo t d a u =
@@ -179,8 +179,8 @@ gather-back form s (field t ps ∷ rs) w =
 abbrev threeDigits : ℕ → List ℕ
 threeDigits n = (48 + n / 100 % 10) ∷ (48 + n / 10 % 10) ∷ (48 + n % 10) ∷ []
 
-digits-number : (p : List ℕ) → digits 3 p ≡ true → threeDigits (number p) ≡ p
-unfolding digits
+digits-number : (p : List ℕ) → isDigits 3 p ≡ true → threeDigits (number p) ≡ p
+unfolding isDigits
 digits-number [] d = absurd (false≢true d)
 digits-number (a ∷ []) d = absurd (false≢true d)
 digits-number (a ∷ b ∷ []) d = absurd (false≢true d)
@@ -200,7 +200,7 @@ digits-number (a ∷ b ∷ c ∷ []) d =
     ap (λ (k : ℕ). k ∷ (48 + n / 10 % 10) ∷ (48 + n % 10) ∷ []) u ∙ ap₂ (λ (k j : ℕ). a ∷ k ∷ j ∷ []) v w
 
 -- a type that is one of the two is named as it was
-named-back : (p : List ℕ) → digits 3 p ≡ true → rule18 (formOf (number p)) ≡ Fine → typeName (formOf (number p)) ≡ p
+named-back : (p : List ℕ) → isDigits 3 p ≡ true → rule18 (formOf (number p)) ≡ Fine → typeName (formOf (number p)) ≡ p
 unfolding rule18
 named-back p d e = go (eqb (number p) 103) (eqb (number p) 202) refl refl e
   where

@@ -16,7 +16,7 @@ use Rattle.contents.specs.Fields.{IsRpp, Right, RppAndDetails}
 use Rattle.roles.specs.Role.{copy, name, shapeFor}
 use Rattle.roles.specs.Speech.{codeSize}
 use Rattle.roles.specs.declared.Shape.the-variants.{Details, Note202}
-use Rattle.records.specs.Rule19.{digits}
+use Rattle.records.specs.Rule19.{isDigits}
 use Rattle.records.specs.Sentences as sentences
 use Rattle.details.specs.Layouts.{linesFor, sizeFor}
 use Rattle.details.specs.declared.DetailsField.{DetailsField}
@@ -34,7 +34,7 @@ use Rattle.trips.proofs.DetailLaws.{IsIn, rpp-line, rpp-alone, divided-
 
 module _ (s : Bool) where
   -- ---- details that fit
-  laid-pass : (p : DetailsField) (vo text : List ℕ) → digits 5 vo ≡ true → empty text ≡ false → isUnfit (sizeFor p (codeSize s) (code s vo ++ text)) ≡ false
+  laid-pass : (p : DetailsField) (vo text : List ℕ) → isDigits 5 vo ≡ true → empty text ≡ false → isUnfit (sizeFor p (codeSize s) (code s vo ++ text)) ≡ false
       → IsIn p s (linesFor p (codeSize s) (code s vo ++ text))
   unfolding linesFor
   laid-pass p vo text d e u = go (sizeFor p (codeSize s) (code s vo ++ text)) refl u
@@ -46,7 +46,7 @@ module _ (s : Bool) where
       go Unfit f u = absurd (true≢false u)
 
   -- their text as it is written: it has a byte, as the desk text has one
-  text-pass : (p : DetailsField) (vo t : List ℕ) → digits 5 vo ≡ true → empty t ≡ false → all (speaks s) (copy vo ∷ name t ∷ []) ≡ true
+  text-pass : (p : DetailsField) (vo t : List ℕ) → isDigits 5 vo ≡ true → empty t ≡ false → all (speaks s) (copy vo ∷ name t ∷ []) ≡ true
       → isUnfit (sizeFor p (codeSize s) (codeAndText s (vo ∷ t ∷ []))) ≡ false → IsIn p s (linesFor p (codeSize s) (codeAndText s (vo ∷ t ∷ [])))
   text-pass p vo t d e a u =
       let k : speaks s (name t) ≡ true = left (speaks s (name t)) _ (right (speaks s (copy vo)) _ a) in

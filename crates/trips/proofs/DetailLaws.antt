@@ -24,7 +24,7 @@ use Rattle.contents.specs.Lines.{opening, closing}
 use Rattle.contents.specs.Fields as fields
 use Rattle.contents.specs.Fields.{One, IsRpp, Details, RppAndDetails}
 use Rattle.roles.specs.Speech.{codeSize}
-use Rattle.records.specs.Rule19.{digits}
+use Rattle.records.specs.Rule19.{isDigits}
 use Rattle.details.specs.Lines.{together, Later, none, line, Division, lines}
 use Rattle.details.specs.Breaking.{opens}
 use Rattle.details.specs.Layouts.{layout, marked}
@@ -66,7 +66,7 @@ pub record DetailsOver (p : DetailsField) (s : Bool) (ls : List (List ℕ)) : Ty
   pub text : List ℕ
   pub texts : List (List ℕ)
   pub is : ls ≡ marked (layout p) ((code s vo ++ text) ∷ texts)
-  pub five : digits 5 vo ≡ true
+  pub five : isDigits 5 vo ≡ true
   pub short : length (layout p .mark ++ (code s vo ++ text)) ≤ 35
   pub later : Later (opens (layout p .barred)) (tail (layout p .widths)) texts
   pub some : empty (text ++ together texts) ≡ false
@@ -110,7 +110,7 @@ module _ {p : DetailsField} {first later : String} {room rest more : ℕ} (a : A
   lines-as vo t ts = rw (a .mark, a .next, code-on s vo t)
 
   details-by : {vo t : List ℕ} {ts ls : List (List ℕ)} → Details first later room rest (suc more) s vo t ts ls → all goesOn (tail ls) ≡ true → DetailsOver p s ls
-  unfolding digits
+  unfolding isDigits
   details-by {vo} {t} {ts} {ls} d g =
       let e : ls ≡ marked (layout p) ((code s vo ++ t) ∷ ts) = d .lines ∙ lines-as vo t ts in
       let n = length-map ts (λ (k : List ℕ). layout p .next ++ k) in
@@ -127,9 +127,9 @@ module _ {p : DetailsField} {first later : String} {room rest more : ℕ} (a : A
       }
 
   -- the code stands whole in the first line, so behind it stands the text
-  pass-by : (vo text : List ℕ) {least : ℕ} {ws : List ℕ} {ls : List (List ℕ)} → digits 5 vo ≡ true → length (code s vo) ≡ least → empty text ≡ false → ws ≡ layout p .widths
+  pass-by : (vo text : List ℕ) {least : ℕ} {ws : List ℕ} {ls : List (List ℕ)} → isDigits 5 vo ≡ true → length (code s vo) ≡ least → empty text ≡ false → ws ≡ layout p .widths
       → Division (opens (layout p .barred)) least (code s vo ++ text) ws ls → (vo t : List ℕ) × (ts : List (List ℕ)) × Details first later room rest (suc more) s vo t ts (marked (layout p) ls)
-  unfolding digits
+  unfolding isDigits
   pass-by vo text f z e i (lines {w} {ws} {l} {ls} o c h m j) =
       let n : ℕ = length (code s vo) in
       let k : n ≤ length l = omega arith in
@@ -191,7 +191,7 @@ note-lines s (l ∷ ls) (inr d) g =
     on (l ∷ ls) g = right (goesOn l) _ g
 
 -- ---- details broken into lines are right
-pub divided-pass : (p : DetailsField) (s : Bool) (vo : List ℕ) → digits 5 vo ≡ true → {ws : List ℕ} {ls : List (List ℕ)} (text : List ℕ) → empty text ≡ false → ws ≡ layout p .widths
+pub divided-pass : (p : DetailsField) (s : Bool) (vo : List ℕ) → isDigits 5 vo ≡ true → {ws : List ℕ} {ls : List (List ℕ)} (text : List ℕ) → empty text ≡ false → ws ≡ layout p .widths
     → Division (opens (layout p .barred)) (codeSize s) (code s vo ++ text) ws ls → IsIn p s (marked (layout p) ls)
 divided-pass In70 s vo f text e i d = pass-by as-70 s vo text f (code-size s vo f) e i d
 divided-pass In72 s vo f text e i d = pass-by as-72 s vo text f (code-size s vo f) e i d

@@ -18,7 +18,7 @@ use Rattle.base.proofs.Bools.{left, right, both, all-append, all-behind}
 use Rattle.alphabets.specs.Bank.{plainly, reading}
 use Rattle.alphabets.specs.Best.{writing}
 use Rattle.alphabets.proofs.Theorems.{plain-only, no-shorter}
-use Rattle.fields.specs.Field.{field, lined, laid}
+use Rattle.fields.specs.Field.{field, lined, withCrLf}
 use Rattle.contents.specs.declared.Content.{Content}
 use Rattle.contents.specs.declared.Content.the-variants as holds
 use Rattle.contents.specs.Fields.{Right}
@@ -32,7 +32,7 @@ use Rattle.roles.specs.Sentences.{Heard}
 use Rattle.roles.specs.declared.Shape.{Shape}
 use Rattle.roles.specs.declared.Shape.the-variants.{Details, Note103, Note202}
 use Rattle.records.specs.Record.{plainText, line}
-use Rattle.records.specs.Rule19.{digits, detailed, sound}
+use Rattle.records.specs.Rule19.{isDigits, detailed, sound}
 use Rattle.details.specs.Lines.{together, lines}
 use Rattle.details.specs.Layouts.{layout, DivisionIn, marked, sizeFor}
 use Rattle.details.specs.declared.DetailsField.{DetailsField}
@@ -57,23 +57,23 @@ code-least : (s : Bool) → 9 ≤ codeSize s
 code-least true = omega arith
 code-least false = omega arith
 
-vo-five : (vo : List ℕ) → digits 5 vo ≡ true → length vo ≡ 5
-unfolding digits
+vo-five : (vo : List ℕ) → isDigits 5 vo ≡ true → length vo ≡ 5
+unfolding isDigits
 vo-five vo d = eqb-true (length vo) 5 (left (eqb (length vo) 5) _ d)
 
-vo-set : (vo : List ℕ) → digits 5 vo ≡ true → all xset vo ≡ true
-unfolding digits
+vo-set : (vo : List ℕ) → isDigits 5 vo ≡ true → all xset vo ≡ true
+unfolding isDigits
 vo-set vo d = digits-set vo (right (eqb (length vo) 5) _ d)
 
-pub code-digits : (s : Bool) (vo w : List ℕ) → digits 5 vo ≡ true → codeDigits s (code s vo ++ w) ≡ vo
+pub code-digits : (s : Bool) (vo w : List ℕ) → isDigits 5 vo ≡ true → codeDigits s (code s vo ++ w) ≡ vo
 code-digits true vo w d = ap (take 5) (append-assoc vo (bytes ")'") w) ∙ take-at vo (bytes ")'" ++ w) 5 (vo-five vo d)
 code-digits false vo w d = ap (take 5) (append-assoc vo (bytes ")") w) ∙ take-at vo (bytes ")" ++ w) 5 (vo-five vo d)
 
 -- later lines: their texts, how long they are, and that their bytes are of the x set
-marks-long : (m : List ℕ) (ls : List (List ℕ)) → length (together ls) ≤ length (laid (map (λ (k : List ℕ). m ++ k) ls))
+marks-long : (m : List ℕ) (ls : List (List ℕ)) → length (together ls) ≤ length (withCrLf (map (λ (k : List ℕ). m ++ k) ls))
 marks-long m [] = omega arith
 marks-long m (l ∷ ls) =
-    omega (arith, marks-long m ls, length-append l (together ls), length-append m l, length-append (m ++ l) (13 ∷ 10 ∷ laid (map (λ (k : List ℕ). m ++ k) ls)))
+    omega (arith, marks-long m ls, length-append l (together ls), length-append m l, length-append (m ++ l) (13 ∷ 10 ∷ withCrLf (map (λ (k : List ℕ). m ++ k) ls)))
 
 marks-set : (m : List ℕ) (ls : List (List ℕ)) → all (all xset) (map (λ (k : List ℕ). m ++ k) ls) ≡ true → all xset (together ls) ≡ true
 marks-set m [] e = refl
@@ -120,14 +120,14 @@ module _ {p : DetailsField} {s : Bool} {ls : List (List ℕ)} (w : DetailsOver p
       all-append xset (w .text) (together (w .texts)) (all-behind xset (code s (w .vo)) (w .text) (all-behind xset (layout p .mark) (code s (w .vo) ++ w .text) g))
       (marks-set (layout p .next) (w .texts) (right (all xset (layout p .mark ++ (code s (w .vo) ++ w .text))) _ f))
 
-  details-long : markSize p + codeSize s + length whole + 2 ≤ length (laid ls)
+  details-long : markSize p + codeSize s + length whole + 2 ≤ length (withCrLf ls)
   details-long =
       let l : List ℕ = layout p .mark ++ (code s (w .vo) ++ w .text) in
       let ks = map (λ (k : List ℕ). layout p .next ++ k) (w .texts) in
       omega (
         arith,
-        ap (λ (x : List (List ℕ)). length (laid x)) (w .is),
-        length-append l (13 ∷ 10 ∷ laid ks),
+        ap (λ (x : List (List ℕ)). length (withCrLf x)) (w .is),
+        length-append l (13 ∷ 10 ∷ withCrLf ks),
         length-append (layout p .mark) (code s (w .vo) ++ w .text),
         length-append (code s (w .vo)) (w .text),
         code-size s (w .vo) (w .five),
@@ -151,7 +151,7 @@ record Gathered (p : DetailsField) (s : Bool) (ls : List (List ℕ)) (vo d : Lis
   written : all (speaks s) (coded (vo ∷ d ∷ [])) ≡ true
   plain : all plainText (vo ∷ d ∷ []) ≡ true
   five : length vo ≡ 5
-  short : markSize p + codeSize s + length d + 2 ≤ length (laid ls)
+  short : markSize p + codeSize s + length d + 2 ≤ length (withCrLf ls)
 
 gathered : {p : DetailsField} {s : Bool} {ls : List (List ℕ)} (w : DetailsOver p s ls) (h : Means s (whole w)) → Gathered p s ls (w .vo) (h .desk)
 gathered {p} {s} {ls} w h = record {
@@ -217,14 +217,14 @@ note-free [] = refl
 note-free (x ∷ r) = refl
 
 -- ---- the record
-lined-size : (t : List ℕ) (ls : List (List ℕ)) → empty ls ≡ false → length (laid (lined (field t ls))) ≡ length t + 2 + length (laid ls)
+lined-size : (t : List ℕ) (ls : List (List ℕ)) → empty ls ≡ false → length (withCrLf (lined (field t ls))) ≡ length t + 2 + length (withCrLf ls)
 lined-size t [] e = absurd (true≢false e)
 lined-size t (l ∷ ls) e =
-    omega (arith, length-append (58 ∷ t ++ 58 ∷ l) (13 ∷ 10 ∷ laid ls), length-append t (58 ∷ l), length-append l (13 ∷ 10 ∷ laid ls))
+    omega (arith, length-append (58 ∷ t ++ 58 ∷ l) (13 ∷ 10 ∷ withCrLf ls), length-append t (58 ∷ l), length-append l (13 ∷ 10 ∷ withCrLf ls))
 
 -- from the parts that it comes to
 sheeted-as : (form : Form) (s : Bool) (t : List ℕ) (ls : List (List ℕ)) (sh : Shape) (ps : List (List ℕ)) → shapeOf form t ≡ sh → contentParts s sh ls ≡ ps → Shows s sh ls ps → empty ls ≡ false
-    → sound s sh ps ≡ true → all (speaks s) (castParts sh ps) ≡ true → all plainText ps ≡ true → length (line (field t ps)) ≤ length t + 1 + length (laid ls) → (crowded s sh ps ≡ true → (s ≡ true) × (sh ≡ Details))
+    → sound s sh ps ≡ true → all (speaks s) (castParts sh ps) ≡ true → all plainText ps ≡ true → length (line (field t ps)) ≤ length t + 1 + length (withCrLf ls) → (crowded s sh ps ≡ true → (s ≡ true) × (sh ≡ Details))
     → Sheeted form s t ls
 sheeted-as form s t ls sh ps e f y z a b c d g = record {
   shows = rw (e, f) y;
@@ -244,7 +244,7 @@ module _ (form : Form) (s : Bool) (t : List ℕ) (ls : List (List ℕ)) (h : Hel
   sheeted-70 e w =
       let y : Means s (whole w) = details-says s w 0 (h .fair .inside) (heard-as e) in
       let g = gathered w y in
-      let n : length (line (field t (w .vo ∷ y .desk ∷ []))) ≤ length t + 1 + length (laid ls) =
+      let n : length (line (field t (w .vo ∷ y .desk ∷ []))) ≤ length t + 1 + length (withCrLf ls) =
       omega (arith, length-append t (9 ∷ (w .vo ++ 9 ∷ (y .desk ++ []))), length-append (w .vo) (9 ∷ (y .desk ++ [])), length-append (y .desk) [], g .five, g .short, code-least s) in
       sheeted-as form s t ls Details (w .vo ∷ y .desk ∷ []) e (g .parts) (shown.details (shown-details w y)) (h .fair .some) (g .right-parts) (g .written) (g .plain) n (λ q. (unfit-signed s w y q, refl))
 
@@ -252,17 +252,17 @@ module _ (form : Form) (s : Bool) (t : List ℕ) (ls : List (List ℕ)) (h : Hel
   unfolding contentParts sound crowded cast
   sheeted-103 e r i z =
       let x : all xset r ≡ true = all-behind xset (bytes "/RPP/") r (left (all xset (rppLine r)) true (rw i at (h .fair .inside))) in
-      let n : length (line (field t (r ∷ []))) ≤ length t + 1 + length (laid ls) =
-      omega (arith, ap (λ (k : List (List ℕ)). length (laid k)) i, length-append t (9 ∷ (r ++ [])), length-append r [], length-append (rppLine r) (13 ∷ 10 ∷ [])) in
+      let n : length (line (field t (r ∷ []))) ≤ length t + 1 + length (withCrLf ls) =
+      omega (arith, ap (λ (k : List (List ℕ)). length (withCrLf k)) i, length-append t (9 ∷ (r ++ [])), length-append r [], length-append (rppLine r) (13 ∷ 10 ∷ [])) in
       sheeted-as form s t ls Note103 (r ∷ []) e (ap (map (drop 5)) i) (subst (λ (k : List (List ℕ)). Shows s Note103 k (r ∷ [])) (sym i) shown.note103) (h .fair .some) (ap not z) (both (plain-said r x) refl) (both (set-text r x) refl) n (λ q. absurd (false≢true q))
 
   -- r is what follows /RPP/, or nothing
   note-by : shapeOf form t ≡ Note202 → (r : List ℕ) (ks : List (List ℕ)) (w : DetailsOver (noteField r) s ks) (y : Means s (whole w)) → Shows s Note202 ls (r ∷ w .vo ∷ y .desk ∷ [])
-      → noteParts s ls ≡ r ∷ detailsParts s (markSize (noteField r)) (nextSize (noteField r)) ks → all xset r ≡ true → length r + length (laid ks) ≤ length (laid ls) → Sheeted form s t ls
+      → noteParts s ls ≡ r ∷ detailsParts s (markSize (noteField r)) (nextSize (noteField r)) ks → all xset r ≡ true → length r + length (withCrLf ks) ≤ length (withCrLf ls) → Sheeted form s t ls
   unfolding contentParts sound crowded
   note-by e r ks w y v i x k =
       let g = gathered w y in
-      let n : length (line (field t (r ∷ w .vo ∷ y .desk ∷ []))) ≤ length t + 1 + length (laid ls) =
+      let n : length (line (field t (r ∷ w .vo ∷ y .desk ∷ []))) ≤ length t + 1 + length (withCrLf ls) =
       omega (
         arith,
         length-append t (9 ∷ (r ++ 9 ∷ (w .vo ++ 9 ∷ (y .desk ++ [])))),
@@ -287,11 +287,11 @@ module _ (form : Form) (s : Bool) (t : List ℕ) (ls : List (List ℕ)) (h : Hel
       let o : ℕ = 0 + length (rppLine r) + 2 in
       let f : all (all xset) (rppLine r ∷ ks) ≡ true = rw j at (h .fair .inside) in
       let y : Means s (whole w) = details-says s w o (right (all xset (rppLine r)) _ f) (λ q. subst Heard (ap (speech.noteSpeeches true 0) j) (heard-as e q)) in
-      let k : length r + length (laid ks) ≤ length (laid ls) = omega (arith, ap (λ (x : List (List ℕ)). length (laid x)) j, length-append (rppLine r) (13 ∷ 10 ∷ laid ks)) in
+      let k : length r + length (withCrLf ks) ≤ length (withCrLf ls) = omega (arith, ap (λ (x : List (List ℕ)). length (withCrLf x)) j, length-append (rppLine r) (13 ∷ 10 ∷ withCrLf ks)) in
       by r z (ap (noteParts s) j) (all-behind xset (bytes "/RPP/") r (left (all xset (rppLine r)) _ f)) k w y
       (subst (λ (x : List (List ℕ)). Shows s Note202 x (r ∷ w .vo ∷ y .desk ∷ [])) (sym j) (shown.behindRpp z (shown-details w y)))
     where
-      by : (r : List ℕ) {ks : List (List ℕ)} → empty r ≡ false → noteParts s ls ≡ r ∷ detailsParts s 5 2 ks → all xset r ≡ true → length r + length (laid ks) ≤ length (laid ls)
+      by : (r : List ℕ) {ks : List (List ℕ)} → empty r ≡ false → noteParts s ls ≡ r ∷ detailsParts s 5 2 ks → all xset r ≡ true → length r + length (withCrLf ks) ≤ length (withCrLf ls)
           → (w : DetailsOver BehindRpp s ks) (y : Means s (whole w)) → Shows s Note202 ls (r ∷ w .vo ∷ y .desk ∷ []) → Sheeted form s t ls
       by [] z i x k w y v = absurd (true≢false z)
       by (c ∷ r) {ks} z i x k w y v = note-by e (c ∷ r) ks w y v i x k

@@ -48,7 +48,7 @@ use Rattle.alphabets.specs.Bank.{after, reads, plainly, reading}
 use Rattle.alphabets.specs.Best.{latinNext, best, bad, writes}
 use Rattle.alphabets.proofs.Back.{reads-best}
 use Rattle.records.specs.Record.{Record, sheet, pieces, recordOf, records, rest, begun}
-use Rattle.records.specs.Rule19.{digits, general, untaxed, sound, badFrom, judge, sheetSign, sheetForm, rule19}
+use Rattle.records.specs.Rule19.{isDigits, general, untaxed, sound, badFrom, judge, sheetSign, sheetForm, rule19}
 use Rattle.details.specs.Breaking.{opens, last, broken}
 use Rattle.details.specs.Breaking as breaking
 use Rattle.details.specs.Layouts.{linesFor, sizeFor}
@@ -102,7 +102,7 @@ all-read = (refl, refl, refl)
 
 all-written : Written Mt103 (desk sheet103) (bytes sample) × Written Mt202 (desk plainSheet) (bytes plain202) × Written Mt202 (desk signedSheet) (bytes signed202)
     × Written Mt103 (desk otherwiseSheet) (bytes best103)
-unfolding same tags103 shapeOf heldBy cast grid marks isIn digit capital letter shared long places103 places202 rule18 shaped signOf tests.looksTax isInn xset plainly kind latinNext best bad writes pieces recordOf records rest begun digits general untaxed sound badFrom judge sheetSign sheetForm rule19 opens last broken breaking.breaks sizeFor unsaid rule15 crowded rule16 tags202 linesFor contentLines spread fieldsOf messageFor message
+unfolding same tags103 shapeOf heldBy cast grid marks isIn digit capital letter shared long places103 places202 rule18 shaped signOf tests.looksTax isInn xset plainly kind latinNext best bad writes pieces recordOf records rest begun isDigits general untaxed sound badFrom judge sheetSign sheetForm rule19 opens last broken breaking.breaks sizeFor unsaid rule15 crowded rule16 tags202 linesFor contentLines spread fieldsOf messageFor message
 all-written = ((refl, refl, refl), (refl, refl, refl), (refl, refl, refl), (refl, refl, refl))
 
 short-by-one : short (desk sheet103) (replicate 166 0) ≡ Broken 17 167
@@ -257,7 +257,7 @@ idle-sheet =
     (gather-around Mt103 true fore (field (bytes "70") (dashed ∷ bytes "''--" ∷ [])) aft _ idle-record)
 
 idle-crowded : first (sheetRules (sheet (typeRecord Mt103 ∷ its-records))) ≡ Broken 16 0
-unfolding contentParts gather same tags103 shapeOf heldBy cast reads signs.sign grid marks isIn digit capital letter shared long places103 places202 rule18 shaped signOf tests.looksTax isInn xset plainly kind latinNext best bad writes pieces recordOf records rest begun digits general untaxed sound badFrom judge sheetSign sheetForm rule19 opens last broken breaking.breaks sizeFor unsaid rule15 crowded rule16
+unfolding contentParts gather same tags103 shapeOf heldBy cast reads signs.sign grid marks isIn digit capital letter shared long places103 places202 rule18 shaped signOf tests.looksTax isInn xset plainly kind latinNext best bad writes pieces recordOf records rest begun isDigits general untaxed sound badFrom judge sheetSign sheetForm rule19 opens last broken breaking.breaks sizeFor unsaid rule15 crowded rule16
 idle-crowded = refl
 
 pub stopped : AllHold Holds stops

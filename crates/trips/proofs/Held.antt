@@ -10,7 +10,7 @@ use Rattle.base.specs.Choice.{all}
 use Rattle.base.specs.Bytes.{begins, empty}
 use Rattle.base.specs.Calls.{said, textOf}
 use Rattle.alphabets.specs.Bank.{reading}
-use Rattle.fields.specs.Field.{Field, field, lined, laid}
+use Rattle.fields.specs.Field.{Field, field, lined, withCrLf}
 use Rattle.fields.specs.Shapes.{shaped}
 use Rattle.contents.specs.Rule8.{rightField}
 use Rattle.contents.specs.Tests.{looksTax}
@@ -71,7 +71,7 @@ pub record Sheeted (form : Form) (s : Bool) (t : List ℕ) (ls : List (List ℕ)
   pub is-sound : sound s (shapeOf form t) (contentParts s (shapeOf form t) ls) ≡ true
   pub says : all (speaks s) (castParts (shapeOf form t) (contentParts s (shapeOf form t) ls)) ≡ true
   pub textual : all plainText (contentParts s (shapeOf form t) ls) ≡ true
-  pub no-longer : length (line (field t (contentParts s (shapeOf form t) ls))) + 1 ≤ length (laid (lined (field t ls)))
+  pub no-longer : length (line (field t (contentParts s (shapeOf form t) ls))) + 1 ≤ length (withCrLf (lined (field t ls)))
   pub fits : crowded s (shapeOf form t) (contentParts s (shapeOf form t) ls) ≡ true → (s ≡ true) × (shapeOf form t ≡ Details)
 
 abbrev pub SheetedField : Form → Bool → Field → Type 0

@@ -14,7 +14,7 @@ use Rattle.base.specs.Quoted.{bytes}
 use Rattle.base.proofs.Bools.{left, right, both, isnt}
 use Rattle.base.specs.Examples.{AllHold}
 use Rattle.alphabets.proofs.Theorems.{plain-iff, no-shorter}
-use Rattle.fields.specs.Field.{field, lined, laid}
+use Rattle.fields.specs.Field.{field, lined, withCrLf}
 use Rattle.fields.specs.Shapes.{goesOn}
 use Rattle.types.specs.declared.Form.{Form}
 use Rattle.types.specs.Sign.{firstLine}
@@ -261,10 +261,10 @@ module _ (s : Bool) where
   part-size (name l) w = w .slim
   part-size (taxName l) w = w .as-name .slim
 
-  parts-size : (xs : List Part) → AllHold (ClearPart s) xs → length (tabbed (map (partFor s) xs)) ≤ length (laid (map lineOf xs))
+  parts-size : (xs : List Part) → AllHold (ClearPart s) xs → length (tabbed (map (partFor s) xs)) ≤ length (withCrLf (map lineOf xs))
   parts-size [] w = omega arith
   parts-size (x ∷ xs) w =
-      omega (arith, part-size x (w .0), parts-size xs (w .1), length-append (partFor s x) (tabbed (map (partFor s) xs)), length-append (lineOf x) (13 ∷ 10 ∷ laid (map lineOf xs)))
+      omega (arith, part-size x (w .0), parts-size xs (w .1), length-append (partFor s x) (tabbed (map (partFor s) xs)), length-append (lineOf x) (13 ∷ 10 ∷ withCrLf (map lineOf xs)))
 
   -- S5: what is read in the tax place
   placed-inn : (b : Bool) (l : List ℕ) → looksTax l ≡ b → s ≡ true → ClearPart s (pick b (copy l) (taxName l)) → isInn (partFor s (pick b (copy l) (taxName l))) ≡ false
@@ -316,10 +316,10 @@ module _ (s : Bool) where
   not-crowded _ ps agent = refl
 
 -- a tab for CR LF, and the tag with a tab for the tag between colons
-record-size : (t : List ℕ) (ls ps : List (List ℕ)) → empty ls ≡ false → length (tabbed ps) ≤ length (laid ls) → length (line (field t ps)) + 1 ≤ length (laid (lined (field t ls)))
+record-size : (t : List ℕ) (ls ps : List (List ℕ)) → empty ls ≡ false → length (tabbed ps) ≤ length (withCrLf ls) → length (line (field t ps)) + 1 ≤ length (withCrLf (lined (field t ls)))
 record-size t [] ps e h = absurd (true≢false e)
 record-size t (l ∷ ls) ps e h =
-    omega (arith, length-append t (tabbed ps), length-append l (13 ∷ 10 ∷ laid ls), length-append (58 ∷ t ++ 58 ∷ l) (13 ∷ 10 ∷ laid ls), length-append t (58 ∷ l))
+    omega (arith, length-append t (tabbed ps), length-append l (13 ∷ 10 ∷ withCrLf ls), length-append (58 ∷ t ++ 58 ∷ l) (13 ∷ 10 ∷ withCrLf ls), length-append t (58 ∷ l))
 
 pub sheeted-names : (form : Form) (s : Bool) (t : List ℕ) (ls : List (List ℕ)) → LineByLine (shapeOf form t) → Held form s t ls → Sheeted form s t ls
 sheeted-names form s t ls v h =
@@ -329,7 +329,7 @@ sheeted-names form s t ls v h =
     let i : ps ≡ map (partFor s) xs = parts-are s sh ls v in
     let w : AllHold (ClearPart s) xs = held-clear form s t ls v h in
     let is : castParts sh ps ≡ map (turned (readAs s)) xs = cast-parts sh ps v ∙ ap (cast sh) i ∙ cast-read s sh ls w in
-    let n : length (tabbed ps) ≤ length (laid ls) = omega (arith, ap (λ (k : List (List ℕ)). length (tabbed k)) i, parts-size s xs w, ap (λ (k : List (List ℕ)). length (laid k)) (same-lines sh ls)) in
+    let n : length (tabbed ps) ≤ length (withCrLf ls) = omega (arith, ap (λ (k : List (List ℕ)). length (tabbed k)) i, parts-size s xs w, ap (λ (k : List (List ℕ)). length (withCrLf k)) (same-lines sh ls)) in
     record {
       shows = subst (Shows s sh ls) (sym i) (shown.each v (parts-shown s xs w));
       is-sound = ap (sound s sh) i ∙ parts-sound s sh ls v (h .fair) (right-nonempty form s t ls (h .right)) w;

@@ -20,7 +20,7 @@ use Rattle.base.proofs.RuleLaws.{fine-broken}
 use Rattle.base.proofs.CallLaws.{not-long, within-limit}
 use Rattle.base.specs.Examples.{AllHold}
 use Rattle.alphabets.specs.Bank.{plainly}
-use Rattle.fields.specs.Field.{Field, field, laid, lined, linesOf, message, closing, fields}
+use Rattle.fields.specs.Field.{Field, field, withCrLf, lined, linesOf, message, closing, fields}
 use Rattle.fields.specs.Frame.{limit, rule1}
 use Rattle.fields.specs.Shapes.{shaped, shapedTag}
 use Rattle.fields.proofs.TagLaws.{shaped-without}
@@ -38,7 +38,7 @@ use Rattle.judge.specs.Message.{verdictOf}
 use Rattle.judge.proofs.RuleLaws.{accepted-rules}
 use Rattle.records.specs.Record.{Record, sheet, pieces, front, final, recordOf, records, rest, begun, plainText, writable}
 use Rattle.records.specs.Places.{sizeOf}
-use Rattle.records.specs.Rule19.{digits, good, typed, formIn, namedForm, sheetForm, sheetSign, rule19}
+use Rattle.records.specs.Rule19.{isDigits, good, typed, formIn, namedForm, sheetForm, sheetSign, rule19}
 use Rattle.records.specs.Sentences.{Sound}
 use Rattle.records.proofs.PieceLaws.{some-piece}
 use Rattle.records.proofs.PlaceLaws.{size-sheet}
@@ -62,7 +62,7 @@ record Typed (form : Form) : Type 0 where
   says : (s : Bool) → speaking form s (typeRecord form) ≡ true
 
 is-typed : (form : Form) → rule18 form ≡ Fine → Typed form
-unfolding rule18 same digits digit shapeOf heldBy tags103 tags202 cast plainly xset letter capital shared
+unfolding rule18 same isDigits digit shapeOf heldBy tags103 tags202 cast plainly xset letter capital shared
 is-typed Mt103 e = record { names = refl; worth = refl; textual = refl; says = λ s. refl }
 is-typed Mt202 e = record { names = refl; worth = refl; textual = refl; says = λ s. refl }
 is-typed Other e = absurd (fine-broken 18 0 (sym e))
@@ -109,22 +109,22 @@ sign-end [] = refl
 sign-end (field t ps ∷ rs) = ap (pick (same t (bytes "20")) (begins 43 (firstLine ps))) (sign-end rs)
 
 -- ---- how many bytes
-laid-both : (ks ls : List (List ℕ)) → length (laid (ks ++ ls)) ≡ length (laid ks) + length (laid ls)
-laid-both [] ls = omega arith
-laid-both (k ∷ ks) ls =
-    let n = laid-both ks ls in
-    omega (arith, length-append k (13 ∷ 10 ∷ laid (ks ++ ls)), length-append k (13 ∷ 10 ∷ laid ks), n)
+crlf-both : (ks ls : List (List ℕ)) → length (withCrLf (ks ++ ls)) ≡ length (withCrLf ks) + length (withCrLf ls)
+crlf-both [] ls = omega arith
+crlf-both (k ∷ ks) ls =
+    let n = crlf-both ks ls in
+    omega (arith, length-append k (13 ∷ 10 ∷ withCrLf (ks ++ ls)), length-append k (13 ∷ 10 ∷ withCrLf ks), n)
 
-message-size : (fs : List Field) → length (message fs) ≡ length (laid (linesOf fs)) + 7
+message-size : (fs : List Field) → length (message fs) ≡ length (withCrLf (linesOf fs)) + 7
 unfolding message
-message-size fs = omega (arith, length-append (laid (linesOf fs)) closing)
+message-size fs = omega (arith, length-append (withCrLf (linesOf fs)) closing)
 
-records-size : (form : Form) (s : Bool) (fs : List Field) → AllHold (SheetedField form s) fs → sizeOf (map (recordFor form s) fs) ≤ length (laid (linesOf fs))
+records-size : (form : Form) (s : Bool) (fs : List Field) → AllHold (SheetedField form s) fs → sizeOf (map (recordFor form s) fs) ≤ length (withCrLf (linesOf fs))
 records-size form s [] w = omega arith
 records-size form s (field t ls ∷ fs) w =
     let n = records-size form s fs (w .1) in
     let m = w .0 .no-longer in
-    omega (arith, n, m, laid-both (lined (field t ls)) (linesOf fs))
+    omega (arith, n, m, crlf-both (lined (field t ls)) (linesOf fs))
 
 -- ---- records of fields that have theirs
 tag-plain : (t : List ℕ) → shaped t ≡ true → plainText t ≡ true

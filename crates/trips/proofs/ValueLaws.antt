@@ -25,7 +25,7 @@ use Rattle.contents.specs.Tests.{looksTax}
 use Rattle.contents.specs.Parts.{taxInn, taxKpp}
 use Rattle.contents.proofs.RuleLaws.{field-says}
 use Rattle.values.specs.Values.{Kind, tag, tax, Value, at, placeOf, kindOf, moved, rppDates, ofFirst, taxes, customerTaxes, payerTaxes, noteDates, valuesOf, valuesIn}
-use Rattle.values.specs.Judged.{firstBad, has, noDay, foreign, apart, kppIn, is26T, is56, is57, is77B, without57, taxWhole, taxBroken, rule9, rule10, rule11, rule12, rule13}
+use Rattle.values.specs.Judged.{firstBad, has, noDay, foreign, bikDiffers, kppIn, is26T, is56, is57, is77B, without57, taxWhole, taxBroken, rule9, rule10, rule11, rule12, rule13}
 use Rattle.roles.specs.Role.{shapeFor, shapeOf, copy, name, taxName, taxed, cast}
 use Rattle.roles.specs.Speech.{codeSize}
 use Rattle.roles.specs.declared.Shape.{Shape}
@@ -295,7 +295,7 @@ module _ (form : Form) (gs fs : List Field) (e : map kindOf (valuesIn form 5 gs)
 
   pub rule12-again : rule12 form fs ≡ Fine → rule12 form gs ≡ Fine
   unfolding rule12
-  rule12-again f = fine-same 12 apart apart (valuesIn form 5 gs) (valuesIn form 5 fs) e (λ k. refl) f
+  rule12-again f = fine-same 12 bikDiffers bikDiffers (valuesIn form 5 gs) (valuesIn form 5 fs) e (λ k. refl) f
 
   whole-same : taxWhole (valuesIn form 5 gs) ≡ taxWhole (valuesIn form 5 fs)
   whole-same =

@@ -12,10 +12,10 @@ use Rattle.base.specs.declared.Verdict.the-variants.{Fine, Broken}
 use Rattle.base.proofs.Bools.{both}
 use Rattle.base.proofs.RuleLaws.{fine-broken}
 use Rattle.base.proofs.CallLaws.{not-long}
-use Rattle.fields.specs.Field.{Field, field, tagOf, closing, laid, lined, linesOf, message, fields}
+use Rattle.fields.specs.Field.{Field, field, tagOf, closing, withCrLf, lined, linesOf, message, fields}
 use Rattle.fields.specs.Frame.{limit, rule1}
 use Rattle.fields.specs.Places.{sizeOf, nextOf}
-use Rattle.fields.proofs.FieldLaws.{laid-size}
+use Rattle.fields.proofs.FieldLaws.{crlf-size}
 use Rattle.fields.proofs.PlaceLaws.{size-append}
 use Rattle.types.specs.declared.Form.{Form}
 use Rattle.types.specs.Form.{Place, placesOf}
@@ -94,7 +94,7 @@ module _ (form : Form) (s : Bool) where
       let g : Field = fieldAgain form s (field t ls) in
       let ks : List (List ℕ) = contentLines s (shapeOf form t) (contentParts s (shapeOf form t) ls) in
       let a = right-short form s t ks (h .0 .tagged) (right-again form s t ls (h .0) (w .0)) in
-      let b = laid-size (lined (field t ks)) in
+      let b = crlf-size (lined (field t ks)) in
       let c = size-append (lined (field t ks)) (linesOf (map (fieldAgain form s) fs)) in
       let d = all-short fs (h .1) (w .1) in
       omega arith
@@ -102,7 +102,7 @@ module _ (form : Form) (s : Bool) where
 -- ---- the length of a message
 message-size : (fs : List Field) → length (message fs) ≡ 7 + sizeOf (linesOf fs)
 unfolding message
-message-size fs = let a = length-append (laid (linesOf fs)) closing in let b = laid-size (linesOf fs) in omega arith
+message-size fs = let a = length-append (withCrLf (linesOf fs)) closing in let b = crlf-size (linesOf fs) in omega arith
 
 -- ---- a sheet whose records are those of an accepted message, and which no rule before 17 refuses
 module _ (form : Form) (m : List ℕ) (e : verdictOf form m ≡ Fine) (s : List ℕ) (c : Clean (sheetRules s)) (k : sheetForm s ≡ form) (g : sheetSign s ≡ signOf (fields m)) (r : tail (records s) ≡ gather form (signOf (fields m)) (fields m)) where

@@ -13,7 +13,7 @@ use Rattle.roles.specs.Role.{shapeOf, Part, copy, name, taxName, cast}
 use Rattle.roles.specs.declared.Shape.{Shape}
 use Rattle.roles.specs.declared.Shape.the-variants.{Plain, Payer, Payee, Agent, Details, Note103, Note202}
 use Rattle.records.specs.Record.{Record}
-use Rattle.records.specs.Rule19.{digits}
+use Rattle.records.specs.Rule19.{isDigits}
 use Rattle.details.specs.Lines.{together}
 use Rattle.details.specs.Layouts.{layout, marked}
 use Rattle.details.specs.declared.DetailsField.{DetailsField}
@@ -39,7 +39,7 @@ pub record ShownDetails (s : Bool) (into : DetailsField) (ls : List (List ℕ)) 
   pub spelt : List ℕ
   pub rows : List (List ℕ)
   pub marks : ls ≡ marked (layout into) rows
-  pub number : digits 5 vo ≡ true
+  pub number : isDigits 5 vo ≡ true
   pub joined : together rows ≡ code s vo ++ spelt
   pub reads : reading s spelt ≡ said text
 

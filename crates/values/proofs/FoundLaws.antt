@@ -33,7 +33,7 @@ use Rattle.contents.proofs.RightLaws.{customer-is, payer-is, bic-is, name-is}
 use Rattle.values.specs.Day.{realDay}
 use Rattle.values.specs.Values as kinds
 use Rattle.values.specs.Values.{Kind, date, tax, Value, at, payment, rppDates, parties, ofFirst, taxes, customerTaxes, payerTaxes, noteDates, valuesOf}
-use Rattle.values.specs.Judged.{noDay, foreign, apart, hasKpp, has}
+use Rattle.values.specs.Judged.{noDay, foreign, bikDiffers, hasKpp, has}
 use Rattle.values.specs.Answers.{faultOf, Finding, FoundIn, nothing}
 use Rattle.values.specs.Steps.{finds, heldFound, bankFound, LedBy, isNothing, madeOf, OneLine, NoValues}
 use Rattle.values.specs.declared.Finds.{Finds}
@@ -123,11 +123,11 @@ made-found content sign ls {x} {r} e y w =
 module _ (content : Content) (ls : List Line) where
   -- by the content's values, whatever the tag
   finding-of : (vs : Text → List Value) → ((t : Text) → valuesOf t content ls ≡ vs t) → {d c p : ℕ} {k : Bool} → ((t : Text) → d ≡ faultOf noDay (vs t)) → ((t : Text) → c ≡ faultOf foreign (vs t))
-      → ((t : Text) → p ≡ faultOf apart (vs t)) → ((t : Text) → k ≡ has hasKpp (vs t)) → Finding content ls (finds d c p k)
+      → ((t : Text) → p ≡ faultOf bikDiffers (vs t)) → ((t : Text) → k ≡ has hasKpp (vs t)) → Finding content ls (finds d c p k)
   finding-of vs e a b c d = record {
     day-is = λ t. a t ∙ sym (ap (faultOf noDay) (e t));
     currency-is = λ t. b t ∙ sym (ap (faultOf foreign) (e t));
-    party-is = λ t. c t ∙ sym (ap (faultOf apart) (e t));
+    party-is = λ t. c t ∙ sym (ap (faultOf bikDiffers) (e t));
     kpp-is = λ t. d t ∙ sym (ap (has hasKpp) (e t));
   }
 
@@ -143,12 +143,12 @@ module _ (content : Content) (ls : List Line) where
   pub finding-rpp : ((t : Text) → valuesOf t content ls ≡ ofFirst rppDates ls) → {d : ℕ} → d ≡ faultOf noDay (ofFirst rppDates ls) → Finding content ls (finds d 0 0 false)
   finding-rpp e q =
       let vs = ofFirst rppDates ls in
-      finding-of (λ t. vs) e (λ t. q) (λ t. sym (fault-none foreign vs (dates foreign (λ s. refl)))) (λ t. sym (fault-none apart vs (dates apart (λ s. refl)))) (λ t. sym (has-none hasKpp vs (dates hasKpp (λ s. refl))))
+      finding-of (λ t. vs) e (λ t. q) (λ t. sym (fault-none foreign vs (dates foreign (λ s. refl)))) (λ t. sym (fault-none bikDiffers vs (dates bikDiffers (λ s. refl)))) (λ t. sym (has-none hasKpp vs (dates hasKpp (λ s. refl))))
     where
       dates : (u : Kind → Bool) → ((s : Text) → u (date s) ≡ false) → EveryKind (λ k. u k ≡ false) (ofFirst rppDates ls)
       dates u h = every-first (λ k. u k ≡ false) rppDates (every-rpp (λ k. u k ≡ false) h) ls
 
-  finding-party : ((t : Text) → valuesOf t content ls ≡ ofFirst parties ls) → Finding content ls (finds 0 0 (faultOf apart (ofFirst parties ls)) false)
+  finding-party : ((t : Text) → valuesOf t content ls ≡ ofFirst parties ls) → Finding content ls (finds 0 0 (faultOf bikDiffers (ofFirst parties ls)) false)
   finding-party e =
       let vs = ofFirst parties ls in
       finding-of (λ t. vs) e (λ t. sym (fault-none noDay vs (pairs noDay (λ b a. refl)))) (λ t. sym (fault-none foreign vs (pairs foreign (λ b a. refl)))) (λ t. refl) (λ t. sym (has-none hasKpp vs (pairs hasKpp (λ b a. refl))))
@@ -248,7 +248,7 @@ name-led ls (bank.Led p) s = led _ p ls s
 bank-has : (ls : List Line) (b : Bank) → isHas (bankFound ls b) ≡ isBank b
 bank-has ls bank.Wrong = refl
 bank-has ls bank.Alone = refl
-bank-has ls (bank.Led p) = has-made (finds 0 0 (faultOf apart (ofFirst parties ls)) false)
+bank-has ls (bank.Led p) = has-made (finds 0 0 (faultOf bikDiffers (ofFirst parties ls)) false)
 
 bic-good : (ls : List Line) (b : Bank) → BicSaid ls b → Good holds.BankByBic ls (bankFound ls b)
 unfolding valuesOf

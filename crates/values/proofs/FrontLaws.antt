@@ -25,7 +25,7 @@ use Rattle.contents.proofs.LineTests.{way-size}
 use Rattle.values.specs.Day.{realDay}
 use Rattle.values.specs.Values as kinds
 use Rattle.values.specs.Values.{date, at, dateIfAny, rppDates, bothParts, parties, ofFirst}
-use Rattle.values.specs.Judged.{noDay, lastThree, apart}
+use Rattle.values.specs.Judged.{noDay, lastThree, bikDiffers}
 use Rattle.values.specs.Answers.{faultOf}
 use Rattle.values.proofs.GrammarLaws.{rpp-values, bik-values, account-values}
 
@@ -71,7 +71,7 @@ perhaps-size n s (inr d) z = d .size
 
 -- ---- Cparty, N12: by the bytes of the content
 abbrev partyFault : List Line → ℕ
-partyFault ls = faultOf apart (ofFirst parties ls)
+partyFault ls = faultOf bikDiffers (ofFirst parties ls)
 
 pub party-wrong : (ls : List Line) → Then (IsA party.Wrong) Any ls → ⊥
 party-wrong [] w = w
@@ -80,12 +80,12 @@ party-wrong (l ∷ ls) w = w .0
 pub party-account : (ls : List Line) → Then (IsA party.Account) Any ls → partyFault ls ≡ 0
 unfolding faultOf
 party-account [] w = absurd w
-party-account (l ∷ ls) w = ap (faultOf apart) (account-values (w .0))
+party-account (l ∷ ls) w = ap (faultOf bikDiffers) (account-values (w .0))
 
 pub party-bik : (n : ℕ) (ls : List Line) → Then (BikWith n) Any ls → n ≡ 0 → partyFault ls ≡ 0
 unfolding faultOf
 party-bik n [] w e = absurd w
-party-bik n (l ∷ ls) w e = ap (faultOf apart) (bik-values (w .0 .0) ∙ ap (λ (k : ℕ). bothParts (cut 4 9 l) (cut 14 k l)) e)
+party-bik n (l ∷ ls) w e = ap (faultOf bikDiffers) (bik-values (w .0 .0) ∙ ap (λ (k : ℕ). bothParts (cut 4 9 l) (cut 14 k l)) e)
 
 module _ (c : Text) where
   both-by : (n : ℕ) (ls : List Line) → linesIn c ≡ ls → Then (BikWith n) Any ls → Not (n ≡ 0)
@@ -102,7 +102,7 @@ module _ (c : Text) where
       let f : 14 + (n - 3) ≡ 31 = omega arith in
       let b : lastThree (cut 14 n l) ≡ cut 31 3 c = last-cut 14 n l st (omega arith) ∙ ap (λ (i : ℕ). cut i 3 l) f ∙ first-cut c l ls q 31 3 (omega arith) in (
         omega arith,
-        ap (faultOf apart) (bik-values p ∙ both-some (cut 4 9 l) (cut 14 n l) (omega arith)) ∙ ap₂ (λ (x y : Text). pick (not (same x y)) 1 0) a b ∙ sym (swap (same (cut 10 3 c) (cut 31 3 c)) 0 1),
+        ap (faultOf bikDiffers) (bik-values p ∙ both-some (cut 4 9 l) (cut 14 n l) (omega arith)) ∙ ap₂ (λ (x y : Text). pick (not (same x y)) 1 0) a b ∙ sym (swap (same (cut 10 3 c) (cut 31 3 c)) 0 1),
       )
 
   pub party-both : (n : ℕ) → Then (BikWith n) Any (linesIn c) → Not (n ≡ 0) → (34 ≤ length c) × (partyFault (linesIn c) ≡ pick (same (cut 10 3 c) (cut 31 3 c)) 0 1)

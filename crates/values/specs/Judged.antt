@@ -46,12 +46,12 @@ foreign (tax t inn kpp) = false
 abbrev pub lastThree : Text → Text
 lastThree s = drop (length s - 3) s
 
-abbrev pub apart : Kind → Bool
-apart (party bik account) = not (same (lastThree bik) (lastThree account))
-apart (tag t) = false
-apart (date s) = false
-apart (currency c) = false
-apart (tax t inn kpp) = false
+abbrev pub bikDiffers : Kind → Bool
+bikDiffers (party bik account) = not (same (lastThree bik) (lastThree account))
+bikDiffers (tag t) = false
+bikDiffers (date s) = false
+bikDiffers (currency c) = false
+bikDiffers (tax t inn kpp) = false
 
 -- a field with one of these tags
 abbrev pub tagged : List (List ℕ) → Kind → Bool
@@ -118,7 +118,7 @@ unfoldable pub rule11 : Form → List Field → Verdict
 rule11 form fs = firstBad 11 (without57 (valuesIn form 5 fs)) (valuesIn form 5 fs)
 
 unfoldable pub rule12 : Form → List Field → Verdict
-rule12 form fs = firstBad 12 apart (valuesIn form 5 fs)
+rule12 form fs = firstBad 12 bikDiffers (valuesIn form 5 fs)
 
 unfoldable pub rule13 : Form → List Field → Verdict
 rule13 form fs = firstBad 13 (taxBroken (valuesIn form 5 fs)) (valuesIn form 5 fs)

@@ -21,12 +21,12 @@ use Rattle.base.proofs.Room.{over-sets, puts-put, puts-on, puts-by}
 use Rattle.alphabets.specs.Bank.{plainly}
 use Rattle.alphabets.specs.Best.{writing}
 use Rattle.alphabets.proofs.Theorems.{plain-iff}
-use Rattle.fields.specs.Field.{laid}
+use Rattle.fields.specs.Field.{withCrLf}
 use Rattle.fields.specs.ByLines.{joined}
-use Rattle.fields.proofs.PlaceLaws.{laid-joined}
+use Rattle.fields.proofs.PlaceLaws.{crlf-joined}
 use Rattle.roles.specs.Speech.{codeSize}
 use Rattle.records.specs.Found.{piecesAt}
-use Rattle.records.specs.Rule19.{digits, sole, detailed}
+use Rattle.records.specs.Rule19.{isDigits, sole, detailed}
 use Rattle.records.proofs.PieceLaws.{pieces-at, past-end, end-within, piece-length, at-from, last-at, some-piece}
 use Rattle.details.specs.Lines.{together, Later, none, line, Division, lines}
 use Rattle.details.specs.Breaking.{Fit, fits, unfit}
@@ -93,20 +93,20 @@ module _ (p : DetailsField) (least : ℕ) (text : List ℕ) (n : ℕ) (e : size.
   unfolding laidFor
   laid-few = let k : length (layouts.laid (layout p) (fit .ls)) ≡ n = ap (λ (a : Fit (List (List ℕ))). length (layouts.laid (layout p) (linesOf a))) (sym (fit .is)) ∙ sym (fit .long) in omega (arith, field-laid p (fit .division))
 
-  laid-whole : laidFor p least text ++ 13 ∷ 10 ∷ [] ≡ laid (linesFor p least text)
+  laid-whole : laidFor p least text ++ 13 ∷ 10 ∷ [] ≡ withCrLf (linesFor p least text)
   unfolding linesFor
   laid-whole = ap (λ (t : List ℕ). t ++ 13 ∷ 10 ∷ []) (laid-lines p least text) ∙ sym (go (linesOf (divided (layout p) least text)) (ap linesOf (fit .is)))
     where
-      by : {ok : ℕ → Bool} {ws : List ℕ} {ls : List (List ℕ)} → Division ok least text ws ls → laid (layouts.marked (layout p) ls) ≡ joined (layouts.marked (layout p) ls) ++ 13 ∷ 10 ∷ []
-      by (lines {l = l} {ls = ls} a b h m e) = laid-joined (layout p .mark ++ l) (map (λ (k : List ℕ). layout p .next ++ k) ls)
+      by : {ok : ℕ → Bool} {ws : List ℕ} {ls : List (List ℕ)} → Division ok least text ws ls → withCrLf (layouts.marked (layout p) ls) ≡ joined (layouts.marked (layout p) ls) ++ 13 ∷ 10 ∷ []
+      by (lines {l = l} {ls = ls} a b h m e) = crlf-joined (layout p .mark ++ l) (map (λ (k : List ℕ). layout p .next ++ k) ls)
 
-      go : (ls : List (List ℕ)) → ls ≡ fit .ls → laid (layouts.marked (layout p) ls) ≡ joined (layouts.marked (layout p) ls) ++ 13 ∷ 10 ∷ []
-      go ls q = subst (λ (ks : List (List ℕ)). laid (layouts.marked (layout p) ks) ≡ joined (layouts.marked (layout p) ks) ++ 13 ∷ 10 ∷ []) (sym q) (by (fit .division))
+      go : (ls : List (List ℕ)) → ls ≡ fit .ls → withCrLf (layouts.marked (layout p) ls) ≡ joined (layouts.marked (layout p) ls) ++ 13 ∷ 10 ∷ []
+      go ls q = subst (λ (ks : List (List ℕ)). withCrLf (layouts.marked (layout p) ks) ≡ joined (layouts.marked (layout p) ks) ++ 13 ∷ 10 ∷ []) (sym q) (by (fit .division))
 
-  pub lines-few : length (laid (linesFor p least text)) ≤ 250
+  pub lines-few : length (withCrLf (linesFor p least text)) ≤ 250
   lines-few = omega (arith, laid-few, fit .long, ap length laid-whole, length-append (laidFor p least text) (13 ∷ 10 ∷ []))
 
-  pub lines-put : {out mid after : List ℕ} {at r : ℕ} → Lays p least text out at r mid → after ≡ placed mid (at + n) (13 ∷ 10 ∷ []) → Adds Fine (isUnfit (sizeFor p least text)) (laid (linesFor p least text)) out at (Put (at + n + 2)) after
+  pub lines-put : {out mid after : List ℕ} {at r : ℕ} → Lays p least text out at r mid → after ≡ placed mid (at + n) (13 ∷ 10 ∷ []) → Adds Fine (isUnfit (sizeFor p least text)) (withCrLf (linesFor p least text)) out at (Put (at + n + 2)) after
   lines-put {at = at} l f =
       adds-put refl (sym (ap isUnfit e))
       (puts-by laid-whole
@@ -120,7 +120,7 @@ unfit-lines p least text e = go (divided (layout p) least text) e
     go (fits ls) e = absurd (bytes-not e)
     go unfit e = refl
 
-pub lines-unfit : (p : DetailsField) (least : ℕ) (text out : List ℕ) (at : ℕ) → size.Unfit ≡ sizeFor p least text → Adds Fine (isUnfit (sizeFor p least text)) (laid (linesFor p least text)) out at Unfit out
+pub lines-unfit : (p : DetailsField) (least : ℕ) (text out : List ℕ) (at : ℕ) → size.Unfit ≡ sizeFor p least text → Adds Fine (isUnfit (sizeFor p least text)) (withCrLf (linesFor p least text)) out at Unfit out
 lines-unfit p least text out at e = adds-unfit refl (sym (ap isUnfit e))
 
 -- ---- the parts of a record as code finds them
@@ -153,27 +153,27 @@ sole-part l i h g = go (decLt e (length l))
         last-at 9 l i e h refl z ∙ ap (λ (n : ℕ). take (n - i) (drop i l) ∷ []) z
 
 -- ---- digits are copied as they are
-pub said-digits : (n : ℕ) (p : List ℕ) → digits n p ≡ true → plainly p ≡ said p
-unfolding digits
+pub said-digits : (n : ℕ) (p : List ℕ) → isDigits n p ≡ true → plainly p ≡ said p
+unfolding isDigits
 said-digits n p e = plain-iff p .1 (all-imp digit xset digit-set p (right (eqb (length p) n) (all digit p) e))
 
-digits-long : (n : ℕ) (p : List ℕ) → digits n p ≡ true → length p ≡ n
-unfolding digits
+digits-long : (n : ℕ) (p : List ℕ) → isDigits n p ≡ true → length p ≡ n
+unfolding isDigits
 digits-long n p e = eqb-true (length p) n (left (eqb (length p) n) (all digit p) e)
 
 -- ---- details: five VO digits from i on, a tab, and a text up to the end
 pub record Detailed (l : List ℕ) (i : ℕ) : Type 0 where
   pub parts : piecesAt 9 l i ≡ take (i + 5 - i) (drop i l) ∷ take (length l - (i + 6)) (drop (i + 6) l) ∷ []
-  pub five : digits 5 (take (i + 5 - i) (drop i l)) ≡ true
+  pub five : isDigits 5 (take (i + 5 - i) (drop i l)) ≡ true
   pub inside : i + 6 ≤ length l
 
 pub detailed-at : (l : List ℕ) (i : ℕ) → detailed (piecesAt 9 l i) ≡ true → Detailed l i
 detailed-at l i d =
     let y : v + 1 ≡ i + 6 = omega (arith, z) in
     record {
-      parts = pieces-at 9 l i v h refl ∙ ap (λ (ps : List (List ℕ)). take (v - i) (drop i l) ∷ ps) (sole-part l (v + 1) w (right (digits 5 (take (v - i) (drop i l))) _ both))
+      parts = pieces-at 9 l i v h refl ∙ ap (λ (ps : List (List ℕ)). take (v - i) (drop i l) ∷ ps) (sole-part l (v + 1) w (right (isDigits 5 (take (v - i) (drop i l))) _ both))
           ∙ ap₂ (λ (k j : ℕ). take (k - i) (drop i l) ∷ take (length l - j) (drop j l) ∷ []) z y;
-      five = subst (λ (k : ℕ). digits 5 (take (k - i) (drop i l)) ≡ true) z (left (digits 5 (take (v - i) (drop i l))) _ both);
+      five = subst (λ (k : ℕ). isDigits 5 (take (k - i) (drop i l)) ≡ true) z (left (isDigits 5 (take (v - i) (drop i l))) _ both);
       inside = omega (arith, w, z);
     }
   where
@@ -183,14 +183,14 @@ detailed-at l i d =
     h : i ≤ length l
     h = some-within detailed l i refl d
 
-    both : (digits 5 (take (v - i) (drop i l)) && sole (piecesAt 9 l (v + 1))) ≡ true
+    both : (isDigits 5 (take (v - i) (drop i l)) && sole (piecesAt 9 l (v + 1))) ≡ true
     both = sym (ap detailed (pieces-at 9 l i v h refl)) ∙ d
 
     w : v + 1 ≤ length l
-    w = some-within sole l (v + 1) refl (right (digits 5 (take (v - i) (drop i l))) _ both)
+    w = some-within sole l (v + 1) refl (right (isDigits 5 (take (v - i) (drop i l))) _ both)
 
     z : v ≡ i + 5
-    z = omega (arith, digits-long 5 (take (v - i) (drop i l)) (left (digits 5 (take (v - i) (drop i l))) _ both), piece-length l i v (omega arith) (end-within 9 l i v h refl))
+    z = omega (arith, digits-long 5 (take (v - i) (drop i l)) (left (isDigits 5 (take (v - i) (drop i l))) _ both), piece-length l i v (omega arith) (end-within 9 l i v h refl))
 
 module _ {l : List ℕ} {i : ℕ} (w : Detailed l i) where
   abbrev vo : List ℕ
@@ -216,7 +216,7 @@ module _ {l : List ℕ} {i : ℕ} (w : Detailed l i) where
         ap (λ (o : ℕ). then (stoppedAt o (writing s text)) Fine) z
         ∙ ap (λ (a : Answer). then (stoppedAt i a) (then (stoppedAt (i + length vo + 1) (writing s text)) Fine)) (sym (said-digits 5 vo (w .five)))
 
-    tells : {out after : List ℕ} {at : ℕ} {r : Step} → Adds (then (stoppedAt (i + 6) (writing s text)) Fine) (isUnfit (sizeFor p (codeSize s) whole)) (laid (linesFor p (codeSize s) whole)) out at r after → AddsDetails s p i (piecesAt 9 l i) out at r after
+    tells : {out after : List ℕ} {at : ℕ} {r : Step} → Adds (then (stoppedAt (i + 6) (writing s text)) Fine) (isUnfit (sizeFor p (codeSize s) whole)) (withCrLf (linesFor p (codeSize s) whole)) out at r after → AddsDetails s p i (piecesAt 9 l i) out at r after
     tells {out} {after} {at} {r} a = subst (λ (ps : List (List ℕ)). AddsDetails s p i ps out at r after) (sym (w .parts)) (adds-by stops refl a)
 
     -- the text behind the code, in a room of its own
@@ -242,9 +242,9 @@ module _ {l : List ℕ} {i : ℕ} (w : Detailed l i) where
         details-over out at h = tells (adds-unfit (ap (λ (v : Verdict). then v Fine) (known .0)) (ap isUnfit (too-long p (codeSize s) whole (omega (arith, whole-long)))))
 
         pub details-put : {out after : List ℕ} {at : ℕ} {r : Step} → n ≤ length room → least ≡ codeSize s
-            → Adds Fine (isUnfit (sizeFor p least (take n last))) (laid (linesFor p least (take n last))) out at r after → AddsDetails s p i (piecesAt 9 l i) out at r after
+            → Adds Fine (isUnfit (sizeFor p least (take n last))) (withCrLf (linesFor p least (take n last))) out at r after → AddsDetails s p i (piecesAt 9 l i) out at r after
         details-put {out} {after} {at} {r} h e d =
             tells
-            (subst (λ (v : Verdict). Adds (then v Fine) (isUnfit (sizeFor p (codeSize s) whole)) (laid (linesFor p (codeSize s) whole)) out at r after) (sym (known .0))
-            (subst (λ (t : List ℕ). Adds Fine (isUnfit (sizeFor p (codeSize s) t)) (laid (linesFor p (codeSize s) t)) out at r after) (whole-is h)
-            (subst (λ (k : ℕ). Adds Fine (isUnfit (sizeFor p k (take n last))) (laid (linesFor p k (take n last))) out at r after) e d)))
+            (subst (λ (v : Verdict). Adds (then v Fine) (isUnfit (sizeFor p (codeSize s) whole)) (withCrLf (linesFor p (codeSize s) whole)) out at r after) (sym (known .0))
+            (subst (λ (t : List ℕ). Adds Fine (isUnfit (sizeFor p (codeSize s) t)) (withCrLf (linesFor p (codeSize s) t)) out at r after) (whole-is h)
+            (subst (λ (k : ℕ). Adds Fine (isUnfit (sizeFor p k (take n last))) (withCrLf (linesFor p k (take n last))) out at r after) e d)))

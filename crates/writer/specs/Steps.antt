@@ -10,7 +10,7 @@ use Rattle.base.specs.Calls.{Gives}
 use Rattle.base.specs.declared.Verdict.{Verdict}
 use Rattle.base.specs.declared.Verdict.the-variants.{Fine, Broken}
 use Rattle.base.specs.declared.Outcome.{Outcome}
-use Rattle.fields.specs.Field.{field, laid}
+use Rattle.fields.specs.Field.{field, withCrLf}
 use Rattle.roles.specs.Role.{shapeOf}
 use Rattle.roles.specs.Speech.{codeSize}
 use Rattle.records.specs.Record.{Record, recordOf, front}
@@ -43,7 +43,7 @@ pub data Within : Step → ℕ → ℕ → Type 0 where
 
 -- ---- details: VO digits, the first at o, and a text, as the lines of their field
 abbrev pub AddsDetails : Bool → DetailsField → ℕ → List (List ℕ) → List ℕ → ℕ → Step → List ℕ → Type 0
-AddsDetails s p o ps out at r after = Adds (unsaid s o (coded ps)) (isUnfit (sizeFor p (codeSize s) (codeAndText s ps))) (laid (linesFor p (codeSize s) (codeAndText s ps))) out at r after
+AddsDetails s p o ps out at r after = Adds (unsaid s o (coded ps)) (isUnfit (sizeFor p (codeSize s) (codeAndText s ps))) (withCrLf (linesFor p (codeSize s) (codeAndText s ps))) out at r after
 
 -- ---- records
 abbrev pub recordStops : Form → Bool → Record → Verdict

@@ -5,7 +5,7 @@ ghost use Prim.Native.Nat.{_+_, _≤_};
 ghost use lib.ListN.{length};
 ghost use Rattle.base.specs.Calls.{Puts};
 ghost use Rattle.base.specs.declared.Verdict.the-variants.{Fine};
-ghost use Rattle.fields.specs.Field.{laid};
+ghost use Rattle.fields.specs.Field.{withCrLf};
 ghost use Rattle.roles.specs.Speech.{codeSize};
 ghost use Rattle.records.specs.Found.{piecesAt};
 ghost use Rattle.records.specs.Rule19.{detailed};
@@ -41,7 +41,7 @@ fn put_code(sign: bool, vo: &[u8], out: &mut [u8]) -> usize
 // A text broken into the lines of its field.
 fn lay_lines(into: DetailsField, least: usize, text: &[u8], out: &mut [u8], at: usize) -> Step
     requires { ⌜ at ≤ near ⌝ }
-    ensures { λ r. ⌜ Adds Fine (isUnfit (sizeFor into least (now (text .entry)))) (laid (linesFor into least (now (text .entry)))) (now (out .entry)) at r (now (out .exit)) × Within r 0 (at + 250) ⌝ }
+    ensures { λ r. ⌜ Adds Fine (isUnfit (sizeFor into least (now (text .entry)))) (withCrLf (linesFor into least (now (text .entry)))) (now (out .entry)) at r (now (out .exit)) × Within r 0 (at + 250) ⌝ }
 {
     let size = size_of(into, least, text);
     let Size::Bytes(n) = size else {

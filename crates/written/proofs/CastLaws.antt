@@ -21,7 +21,7 @@ use Rattle.roles.specs.Speech.{speech, asDetails, detailsStart, codeSize}
 use Rattle.roles.specs.declared.Shape.{Shape}
 use Rattle.roles.proofs.CastLaws as roles
 use Rattle.roles.proofs.CastLaws.{Lines, cast-turned}
-use Rattle.records.specs.Rule19.{digits}
+use Rattle.records.specs.Rule19.{isDigits}
 use Rattle.records.specs.Sentences.{Right}
 use Rattle.records.proofs.SoundLaws.{calm, cast-calm}
 use Rattle.details.specs.Lines.{together}
@@ -85,8 +85,8 @@ pub cast-again : (s : Bool) (sh : Shape) (ps : List (List ℕ)) → Right s sh p
 cast-again s sh ps r e = cast-turned (spelt s) (lineFor s) (spelt-lines s) sh ps (all-steady s (cast sh ps) e (cast-untaxed sh ps) (calm-if s sh ps r))
 
 -- ---- details
-pub code-size : (s : Bool) (vo : List ℕ) → digits 5 vo ≡ true → length (code s vo) ≡ codeSize s
-unfolding digits
+pub code-size : (s : Bool) (vo : List ℕ) → isDigits 5 vo ≡ true → length (code s vo) ≡ codeSize s
+unfolding isDigits
 code-size true vo d =
     let n : length vo ≡ 5 = eqb-true (length vo) 5 (left (eqb (length vo) 5) _ d) in
     omega (arith, length-append vo (bytes ")'"))
@@ -94,7 +94,7 @@ code-size false vo d =
     let n : length vo ≡ 5 = eqb-true (length vo) 5 (left (eqb (length vo) 5) _ d) in
     omega (arith, length-append vo (bytes ")"))
 
-pub behind-code : (s : Bool) (vo w : List ℕ) → digits 5 vo ≡ true → drop (codeSize s) (code s vo ++ w) ≡ w
+pub behind-code : (s : Bool) (vo w : List ℕ) → isDigits 5 vo ≡ true → drop (codeSize s) (code s vo ++ w) ≡ w
 behind-code s vo w d = ap (λ (n : ℕ). drop n (code s vo ++ w)) (sym (code-size s vo d)) ∙ drop-append-seam (code s vo) w
 
 pub unmarked : (m : List ℕ) (ls : List (List ℕ)) → speech.laterText (length m) (map (λ (k : List ℕ). m ++ k) ls) ≡ together ls
@@ -126,7 +126,7 @@ next-dropped In72 ls = unmarked (layout In72 .next) ls
 next-dropped BehindRpp ls = unmarked (layout BehindRpp .next) ls
 
 -- over the lines, behind the marks and the code, stands the text
-pub details-again : (p : DetailsField) (s : Bool) (vo w : List ℕ) (o : ℕ) → digits 5 vo ≡ true → Laid p (codeSize s) (code s vo ++ w)
+pub details-again : (p : DetailsField) (s : Bool) (vo w : List ℕ) (o : ℕ) → isDigits 5 vo ≡ true → Laid p (codeSize s) (code s vo ++ w)
     → (at : ℕ) × (speech.detailsSpeech (frontOf p s) (nextOf p) o (linesFor p (codeSize s) (code s vo ++ w)) ≡ speech asDetails at w ∷ [])
 unfolding speech.detailsSpeech
 details-again p s vo w o d h =

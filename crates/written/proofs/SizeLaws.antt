@@ -19,10 +19,10 @@ use Rattle.base.proofs.RuleLaws.{same-broken}
 use Rattle.base.proofs.CallLaws.{refused, is-long, within-limit}
 use Rattle.alphabets.specs.Best.{writing}
 use Rattle.alphabets.proofs.SizeLaws.{twice-at-most}
-use Rattle.fields.specs.Field.{field, closing, laid, lined, linesOf, message}
+use Rattle.fields.specs.Field.{field, closing, withCrLf, lined, linesOf, message}
 use Rattle.fields.specs.Frame.{limit}
 use Rattle.fields.specs.Places as lines
-use Rattle.fields.proofs.FieldLaws.{laid-size}
+use Rattle.fields.proofs.FieldLaws.{crlf-size}
 use Rattle.fields.proofs.PlaceLaws.{size-append}
 use Rattle.roles.specs.Role.{Part, copy, name, taxName, lineOf, cast, shapeOf}
 use Rattle.roles.specs.Speech.{codeSize}
@@ -73,7 +73,7 @@ details-size : (p : DetailsField) (least : ℕ) (text : List ℕ) → lines.size
 details-size p least text = go (sizeFor p least text) refl
   where
     go : (z : Size) → sizeFor p least text ≡ z → lines.sizeOf (linesFor p least text) ≤ 250
-    go (Bytes n) e = omega (arith, lines-few p least text n (sym e), laid-size (linesFor p least text))
+    go (Bytes n) e = omega (arith, lines-few p least text n (sym e), crlf-size (linesFor p least text))
     go Unfit e = omega (arith, ap lines.sizeOf (unfit-lines p least text e))
 
 rpps-size : (ps : List (List ℕ)) → lines.sizeOf (map rppLine ps) ≤ 7 * widthOf ps
@@ -129,7 +129,7 @@ unfolding messageFor fieldsOf spread message
 message-within s =
     let rs : List Record = tail (records s) in
     let ls : List (List ℕ) = linesOf (map (fieldFor (sheetForm s) (sheetSign s)) rs) in
-    omega (arith, records-size (sheetForm s) (sheetSign s) rs, tail-within (records s), records-within s, laid-size ls, length-append (laid ls) closing)
+    omega (arith, records-size (sheetForm s) (sheetSign s) rs, tail-within (records s), records-within s, crlf-size ls, length-append (withCrLf ls) closing)
 
 -- so the place of 17 is small: the longest message of a sheet within the limit
 abbrev pub longest : ℕ

@@ -29,7 +29,7 @@ use Rattle.roles.specs.declared.Shape.{Shape}
 use Rattle.roles.specs.declared.Shape.the-variants.{Payer, Payee, Agent}
 use Rattle.roles.proofs.BreachLaws.{same-lines, rule14-fine}
 use Rattle.records.specs.Record.{Record, records}
-use Rattle.records.specs.Rule19.{digits, sheetForm, sheetSign}
+use Rattle.records.specs.Rule19.{isDigits, sheetForm, sheetSign}
 use Rattle.records.specs.Sentences.{Right, plain, agent, payer, payee, details, note103, note202}
 use Rattle.records.proofs.SoundLaws.{calm, cast-calm}
 use Rattle.details.specs.Layouts.{linesFor, sizeFor}
@@ -96,7 +96,7 @@ parts-heard o sh p ps r n g e =
     subst (λ (l : List Part). Heard (nameSpeeches o l)) (sym (cast-again true sh (p ∷ ps) r e)) (names-heard o xs e k (cast-untaxed sh (p ∷ ps)) (cast-calm sh (p ∷ ps) r))
 
 -- ---- details
-heard-details : (q : DetailsField) (vo p : List ℕ) (o : ℕ) → digits 5 vo ≡ true → empty p ≡ false → speaks true (name p) ≡ true → Laid q (codeSize true) (code true vo ++ textOf (writing true p))
+heard-details : (q : DetailsField) (vo p : List ℕ) (o : ℕ) → isDigits 5 vo ≡ true → empty p ≡ false → speaks true (name p) ≡ true → Laid q (codeSize true) (code true vo ++ textOf (writing true p))
     → Heard (speech.detailsSpeech (frontOf q true) (nextOf q) o (linesFor q (codeSize true) (code true vo ++ textOf (writing true p))))
 heard-details q vo p o d n e h =
     let w = details-again q true vo (textOf (writing true p)) o d h in
@@ -111,7 +111,7 @@ note-behind : (o : ℕ) (r : List ℕ) (ls : List (List ℕ)) → noteSpeeches t
 unfolding noteSpeeches same
 note-behind o r ls = refl
 
-note-heard : (b : Bool) (o : ℕ) (r vo p : List ℕ) → digits 5 vo ≡ true → empty p ≡ false → speaks true (name p) ≡ true
+note-heard : (b : Bool) (o : ℕ) (r vo p : List ℕ) → isDigits 5 vo ≡ true → empty p ≡ false → speaks true (name p) ≡ true
     → isUnfit (sizeFor (pick b In72 BehindRpp) (codeSize true) (code true vo ++ textOf (writing true p))) ≡ false
     → Heard (noteSpeeches true o (pick b [] (rppLine r ∷ []) ++ linesFor (pick b In72 BehindRpp) (codeSize true) (code true vo ++ textOf (writing true p))))
 note-heard true o r vo p d n e u =
