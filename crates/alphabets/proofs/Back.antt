@@ -34,10 +34,10 @@ after-said : (y : ℕ) (t : List ℕ) → (y ≡ 0 → ⊥) → after y (said t)
 after-said zero t n = absurd (n refl)
 after-said (suc y) t n = refl
 
--- one sign in front, and the apostrophe before it
-one-sign : (s : Bool) (x : ℕ) (b d : List ℕ) → Back s x → reads s b ≡ said d → reads s (spell (kind x) s x ∷ b) ≡ said (x ∷ d)
+-- one character in front, and the apostrophe before it
+one-character : (s : Bool) (x : ℕ) (b d : List ℕ) → Back s x → reads s b ≡ said d → reads s (spell (kind x) s x ∷ b) ≡ said (x ∷ d)
 unfolding reads
-one-sign s x b d w e = simp (ne-eqb (spell (kind x) s x) 39 (w .no-mark), w .reads-back, e) (after-said x d (w .not-zero))
+one-character s x b d w e = simp (ne-eqb (spell (kind x) s x) 39 (w .no-mark), w .reads-back, e) (after-said x d (w .not-zero))
 
 crossed : (s t : Bool) (b d : List ℕ) → reads t b ≡ said d → reads s (cross s t b) ≡ said d
 unfolding reads
@@ -53,5 +53,5 @@ reads-best true [] e = refl
 reads-best s (x ∷ xs) e =
     let t : Bool = sideFor (kind x) s (latinNext xs) in
     crossed s t (spell (kind x) t x ∷ best t xs) (x ∷ xs)
-    (one-sign t x (best t xs) xs (write-read t x (allowed-there (kind x) (bad xs) s (latinNext xs) e))
+    (one-character t x (best t xs) xs (write-read t x (allowed-there (kind x) (bad xs) s (latinNext xs) e))
     (reads-best t xs (rest-good (kind x) (bad xs) e)))

@@ -10,17 +10,17 @@ use borrow.Author.Tests.{lt-ltb, le-ltb, ne-eqb}
 use Rattle.base.specs.Choice.{pick}
 use Rattle.base.specs.Bytes.{isIn, digit, capital, letter, marks, shared}
 use Rattle.base.proofs.Table.{every, at, and-left, and-right, otherwise, refuted}
-use Rattle.alphabets.specs.Grid.{grid, kind, sign}
+use Rattle.alphabets.specs.Grid.{grid, kind, character}
 use Rattle.alphabets.specs.Steps.{code, codes}
 use Rattle.alphabets.specs.Runs.{floorOf, heardOf}
-use Rattle.alphabets.proofs.GridLaws.{big-sign}
+use Rattle.alphabets.proofs.GridLaws.{big-character}
 
 -- a byte whose code is above the side's floor is no apostrophe and stands for what is heard; any other is an apostrophe or stands for nothing
 abbrev right : Bool → ℕ → ℕ → Bool
-right s x v = pick (ltb (floorOf s) v) (not (eqb x 39) && (eqb (sign s x) (heardOf s v x) && not (eqb (sign s x) 0))) (eqb x 39 || eqb (sign s x) 0)
+right s x v = pick (ltb (floorOf s) v) (not (eqb x 39) && (eqb (character s x) (heardOf s v x) && not (eqb (character s x) 0))) (eqb x 39 || eqb (character s x) 0)
 
 all-right : (s : Bool) → T (every (right s) 0 codes)
-unfolding grid marks isIn digit capital letter shared kind sign code codes
+unfolding grid marks isIn digit capital letter shared kind character code codes
 all-right true = tt
 all-right false = tt
 
@@ -30,8 +30,8 @@ code-length = refl
 
 pub record Heard (s : Bool) (x : ℕ) : Type 0 where
   pub no-mark : x ≡ 39 → ⊥
-  pub is : sign s x ≡ heardOf s (getD codes x 0) x
-  pub live : sign s x ≡ 0 → ⊥
+  pub is : character s x ≡ heardOf s (getD codes x 0) x
+  pub live : character s x ≡ 0 → ⊥
 
 past-table : (x : ℕ) → 256 ≤ x → getD codes x 0 ≡ 0
 past-table x h = List·getD-eq-default codes 0 (rw code-length h)
@@ -42,20 +42,20 @@ heard-above s x h = go (decLt x 256)
     go : Dec (x < 256) → Heard s x
     go (yes l) =
         let v : ℕ = getD codes x 0 in
-        let t : T (not (eqb x 39) && (eqb (sign s x) (heardOf s v x) && not (eqb (sign s x) 0))) = rw (lt-ltb (floorOf s) (getD codes x 0) h) at (at (right s) codes (all-right s) x (rw code-length l)) in
+        let t : T (not (eqb x 39) && (eqb (character s x) (heardOf s v x) && not (eqb (character s x) 0))) = rw (lt-ltb (floorOf s) (getD codes x 0) h) at (at (right s) codes (all-right s) x (rw code-length l)) in
         let u = and-right (not (eqb x 39)) _ t in
         record {
           no-mark = refuted x 39 (and-left (not (eqb x 39)) _ t);
-          is = eqb→eq (sign s x) (heardOf s v x) (and-left (eqb (sign s x) (heardOf s v x)) (not (eqb (sign s x) 0)) u);
-          live = refuted (sign s x) 0 (and-right (eqb (sign s x) (heardOf s v x)) (not (eqb (sign s x) 0)) u);
+          is = eqb→eq (character s x) (heardOf s v x) (and-left (eqb (character s x) (heardOf s v x)) (not (eqb (character s x) 0)) u);
+          live = refuted (character s x) 0 (and-right (eqb (character s x) (heardOf s v x)) (not (eqb (character s x) 0)) u);
         }
     go (no l) = absurd (omega (arith, past-table x (omega arith)))
 
-pub heard-below : (s : Bool) (x : ℕ) → getD codes x 0 ≤ floorOf s → (x ≡ 39 → ⊥) → sign s x ≡ 0
+pub heard-below : (s : Bool) (x : ℕ) → getD codes x 0 ≤ floorOf s → (x ≡ 39 → ⊥) → character s x ≡ 0
 heard-below s x h n = go (decLt x 256)
   where
-    go : Dec (x < 256) → sign s x ≡ 0
+    go : Dec (x < 256) → character s x ≡ 0
     go (yes l) =
-        let t : T (eqb x 39 || eqb (sign s x) 0) = rw (le-ltb (floorOf s) (getD codes x 0) h) at (at (right s) codes (all-right s) x (rw code-length l)) in
-        eqb→eq (sign s x) 0 (otherwise (eqb x 39) (eqb (sign s x) 0) t (ne-eqb x 39 n))
-    go (no l) = big-sign s x (omega arith)
+        let t : T (eqb x 39 || eqb (character s x) 0) = rw (le-ltb (floorOf s) (getD codes x 0) h) at (at (right s) codes (all-right s) x (rw code-length l)) in
+        eqb→eq (character s x) 0 (otherwise (eqb x 39) (eqb (character s x) 0) t (ne-eqb x 39 n))
+    go (no l) = big-character s x (omega arith)

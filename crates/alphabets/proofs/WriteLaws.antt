@@ -48,7 +48,7 @@ is-numbered russian = refl
 is-numbered latin = refl
 is-numbered common = refl
 
--- the kind of a sign by its shape
+-- the kind of a character by its shape
 abbrev kindBy : ℕ → ℕ → Kind
 kindBy v x = pick (eqb v 0) unwritable (pick (eqb v 1) latin (pick (eqb v x) common russian))
 
@@ -108,8 +108,8 @@ onward-none (Takes k) = let e : k ≡ 0 + k = omega arith in ap Takes e
 onward-none (Halts k) = let e : k ≡ 0 + k = omega arith in ap Halts e
 onward-none Long = refl
 
--- ---- one sign: how it is written, and the size
--- a unit for the sign, and an apostrophe alone
+-- ---- one character: how it is written, and the size
+-- a unit for the character, and an apostrophe alone
 size-unit : (p : Spot) (y : ℕ) (t : List ℕ) → extentOf (orStuck (further p) (y ∷ t)) ≡ onward 1 1 (extentOf (orStuck p t))
 size-unit nowhere y t = let e : suc (length t) ≡ 1 + length t = omega arith in ap Takes e
 size-unit (at k) y t = let e : suc k ≡ 1 + k = omega arith in ap Halts e
@@ -118,7 +118,7 @@ size-mark : (p : Spot) (t : List ℕ) → extentOf (orStuck p (39 ∷ t)) ≡ on
 size-mark nowhere t = let e : suc (length t) ≡ 1 + length t = omega arith in ap Takes e
 size-mark (at k) t = let e : k ≡ 0 + k = omega arith in ap Halts e
 
--- on the Russian side a sign that has a shape above 1 is written as it
+-- on the Russian side a character that has a shape above 1 is written as it
 record Shown (x : ℕ) (xs : List ℕ) : Type 0 where
   text : best false (x ∷ xs) ≡ getD shapes x 0 ∷ best false xs
   fine : bad (x ∷ xs) ≡ further (bad xs)
@@ -163,11 +163,11 @@ size-latin : (x : ℕ) (xs : List ℕ) → kind x ≡ latin → sized true (x �
 unfolding best bad
 size-latin x xs e = rw e (size-unit (bad xs) x (best true xs))
 
--- and left where no Latin sign is next
+-- and left where no Latin character is next
 size-leave : (d : List ℕ) → latinNext d ≡ false → sized true d ≡ onward 0 1 (sized false d)
 size-leave d n = rw (leave d n) (size-mark (bad d) (best false d))
 
--- wherever the apostrophe goes, a shared sign takes one unit
+-- wherever the apostrophe goes, a shared character takes one unit
 size-common : (x : ℕ) (xs : List ℕ) → kind x ≡ common → sized true (x ∷ xs) ≡ onward 1 1 (sized true xs)
 unfolding best bad
 size-common x xs e = go (latinNext xs) refl
@@ -239,7 +239,7 @@ group-latin : (x : ℕ) (xs : List ℕ) → kind x ≡ latin → group (x ∷ xs
 unfolding group latinNext
 group-latin x xs e = rw e
 
--- ---- the next sign that is not shared, from a place on
+-- ---- the next character that is not shared, from a place on
 cut : (d : List ℕ) (i : ℕ) → i < length d → drop i d ≡ getD d i 0 ∷ drop (i + 1) d
 cut d i h = rw (add-one, drop-cons d i 0)
 
@@ -264,7 +264,7 @@ pub next-none : (d : List ℕ) (i : ℕ) → length d ≤ i → latinNext (drop 
 unfolding latinNext
 next-none d i h = rw (drop-of-length-le d h)
 
--- ---- the loop that finds a group's end: behind `last` all signs are shared, up to i
+-- ---- the loop that finds a group's end: behind `last` all characters are shared, up to i
 pub record Grouping (d : List ℕ) (from last i : ℕ) : Type 0 where
   pub low : last ≤ i
   pub high : i ≤ length d
@@ -289,7 +289,7 @@ unfolding group
 group-none [] n = refl
 group-none (x ∷ xs) n = rw n
 
--- all signs of a stretch before a Latin sign are in the group
+-- all characters of a stretch before a Latin character are in the group
 stretch : (d : List ℕ) (n a : ℕ) → a + n ≤ length d → ((j : ℕ) → a ≤ j → j < a + n → latinNext (drop j d) ≡ true) → group (drop a d) ≡ n + group (drop (a + n) d)
 stretch d zero a h q = let z : a + 0 ≡ a = omega arith in omega (arith, ap (λ (k : ℕ). group (drop k d)) z)
 stretch d (suc n) a h q =
@@ -329,7 +329,7 @@ module _ (d : List ℕ) (from last i : ℕ) (v : Grouping d from last i) where
       let z : group (drop last d) ≡ 0 = group-none (drop last d) (v .same last (omega arith) (v .low) ∙ n) in
       omega (arith, v .whole)
 
--- ---- the loop along the signs that the Latin side takes
+-- ---- the loop along the characters that the Latin side takes
 pub latin-run-start : (d : List ℕ) (from : ℕ) → sized true (drop from d) ≡ onward (from - from) (from - from) (sized true (drop from d))
 latin-run-start d from = let z : from - from ≡ 0 = omega arith in rw z (onward-none (sized true (drop from d)))
 
@@ -349,7 +349,7 @@ module _ (d : List ℕ) (from i : ℕ) (low : from ≤ i) (h : i < length d) (v 
   pub latin-run-common : kind (getD d i 0) ≡ common → sized true (drop from d) ≡ onward (i + 1 - from) (i + 1 - from) (sized true (drop (i + 1) d))
   latin-run-common k = one-more (size-common (getD d i 0) (drop (i + 1) d) k)
 
--- ---- the loop that measures: i signs are taken, marks apostrophes written, and the Russian side is next
+-- ---- the loop that measures: i characters are taken, marks apostrophes written, and the Russian side is next
 pub record Weighing (desk : List ℕ) (marks i : ℕ) : Type 0 where
   pub long : i ≤ length desk
   pub few : marks ≤ 2 * i
@@ -391,7 +391,7 @@ module _ (desk : List ℕ) (marks k : ℕ) (v : Weighing desk marks k) (h : k < 
       let z : k + 0 ≡ k = omega arith in
       sym (v .whole ∙ ap (λ (b : List ℕ). onward k (k + marks) (sized false b)) (cut desk k h) ∙ ap (onward k (k + marks)) (size-unwritable false (getD desk k 0) (drop (k + 1) desk) e) ∙ ap Halts z)
 
-  -- a Latin letter, and the signs that the Latin side takes behind it: two apostrophes
+  -- a Latin letter, and the characters that the Latin side takes behind it: two apostrophes
   pub weighing-latin : (r : ℕ) → kind (getD desk k 0) ≡ latin → LatinRun desk (k + 1) r → Weighing desk (marks + 2) r
   weighing-latin r e w =
       let x : ℕ = getD desk k 0 in
@@ -432,7 +432,7 @@ measured desk n e = go (bad desk) refl e
     go nowhere b e = record { fine = b; is = rw b; count = cc }
     go (at k) b e = absurd (takes-halts n k e)
 
--- ---- the loop that writes: i signs are taken, and what is written for them is put
+-- ---- the loop that writes: i characters are taken, and what is written for them is put
 pub record Writing (desk out₀ out : List ℕ) (from n i : ℕ) : Type 0 where
   pub long : i ≤ length desk
   pub is : Putting out₀ out from n (best false desk) (best false (drop i desk))
@@ -440,7 +440,7 @@ pub record Writing (desk out₀ out : List ℕ) (from n i : ℕ) : Type 0 where
 pub writing-start : (desk out : List ℕ) (from : ℕ) → from + length (best false desk) ≤ length out → Writing desk out out from from 0
 writing-start desk out from h = record { long = omega arith; is = putting-start out from (best false desk) h }
 
--- in a text that can be written every sign can be
+-- in a text that can be written every character can be
 all-fine : (d : List ℕ) (i : ℕ) → bad d ≡ nowhere → i < length d → kind (getD d i 0) ≡ unwritable → ⊥
 unfolding bad
 all-fine [] i b h e = omega arith

@@ -29,13 +29,13 @@ under (d ∷ ds) (b ∷ bs) x = pick (eqb x d) b (under ds bs x)
 
 -- texts with the sign
 pub data Case : Type 0 where
-  -- these signs are the bytes from n on, in a row
+  -- these characters are the bytes from n on, in a row
   row : ℕ → String → Case
   -- the desk text is written as the bank text, which reads as it
   both : String → String → Case
   -- each of these letters alone is a bank text that stops at its first byte, so 14 at 0
   unread : String → Case
-  -- each of these signs alone is a desk text that stops there, so 15 at 0
+  -- each of these characters alone is a desk text that stops there, so 15 at 0
   unwritten : String → Case
 
 abbrev pub Holds : Case → Type 0

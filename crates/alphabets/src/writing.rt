@@ -22,13 +22,13 @@ pub(crate) fn grid_table() -> [u8; 256]
     GRID
 }
 
-// A stretch of signs that the Latin side takes: the place behind its last Latin letter, and the place behind it.
+// A stretch of characters that the Latin side takes: the place behind its last Latin letter, and the place behind it.
 struct Stretch {
     last: usize,
     end: usize,
 }
 
-// The stretch from a place on. The shared signs behind its last letter are looked through twice at most, so the whole is linear.
+// The stretch from a place on. The shared characters behind its last letter are looked through twice at most, so the whole is linear.
 fn stretch_from(grid: &[u8; 256], desk: &[u8], from: usize) -> Stretch
     requires { ⌜ (now grid ≡ shapes) × (from ≤ length (now desk)) ⌝ }
     ensures { λ r. ⌜ (r .last ≡ from + group (drop from (now (desk .entry)))) × LatinRun (now (desk .entry)) from (r .end) ⌝ }

@@ -31,7 +31,7 @@ letter x = capital x || between 97 x 122
 unfoldable pub marks : List ℕ
 marks = 32 ∷ 47 ∷ 45 ∷ 63 ∷ 58 ∷ 40 ∷ 41 ∷ 46 ∷ 44 ∷ 43 ∷ []
 
--- digits and marks: the signs that both alphabets share
+-- digits and marks: the characters that both alphabets share
 unfoldable pub shared : ℕ → Bool
 shared x = digit x || isIn x marks
 

@@ -133,7 +133,7 @@ unfolding spoken speeches nameSpeeches detailsSpeech noteSpeeches roles-speech.l
 signed-texts = refl
 
 name-heard : breaks asName (bytes "'OOO' SBERBANK") ≡ false
-unfolding breaks hidden isIn reads alphabets-grid.sign grid marks digit capital letter shared
+unfolding breaks hidden isIn reads alphabets-grid.character grid marks digit capital letter shared
 name-heard = refl
 
 -- ПЕРЕВОД СРЕДСТВПО ДОГОВОРУ A
@@ -150,11 +150,11 @@ signed-fine =
 
 -- ---- the example of the rules, as a 103 and as a 202
 sample-verdicts : (verdictOf Mt103 (bytes sample) ≡ Fine) × (verdictOf Mt202 (bytes sample) ≡ Broken 5 15)
-unfolding verdictOf rule18 places103 places202 long rule1 framed body same rule2 scan xset isIn digit capital letter marks shared rule3 cut tagged lineBad badLine rule4 upto past grouped fields find wrong walk walked signOf firstWrong rightField rule8 onward leap daysIn isDay yearOf realDay dated payment parties tests.looksTax taxes valuesOf firstBad rule9 rule10 rule11 rule12 rule13 spoken speeches nameSpeeches detailsSpeech noteSpeeches roles-speech.laterText shapeOf heldBy tags103 tags202 cast hidden isInn taxLike breaks unheard rule14 grid alphabets-grid.sign reads capitalOrDigit tests.lead tests.ends tests.pair tests.isReference tests.isPurpose tests.isPayment tests.isOwnAccount tests.isPartyByBik tests.isParty tests.isBic tests.isAccount tests.isTax tests.isRpp tests.details tests.right rppDates customerTaxes payerTaxes
+unfolding verdictOf rule18 places103 places202 long rule1 framed body same rule2 scan xset isIn digit capital letter marks shared rule3 cut tagged lineBad badLine rule4 upto past grouped fields find wrong walk walked signOf firstWrong rightField rule8 onward leap daysIn isDay yearOf realDay dated payment parties tests.looksTax taxes valuesOf firstBad rule9 rule10 rule11 rule12 rule13 spoken speeches nameSpeeches detailsSpeech noteSpeeches roles-speech.laterText shapeOf heldBy tags103 tags202 cast hidden isInn taxLike breaks unheard rule14 grid alphabets-grid.character reads capitalOrDigit tests.lead tests.ends tests.pair tests.isReference tests.isPurpose tests.isPayment tests.isOwnAccount tests.isPartyByBik tests.isParty tests.isBic tests.isAccount tests.isTax tests.isRpp tests.details tests.right rppDates customerTaxes payerTaxes
 sample-verdicts = (refl, refl)
 
 computed : AllHold Computed cases
-unfolding cases verdictOf rule18 places103 places202 long rule1 framed body same rule2 scan xset isIn digit capital letter marks shared rule3 cut tagged lineBad badLine rule4 upto past grouped fields find wrong walk walked signOf firstWrong rightField rule8 onward leap daysIn isDay yearOf realDay dated payment parties tests.looksTax taxes valuesOf firstBad rule9 rule10 rule11 rule12 rule13 spoken speeches nameSpeeches detailsSpeech noteSpeeches roles-speech.laterText shapeOf heldBy tags103 tags202 cast hidden isInn taxLike breaks unheard rule14 grid alphabets-grid.sign reads message listed word partAt short dateOf kopecksOf kopecks faultOf capitalOrDigit tests.lead tests.ends tests.pair tests.isReference tests.isPurpose tests.isPayment tests.isOwnAccount tests.isPartyByBik tests.isParty tests.isBic tests.isAccount tests.isTax tests.isRpp tests.details tests.right rppDates customerTaxes payerTaxes
+unfolding cases verdictOf rule18 places103 places202 long rule1 framed body same rule2 scan xset isIn digit capital letter marks shared rule3 cut tagged lineBad badLine rule4 upto past grouped fields find wrong walk walked signOf firstWrong rightField rule8 onward leap daysIn isDay yearOf realDay dated payment parties tests.looksTax taxes valuesOf firstBad rule9 rule10 rule11 rule12 rule13 spoken speeches nameSpeeches detailsSpeech noteSpeeches roles-speech.laterText shapeOf heldBy tags103 tags202 cast hidden isInn taxLike breaks unheard rule14 grid alphabets-grid.character reads message listed word partAt short dateOf kopecksOf kopecks faultOf capitalOrDigit tests.lead tests.ends tests.pair tests.isReference tests.isPurpose tests.isPayment tests.isOwnAccount tests.isPartyByBik tests.isParty tests.isBic tests.isAccount tests.isTax tests.isRpp tests.details tests.right rppDates customerTaxes payerTaxes
 computed =
     (sample-verdicts .0, refl, refl, refl, refl, refl, refl, refl) also (signed-fine, refl, refl, refl, refl, refl, refl, refl) also (refl, refl, refl, refl, refl, refl, refl, refl)
     also refl also refl also refl also refl also refl also refl also refl also refl also refl also (sample-verdicts .0, refl) also sample-verdicts .1

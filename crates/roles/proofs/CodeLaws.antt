@@ -15,11 +15,11 @@ use Rattle.base.specs.Calls.{Answer, said, stuck, textOf}
 use Rattle.base.specs.declared.Verdict.the-variants.{Broken}
 use Rattle.alphabets.specs.Bank.{reads, reading}
 use Rattle.alphabets.specs.Steps.{codes}
-use Rattle.alphabets.specs.Pieces.{pieceIn, whole, signsFrom}
+use Rattle.alphabets.specs.Pieces.{pieceIn, whole, charactersFrom}
 use Rattle.alphabets.specs.Parts.{spoken as heard}
 use Rattle.alphabets.specs.declared.pieces.Piece.{Piece}
 use Rattle.alphabets.specs.declared.pieces.Piece.the-variants.{Read, Stops}
-use Rattle.alphabets.proofs.PieceLaws.{reads-piece, signs-said}
+use Rattle.alphabets.proofs.PieceLaws.{reads-piece, characters-said}
 use Rattle.alphabets.proofs.SpokenLaws.{counted}
 use Rattle.fields.specs.Field.{Field, field}
 use Rattle.fields.specs.Places.{sizeOf, startOf, nextOf}
@@ -77,12 +77,12 @@ mute-codes b = go (pieceIn codes false b) (counted codes false b) ∙ ap mute (s
 
 pub breaks-codes : (m : Manner) (b : List ℕ) → breaksIn codes m b ≡ breaks m b
 unfolding breaksIn breaks
-breaks-codes m b = ap (λ (q : Bool). clauses m q b (signsFrom codes 4 false b 0)) (mute-codes b) ∙ go (reads false b) refl
+breaks-codes m b = ap (λ (q : Bool). clauses m q b (charactersFrom codes 4 false b 0)) (mute-codes b) ∙ go (reads false b) refl
   where
-    go : (a : Answer) → reads false b ≡ a → clauses m (mute (reads false b)) b (signsFrom codes 4 false b 0) ≡ clauses m (mute (reads false b)) b (textOf (reads false b))
-    go (stuck k) e = ap (λ (a : Answer). clauses m (mute a) b (signsFrom codes 4 false b 0)) e ∙ first-clause m b (signsFrom codes 4 false b 0) ∙ sym (ap (λ (a : Answer). clauses m (mute a) b (textOf a)) e ∙ first-clause m b [])
+    go : (a : Answer) → reads false b ≡ a → clauses m (mute (reads false b)) b (charactersFrom codes 4 false b 0) ≡ clauses m (mute (reads false b)) b (textOf (reads false b))
+    go (stuck k) e = ap (λ (a : Answer). clauses m (mute a) b (charactersFrom codes 4 false b 0)) e ∙ first-clause m b (charactersFrom codes 4 false b 0) ∙ sym (ap (λ (a : Answer). clauses m (mute a) b (textOf a)) e ∙ first-clause m b [])
     go (said d) e =
-        same-clauses (signsFrom codes 4 false b 0) d (signs-said 4 false b 0 d e) m (mute (reads false b)) b
+        same-clauses (charactersFrom codes 4 false b 0) d (characters-said 4 false b 0 d e) m (mute (reads false b)) b
         ∙ ap (λ (u : List ℕ). clauses m (mute (reads false b)) b u) (sym (ap textOf e))
 
 -- ---- texts further on

@@ -9,7 +9,7 @@ use Rattle.types.specs.declared.Form.{Form}
 use Rattle.base.specs.Choice.{pick}
 use Rattle.base.specs.declared.Verdict.{Verdict}
 use Rattle.base.specs.declared.Verdict.the-variants.{Fine, Broken}
-use Rattle.alphabets.specs.Pieces.{pieceIn, signsFrom}
+use Rattle.alphabets.specs.Pieces.{pieceIn, charactersFrom}
 use Rattle.alphabets.specs.declared.pieces.Piece.{Piece}
 use Rattle.alphabets.specs.declared.pieces.Piece.the-variants.{Read, Stops}
 use Rattle.fields.specs.Lines.{linesIn}
@@ -30,7 +30,7 @@ muteIn (Read n s) = s || eqb n 0
 muteIn (Stops k) = true
 
 unfoldable pub breaksIn : List ℕ → Manner → List ℕ → Bool
-breaksIn t m b = clauses m (muteIn (pieceIn t false b)) b (signsFrom t 4 false b 0)
+breaksIn t m b = clauses m (muteIn (pieceIn t false b)) b (charactersFrom t 4 false b 0)
 
 unfoldable pub found : List ℕ → List Speech → Spot
 found t [] = Nowhere
@@ -58,7 +58,7 @@ abbrev pub detailsText : ℕ → ℕ → List (List ℕ) → List ℕ
 detailsText front mark [] = []
 detailsText front mark (l ∷ ls) = drop front l ++ laterText mark ls
 
--- mute behind a text that has some signs or none
+-- mute behind a text that has some characters or none
 abbrev pub muteAfter : Bool → Piece → Bool
 muteAfter some (Read n s) = s || (not some && eqb n 0)
 muteAfter some (Stops k) = true

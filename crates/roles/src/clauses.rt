@@ -8,7 +8,7 @@ ghost use Rattle.roles.specs.Speech.{asName, asTaxName};
 ghost use Rattle.roles.specs.Rule14.{isInn};
 ghost use Rattle.roles.specs.Found.{muteIn, breaksIn, lineBreaks};
 use alphabets::pieces::Piece;
-use alphabets::pieces::first_signs;
+use alphabets::pieces::first_characters;
 use alphabets::pieces::read_piece;
 use contents::lines::looks_tax;
 use contents::pieces::is_numbered;
@@ -59,7 +59,7 @@ pub(crate) fn breaks_named(back: &[u8; 256], name: &[u8]) -> bool
     if !starts(39, name) {
         return false;
     }
-    let f = first_signs(back, name);
+    let f = first_characters(back, name);
     is_mark(f[0])
 }
 
@@ -80,7 +80,7 @@ fn breaks_tax(back: &[u8; 256], name: &[u8]) -> bool
     if breaks_named(back, name) {
         return true;
     }
-    let f = first_signs(back, name);
+    let f = first_characters(back, name);
     if looks_tax(&f) {
         return true;
     }

@@ -61,7 +61,7 @@ fn in_agent(back: &[u8; 256], c: &[u8]) -> Spot
     in_names(back, c, mark_at(13, c, 0), false)
 }
 
-fn has_signs(some: bool, n: usize) -> bool
+fn has_characters(some: bool, n: usize) -> bool
     ensures { λ r. ⌜ r ≡ (some || not (eqb n 0)) ⌝ }
 {
     if some {
@@ -70,7 +70,7 @@ fn has_signs(some: bool, n: usize) -> bool
     n != 0
 }
 
-// Open on the Latin side, or without a sign.
+// Open on the Latin side, or without a character.
 fn is_silent(latin: bool, some: bool) -> bool
     ensures { λ r. ⌜ r ≡ (latin || not some) ⌝ }
 {
@@ -108,7 +108,7 @@ fn is_mute_text(back: &[u8; 256], c: &[u8], from: usize, front: usize, mark: usi
         let Piece::Read { units, latin: side } = read_piece(back, latin, &c[b..e]) else {
             return true;
         };
-        some = has_signs(some, units);
+        some = has_characters(some, units);
         if c.len() <= e {
             return is_silent(side, some);
         }

@@ -93,11 +93,11 @@ there-and-back form m s n e h (r, t, w) v = (
 
 -- ---- the trips with short texts
 all-fine : (verdictOf Mt103 (bytes sample) ≡ Fine) × (verdictOf Mt202 (bytes plain202) ≡ Fine) × (verdictOf Mt103 (bytes otherwise103) ≡ Fine) × (verdictOf Mt103 (bytes best103) ≡ Fine)
-unfolding verdictOf rule18 places103 places202 long rule1 framed body same rule2 scan xset isIn digit capital letter marks shared rule3 cut tagged lineBad badLine rule4 upto past grouped fields find wrong walk walked signOf firstWrong rightField rule8 onward leap daysIn isDay yearOf realDay dated payment parties tests.looksTax taxes valuesOf firstBad rule9 rule10 rule11 rule12 rule13 spoken speeches nameSpeeches detailsSpeech noteSpeeches speeches-of.laterText shapeOf heldBy tags103 tags202 cast hidden isInn taxLike breaks unheard rule14 grid signs.sign reads capitalOrDigit tests.lead tests.ends tests.pair tests.isReference tests.isPurpose tests.isPayment tests.isOwnAccount tests.isPartyByBik tests.isParty tests.isBic tests.isAccount tests.isTax tests.isRpp tests.details tests.right rppDates customerTaxes payerTaxes
+unfolding verdictOf rule18 places103 places202 long rule1 framed body same rule2 scan xset isIn digit capital letter marks shared rule3 cut tagged lineBad badLine rule4 upto past grouped fields find wrong walk walked signOf firstWrong rightField rule8 onward leap daysIn isDay yearOf realDay dated payment parties tests.looksTax taxes valuesOf firstBad rule9 rule10 rule11 rule12 rule13 spoken speeches nameSpeeches detailsSpeech noteSpeeches speeches-of.laterText shapeOf heldBy tags103 tags202 cast hidden isInn taxLike breaks unheard rule14 grid signs.character reads capitalOrDigit tests.lead tests.ends tests.pair tests.isReference tests.isPurpose tests.isPayment tests.isOwnAccount tests.isPartyByBik tests.isParty tests.isBic tests.isAccount tests.isTax tests.isRpp tests.details tests.right rppDates customerTaxes payerTaxes
 all-fine = (refl, refl, refl, refl)
 
 all-read : (sheetOf Mt103 (bytes sample) ≡ desk sheet103) × (sheetOf Mt202 (bytes plain202) ≡ desk plainSheet) × (sheetOf Mt103 (bytes otherwise103) ≡ desk otherwiseSheet)
-unfolding sheetOf recordsOf gather contentParts body cut upto past grouped fields signOf shapeOf heldBy tags103 tags202 cast tests.looksTax same isIn digit speeches-of.laterText plainly xset reads signs.sign grid marks capital letter shared
+unfolding sheetOf recordsOf gather contentParts body cut upto past grouped fields signOf shapeOf heldBy tags103 tags202 cast tests.looksTax same isIn digit speeches-of.laterText plainly xset reads signs.character grid marks capital letter shared
 all-read = (refl, refl, refl)
 
 all-written : Written Mt103 (desk sheet103) (bytes sample) × Written Mt202 (desk plainSheet) (bytes plain202) × Written Mt202 (desk signedSheet) (bytes signed202)
@@ -161,12 +161,12 @@ worked =
 -- ---- the idle pair
 -- a run of - reads as itself, whatever follows
 dashes : (n : ℕ) (b d : List ℕ) → reads false b ≡ said d → reads false (replicate n 45 ++ b) ≡ said (replicate n 45 ++ d)
-unfolding reads signs.sign isIn digit marks shared
+unfolding reads signs.character isIn digit marks shared
 dashes zero b d e = e
 dashes (suc n) b d e = ap (after 45) (dashes n b d e)
 
 idle-reads : reads false (replicate 23 45 ++ bytes "''--") ≡ said (replicate 23 45 ++ bytes "--")
-unfolding reads signs.sign isIn digit marks shared
+unfolding reads signs.character isIn digit marks shared
 idle-reads = dashes 23 (bytes "''--") (bytes "--") refl
 
 -- its fields: before the details, the details, behind them
@@ -192,7 +192,7 @@ unfolding spoken speeches nameSpeeches detailsSpeech speeches-of.laterText shape
 idle-texts = refl
 
 names-heard : (breaks asTaxName (bytes "'NORD'") ≡ false) × (breaks asTaxName (bytes "OOO PoTR") ≡ false)
-unfolding breaks hidden isInn taxLike tests.looksTax same reads signs.sign grid marks isIn digit capital letter shared
+unfolding breaks hidden isInn taxLike tests.looksTax same reads signs.character grid marks isIn digit capital letter shared
 names-heard = (refl, refl)
 
 idle-14 : rule14 Mt103 (fields (bytes idle)) ≡ Fine
@@ -257,7 +257,7 @@ idle-sheet =
     (gather-around Mt103 true fore (field (bytes "70") (dashed ∷ bytes "''--" ∷ [])) aft _ idle-record)
 
 idle-crowded : first (sheetRules (sheet (typeRecord Mt103 ∷ its-records))) ≡ Broken 16 0
-unfolding contentParts gather same tags103 shapeOf heldBy cast reads signs.sign grid marks isIn digit capital letter shared long places103 places202 rule18 shaped signOf tests.looksTax isInn xset plainly kind latinNext best bad writes pieces recordOf records rest begun isDigits general untaxed sound badFrom judge sheetSign sheetForm rule19 opens last broken breaking.breaks sizeFor unsaid rule15 crowded rule16
+unfolding contentParts gather same tags103 shapeOf heldBy cast reads signs.character grid marks isIn digit capital letter shared long places103 places202 rule18 shaped signOf tests.looksTax isInn xset plainly kind latinNext best bad writes pieces recordOf records rest begun isDigits general untaxed sound badFrom judge sheetSign sheetForm rule19 opens last broken breaking.breaks sizeFor unsaid rule15 crowded rule16
 idle-crowded = refl
 
 pub stopped : AllHold Holds stops

@@ -12,7 +12,7 @@ use Rattle.base.specs.Choice.{all}
 use Rattle.base.specs.Bytes.{byte, begins, empty, isIn, xset}
 use Rattle.base.specs.Calls.{Answer, said, stuck, textOf}
 use Rattle.base.proofs.ByteLaws.{begins-byte}
-use Rattle.alphabets.specs.Grid.{Kind, kind, spell, allowed, sign}
+use Rattle.alphabets.specs.Grid.{Kind, kind, spell, allowed, character}
 use Rattle.alphabets.specs.Bank.{reads, reading}
 use Rattle.alphabets.specs.Best.{writing}
 use Rattle.alphabets.proofs.GridLaws.{write-read}
@@ -23,7 +23,7 @@ use Rattle.roles.specs.Speech.{asName, asTaxName}
 use Rattle.roles.specs.Rule14.{mute, hidden, isInn, taxLike, clauses, breaks}
 use Rattle.records.specs.Record.{plainText}
 use Rattle.trips.proofs.SaidLaws.{says-written, says-short, says-text}
-use Rattle.written.proofs.SpeltLaws.{said-is, Mark, slash, colon, dash, mark-kind, mark-sign, not-apostrophe, not-none}
+use Rattle.written.proofs.SpeltLaws.{said-is, Mark, slash, colon, dash, mark-kind, mark-character, not-apostrophe, not-none}
 
 -- ---- the first byte
 -- a sign of the Russian side is one of the three marks exactly if its byte is
@@ -34,7 +34,7 @@ mark-same c x y m a e = go (eqb y c) (eqb x c) refl refl
     spelt q = sym e ∙ ap (λ (n : ℕ). spell (kind n) false n) q ∙ ap (λ (k : Kind). spell k false c) (mark-kind c m)
 
     as-mark : x ≡ c → y ≡ c
-    as-mark q = sym (write-read false y a .reads-back) ∙ ap (sign false) (e ∙ q) ∙ mark-sign c m
+    as-mark q = sym (write-read false y a .reads-back) ∙ ap (character false) (e ∙ q) ∙ mark-character c m
 
     go : (u v : Bool) → eqb y c ≡ u → eqb x c ≡ v → u ≡ v
     go true true p q = refl

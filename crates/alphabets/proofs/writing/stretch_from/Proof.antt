@@ -17,7 +17,7 @@ Inv-loop grid desk from last₀ i₀ last i = Grouping desk from last i × (from
 abbrev μ-loop : tie.MeasureT-loop
 μ-loop grid desk from last₀ i₀ last i = length desk - i
 
--- the shape of the sign at hand, by the table
+-- the shape of the character at hand, by the table
 shape-of : (c : tie.After-value Inv-loop μ-loop) → let l = c .before .before .before in c .value .result ≡ getD shapes (getD (l .before .before .args .desk .now) (l .loop .i) 0) 0
 shape-of c =
     let l = c .before .before .before in

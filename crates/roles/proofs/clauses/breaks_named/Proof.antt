@@ -23,8 +23,8 @@ returns-2 : tie.Need-returns-2
 returns-2 c = let s = c .before in let m = s .before .before in let a = m .before .before .args in
     pick-no true (m .is-mute .ensures) (s .before .if1 .left) (pick-not _ (s .starts .ensures) (c .if2 .taken) refl) ∙ named-is (a .back .now) (a .name .now)
 
-first-signs-requires : tie.Need-first-signs-requires
-first-signs-requires c κs = search needs
+first-characters-requires : tie.Need-first-characters-requires
+first-characters-requires c κs = search needs
 
 array-read-is-mark : tie.Need-array-read-is-mark
 array-read-is-mark c = search needs
@@ -34,7 +34,7 @@ is-mark-requires c κs = search needs
 
 returns-3 : tie.Need-returns-3
 returns-3 c = let f = c .before in let s = f .before .before in let m = s .before .before in let a = m .before .before .args in
-    pick-no true (m .is-mute .ensures) (s .before .if1 .left) (pick-not-not false (s .starts .ensures) (f .before .if2 .left) (c .is-mark .ensures ∙ ap (λ (l : List ℕ). isIn (byte l 0) (47 ∷ 58 ∷ 45 ∷ [])) (f .first-signs .ensures))) ∙ named-is (a .back .now) (a .name .now)
+    pick-no true (m .is-mute .ensures) (s .before .if1 .left) (pick-not-not false (s .starts .ensures) (f .before .if2 .left) (c .is-mark .ensures ∙ ap (λ (l : List ℕ). isIn (byte l 0) (47 ∷ 58 ∷ 45 ∷ [])) (f .first-characters .ensures))) ∙ named-is (a .back .now) (a .name .now)
 
 pub breaks-named-spec : {M : Type 1} → statement M
 breaks-named-spec =
@@ -44,7 +44,7 @@ breaks-named-spec =
     returns
     starts-requires
     returns-2
-    first-signs-requires
+    first-characters-requires
     array-read-is-mark
     is-mark-requires
     returns-3)
