@@ -15,7 +15,7 @@ use Rattle.base.proofs.CallLaws.{not-said, one-answer}
 use Rattle.base.proofs.Room.{sets-append, placed-fits, placed-not}
 use Rattle.alphabets.specs.Bank.{reads}
 use Rattle.alphabets.specs.Best.{writing}
-use Rattle.alphabets.specs.Steps.{codes}
+use Rattle.alphabets.specs.Steps.{backTable}
 use Rattle.alphabets.specs.Runs.{floorOf, heardOf}
 use Rattle.alphabets.specs.Pieces.{pieceAfter, pieceIn, pieceOn, whole}
 use Rattle.alphabets.specs.Parts.{extentOf, extent, written, WhenTakes, WhenHalts, spoken, pieceText}
@@ -136,17 +136,17 @@ pieces-behind t s a b n z m y out at e f h =
     ∙ put-behind out at (pieceText t s a) (pieceText t z b) (omega arith)
     ∙ ap (placed out at) (sym (text-append t s a b n z m y e f))
 
--- by the table of codes, a whole bank text, as one piece from the Russian side, stands for what it says
-pub text-whole : (b d : List ℕ) → reads false b ≡ said d → pieceText codes false b ≡ d
-text-whole b d e = go (pieceIn codes false b) refl (sym (reads-piece false b) ∙ e)
+-- by the table backwards, a whole bank text, as one piece from the Russian side, stands for what it says
+pub text-whole : (b d : List ℕ) → reads false b ≡ said d → pieceText backTable false b ≡ d
+text-whole b d e = go (pieceIn backTable false b) refl (sym (reads-piece false b) ∙ e)
   where
-    go : (p : Piece) → pieceIn codes false b ≡ p → whole (length b) (pieceIn codes false b) (spoken codes false b) ≡ said d → pieceText codes false b ≡ d
+    go : (p : Piece) → pieceIn backTable false b ≡ p → whole (length b) (pieceIn backTable false b) (spoken backTable false b) ≡ said d → pieceText backTable false b ≡ d
     go (Stops k) q f = absurd (not-said k d (rw q at f))
     go (Read n true) q f = absurd (not-said (length b) d (rw q at f))
-    go (Read n false) q f = let m : said (spoken codes false b) ≡ said d = rw q at f in text-read codes false b n false q ∙ cc
+    go (Read n false) q f = let m : said (spoken backTable false b) ≡ said d = rw q at f in text-read backTable false b n false q ∙ cc
 
 -- the ways out of the call that reads one, its table lent
-module _ (t b : List ℕ) (w : t ≡ codes) where
+module _ (t b : List ℕ) (w : t ≡ backTable) where
   whole-by : (p : Piece) → pieceIn t false b ≡ p → reads false b ≡ whole (length b) p (spoken t false b)
   whole-by p e = reads-piece false b ∙ ap (λ (c : List ℕ). whole (length b) (pieceIn c false b) (spoken c false b)) (sym w) ∙ ap (λ (q : Piece). whole (length b) q (spoken t false b)) e
 

@@ -1,4 +1,4 @@
--- Only the code's way needs this. Reading in pieces by the table of codes is reading; and the loops over a piece. Assumes nothing.
+-- Only the code's way needs this. Reading in pieces by the table backwards is reading; and the loops over a piece. Assumes nothing.
 use Prim.Native.Nat.{ℕ, zero, suc, _+_, _-_, _<_, _≤_}
 use mathlib.Core.Path.{_≡_, refl, sym, ap, _∙_}
 use mathlib.Core.Bool.{Bool, true, false, not}
@@ -14,7 +14,7 @@ use Rattle.base.specs.Calls.{Answer, said, stuck}
 use Rattle.base.proofs.CallLaws.{not-said}
 use Rattle.alphabets.specs.Grid.{character}
 use Rattle.alphabets.specs.Bank.{past, after, reads}
-use Rattle.alphabets.specs.Steps.{codes}
+use Rattle.alphabets.specs.Steps.{backTable}
 use Rattle.alphabets.specs.Runs.{floorOf, heardOf, run}
 use Rattle.alphabets.specs.Pieces.{pieceAfter, pieceIn, pieceOn, whole, characterAfter, characterIn, characterFrom, charactersFrom}
 use Rattle.alphabets.specs.Parts.{spoken}
@@ -22,7 +22,7 @@ use Rattle.alphabets.specs.declared.pieces.Piece.{Piece}
 use Rattle.alphabets.specs.declared.pieces.Piece.the-variants.{Read, Stops}
 use Rattle.alphabets.specs.declared.pieces.Character.{Character}
 use Rattle.alphabets.proofs.RunLaws.{Ended, ended}
-use Rattle.alphabets.proofs.CodeLaws.{Heard, heard-above, heard-below}
+use Rattle.alphabets.proofs.BackTableLaws.{Heard, heard-above, heard-below}
 
 -- ---- pieces and whole texts
 whole-character : (n y : ℕ) (p : Piece) (u : List ℕ) → (y ≡ 0 → ⊥) → after y (whole n p u) ≡ whole (suc n) (pieceAfter 1 1 p) (y ∷ u)
@@ -36,25 +36,25 @@ whole-mark n (Read m false) u = refl
 whole-mark n (Read m true) u = refl
 whole-mark n (Stops k) u = let e : suc k ≡ 1 + k = omega arith in ap stuck e
 
--- with the table of codes, a piece is what the alphabets read: a whole text is one that ends on the Russian side
-pub reads-piece : (s : Bool) (b : List ℕ) → reads s b ≡ whole (length b) (pieceIn codes s b) (spoken codes s b)
+-- with the table backwards, a piece is what the alphabets read: a whole text is one that ends on the Russian side
+pub reads-piece : (s : Bool) (b : List ℕ) → reads s b ≡ whole (length b) (pieceIn backTable s b) (spoken backTable s b)
 unfolding reads pieceIn spoken
 reads-piece false [] = refl
 reads-piece true [] = refl
-reads-piece s (x ∷ xs) = go (ltb (floorOf s) (getD codes x 0)) refl (eqb x 39) refl (reads-piece s xs) (reads-piece (not s) xs)
+reads-piece s (x ∷ xs) = go (ltb (floorOf s) (getD backTable x 0)) refl (eqb x 39) refl (reads-piece s xs) (reads-piece (not s) xs)
   where
-    go : (q : Bool) → ltb (floorOf s) (getD codes x 0) ≡ q → (r : Bool) → eqb x 39 ≡ r
-        → reads s xs ≡ whole (length xs) (pieceIn codes s xs) (spoken codes s xs) → reads (not s) xs ≡ whole (length xs) (pieceIn codes (not s) xs) (spoken codes (not s) xs)
+    go : (q : Bool) → ltb (floorOf s) (getD backTable x 0) ≡ q → (r : Bool) → eqb x 39 ≡ r
+        → reads s xs ≡ whole (length xs) (pieceIn backTable s xs) (spoken backTable s xs) → reads (not s) xs ≡ whole (length xs) (pieceIn backTable (not s) xs) (spoken backTable (not s) xs)
         → pick r (past (reads (not s) xs)) (after (character s x) (reads s xs))
-        ≡ whole (suc (length xs)) (pick q (pieceAfter 1 1 (pieceIn codes s xs)) (pick r (pieceAfter 1 0 (pieceIn codes (not s) xs)) (Stops 0))) (pick q (heardOf s (getD codes x 0) x ∷ spoken codes s xs) (pick r (spoken codes (not s) xs) []))
-    go true l true z a b = absurd (heard-above s x (ltb-true (floorOf s) (getD codes x 0) l) .no-mark (eqb-true x 39 z))
+        ≡ whole (suc (length xs)) (pick q (pieceAfter 1 1 (pieceIn backTable s xs)) (pick r (pieceAfter 1 0 (pieceIn backTable (not s) xs)) (Stops 0))) (pick q (heardOf s (getD backTable x 0) x ∷ spoken backTable s xs) (pick r (spoken backTable (not s) xs) []))
+    go true l true z a b = absurd (heard-above s x (ltb-true (floorOf s) (getD backTable x 0) l) .no-mark (eqb-true x 39 z))
     go true l false z a b =
-        let w : Heard s x = heard-above s x (ltb-true (floorOf s) (getD codes x 0) l) in
+        let w : Heard s x = heard-above s x (ltb-true (floorOf s) (getD backTable x 0) l) in
         ap (after (character s x)) a
-        ∙ whole-character (length xs) (character s x) (pieceIn codes s xs) (spoken codes s xs) (w .live)
-        ∙ ap (λ (y : ℕ). whole (suc (length xs)) (pieceAfter 1 1 (pieceIn codes s xs)) (y ∷ spoken codes s xs)) (w .is)
-    go false l true z a b = ap past b ∙ whole-mark (length xs) (pieceIn codes (not s) xs) (spoken codes (not s) xs)
-    go false l false z a b = ap (λ (y : ℕ). after y (reads s xs)) (heard-below s x (ltb-false (floorOf s) (getD codes x 0) l) (eqb-false x 39 z))
+        ∙ whole-character (length xs) (character s x) (pieceIn backTable s xs) (spoken backTable s xs) (w .live)
+        ∙ ap (λ (y : ℕ). whole (suc (length xs)) (pieceAfter 1 1 (pieceIn backTable s xs)) (y ∷ spoken backTable s xs)) (w .is)
+    go false l true z a b = ap past b ∙ whole-mark (length xs) (pieceIn backTable (not s) xs) (spoken backTable (not s) xs)
+    go false l false z a b = ap (λ (y : ℕ). after y (reads s xs)) (heard-below s x (ltb-false (floorOf s) (getD backTable x 0) l) (eqb-false x 39 z))
 
 -- ---- the loop over a piece, with any table
 after-after : (i n j m : ℕ) (p : Piece) → pieceAfter i n (pieceAfter j m p) ≡ pieceAfter (i + j) (n + m) p
@@ -202,26 +202,26 @@ after-was (suc y) (said u) d e =
     let f : d ≡ suc y ∷ u = cc in
     (ap (λ (l : List ℕ). getD l 0 0) (sym f), ap (λ (l : List ℕ). said (tail l)) (sym f))
 
-next-character : (s : Bool) (b d : List ℕ) → reads s b ≡ said d → Next b d (characterIn codes s b)
+next-character : (s : Bool) (b d : List ℕ) → reads s b ≡ said d → Next b d (characterIn backTable s b)
 unfolding reads characterIn
 next-character false [] d e = let f : d ≡ [] = cc in record { first = ap (λ (l : List ℕ). getD l 0 0) (sym f); rest = ap (λ (l : List ℕ). said (tail l)) (sym f) }
 next-character true [] d e = absurd (not-said 0 d e)
-next-character s (x ∷ xs) d e = go (ltb (floorOf s) (getD codes x 0)) refl (eqb x 39) refl e (next-character (not s) xs d)
+next-character s (x ∷ xs) d e = go (ltb (floorOf s) (getD backTable x 0)) refl (eqb x 39) refl e (next-character (not s) xs d)
   where
-    go : (q : Bool) → ltb (floorOf s) (getD codes x 0) ≡ q → (r : Bool) → eqb x 39 ≡ r → pick r (past (reads (not s) xs)) (after (character s x) (reads s xs)) ≡ said d
-        → (reads (not s) xs ≡ said d → Next xs d (characterIn codes (not s) xs))
-        → Next (x ∷ xs) d (pick q (record { value = heardOf s (getD codes x 0) x; next = 1; latin = s }) (pick r (characterAfter 1 (characterIn codes (not s) xs)) (record { value = 0; next = 0; latin = s })))
+    go : (q : Bool) → ltb (floorOf s) (getD backTable x 0) ≡ q → (r : Bool) → eqb x 39 ≡ r → pick r (past (reads (not s) xs)) (after (character s x) (reads s xs)) ≡ said d
+        → (reads (not s) xs ≡ said d → Next xs d (characterIn backTable (not s) xs))
+        → Next (x ∷ xs) d (pick q (record { value = heardOf s (getD backTable x 0) x; next = 1; latin = s }) (pick r (characterAfter 1 (characterIn backTable (not s) xs)) (record { value = 0; next = 0; latin = s })))
     go true l r z e h =
-        let w : Heard s x = heard-above s x (ltb-true (floorOf s) (getD codes x 0) l) in
+        let w : Heard s x = heard-above s x (ltb-true (floorOf s) (getD backTable x 0) l) in
         let n : r ≡ false = sym z ∙ ne-eqb x 39 (w .no-mark) in
         let v = after-was (character s x) (reads s xs) d (ap (λ (q : Bool). pick q (past (reads (not s) xs)) (after (character s x) (reads s xs))) (sym n) ∙ e) in
         record { first = sym (w .is) ∙ v .0; rest = v .1 }
     go false l true z e h =
-        let w : Next xs d (characterIn codes (not s) xs) = h (past-was (reads (not s) xs) d e) in
-        let n : 1 + characterIn codes (not s) xs .next ≡ suc (characterIn codes (not s) xs .next) = omega arith in
-        record { first = w .first; rest = ap (λ (k : ℕ). reads (characterIn codes (not s) xs .latin) (drop k (x ∷ xs))) n ∙ w .rest }
+        let w : Next xs d (characterIn backTable (not s) xs) = h (past-was (reads (not s) xs) d e) in
+        let n : 1 + characterIn backTable (not s) xs .next ≡ suc (characterIn backTable (not s) xs .next) = omega arith in
+        record { first = w .first; rest = ap (λ (k : ℕ). reads (characterIn backTable (not s) xs .latin) (drop k (x ∷ xs))) n ∙ w .rest }
     go false l false z e h =
-        let y : character s x ≡ 0 = heard-below s x (ltb-false (floorOf s) (getD codes x 0) l) (eqb-false x 39 z) in
+        let y : character s x ≡ 0 = heard-below s x (ltb-false (floorOf s) (getD backTable x 0) l) (eqb-false x 39 z) in
         absurd (not-said 0 d (ap (λ (n : ℕ). after n (reads s xs)) (sym y) ∙ e))
 
 tail-at : (d : List ℕ) (j : ℕ) → getD (tail d) j 0 ≡ getD d (suc j) 0
@@ -229,12 +229,12 @@ tail-at [] j = refl
 tail-at (x ∷ d) j = refl
 
 -- they are those of its reading
-pub characters-said : (n : ℕ) (s : Bool) (b : List ℕ) (i : ℕ) (d : List ℕ) → reads s (drop i b) ≡ said d → (j : ℕ) → j < n → getD (charactersFrom codes n s b i) j 0 ≡ getD d j 0
+pub characters-said : (n : ℕ) (s : Bool) (b : List ℕ) (i : ℕ) (d : List ℕ) → reads s (drop i b) ≡ said d → (j : ℕ) → j < n → getD (charactersFrom backTable n s b i) j 0 ≡ getD d j 0
 unfolding charactersFrom characterFrom
 characters-said zero s b i d e j h = absurd (omega arith)
 characters-said (suc n) s b i d e zero h = next-character s (drop i b) d e .first
 characters-said (suc n) s b i d e (suc j) h =
-    let r : Character = characterIn codes s (drop i b) in
+    let r : Character = characterIn backTable s (drop i b) in
     characters-said n (r .latin) b (i + r .next) (tail d) (ap (reads (r .latin)) (sym (drop-drop (r .next) i b)) ∙ next-character s (drop i b) d e .rest) j (omega arith)
     ∙ tail-at d j
 

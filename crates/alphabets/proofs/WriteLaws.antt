@@ -20,7 +20,7 @@ use Rattle.alphabets.specs.Grid.{grid, Kind, unwritable, russian, latin,
 use Rattle.alphabets.specs.Best.{latinFirst, latinNext, best, Spot, nowhere, at, further, bad, orStuck, writes}
 use Rattle.alphabets.specs.Runs.{run, through}
 use Rattle.alphabets.specs.Parts.{extentOf}
-use Rattle.alphabets.specs.Steps.{sized, onward, shape, shapes, group, LatinRun}
+use Rattle.alphabets.specs.Steps.{sized, onward, gridValue, gridTable, group, LatinRun}
 use Rattle.alphabets.specs.declared.parts.Extent.{Extent}
 use Rattle.alphabets.specs.declared.parts.Extent.the-variants.{Takes, Halts, Long}
 use Rattle.alphabets.proofs.GridLaws.{big-kind}
@@ -55,47 +55,47 @@ kindBy v x = pick (eqb v 0) unwritable (pick (eqb v 1) latin (pick (eqb v x) com
 abbrev right : ℕ → ℕ → Bool
 right x v = eqb (number (kind x)) (number (kindBy v x)) && eqb (pick (ltb 1 v) (spell (kind x) false x) v) v
 
-all-right : T (every right 0 shapes)
-unfolding grid marks isIn digit capital letter shared kind shape shapes
+all-right : T (every right 0 gridTable)
+unfolding grid marks isIn digit capital letter shared kind gridValue gridTable
 all-right = tt
 
-shape-length : length shapes ≡ 256
-unfolding shapes
+shape-length : length gridTable ≡ 256
+unfolding gridTable
 shape-length = refl
 
-past-table : (x : ℕ) → 256 ≤ x → getD shapes x 0 ≡ 0
-past-table x h = List·getD-eq-default shapes 0 (rw shape-length h)
+past-table : (x : ℕ) → 256 ≤ x → getD gridTable x 0 ≡ 0
+past-table x h = List·getD-eq-default gridTable 0 (rw shape-length h)
 
 record Shaped (x : ℕ) : Type 0 where
-  is : kind x ≡ kindBy (getD shapes x 0) x
-  spelt : 1 < getD shapes x 0 → spell (kind x) false x ≡ getD shapes x 0
+  is : kind x ≡ kindBy (getD gridTable x 0) x
+  spelt : 1 < getD gridTable x 0 → spell (kind x) false x ≡ getD gridTable x 0
 
 shaped : (x : ℕ) → Shaped x
 shaped x = go (decLt x 256)
   where
     go : Dec (x < 256) → Shaped x
     go (yes l) =
-        let v : ℕ = getD shapes x 0 in
-        let t = table.at right shapes all-right x (rw shape-length l) in
+        let v : ℕ = getD gridTable x 0 in
+        let t = table.at right gridTable all-right x (rw shape-length l) in
         record {
           is = sym (is-numbered (kind x)) ∙ ap numbered (eqb→eq (number (kind x)) (number (kindBy v x)) (and-left (eqb (number (kind x)) (number (kindBy v x))) _ t)) ∙ is-numbered (kindBy v x);
-          spelt = λ h. rw (lt-ltb 1 (getD shapes x 0) h) at (eqb→eq (pick (ltb 1 v) (spell (kind x) false x) v) v (and-right (eqb (number (kind x)) (number (kindBy v x))) _ t));
+          spelt = λ h. rw (lt-ltb 1 (getD gridTable x 0) h) at (eqb→eq (pick (ltb 1 v) (spell (kind x) false x) v) v (and-right (eqb (number (kind x)) (number (kindBy v x))) _ t));
         }
     go (no l) =
-        let z : getD shapes x 0 ≡ 0 = past-table x (omega arith) in
+        let z : getD gridTable x 0 ≡ 0 = past-table x (omega arith) in
         record { is = big-kind x (omega arith) ∙ rw z; spelt = λ h. absurd (omega arith) }
 
-pub is-unwritable : (x : ℕ) → getD shapes x 0 ≡ 0 → kind x ≡ unwritable
-is-unwritable x e = shaped x .is ∙ rw (eq-eqb (getD shapes x 0) 0 e)
+pub is-unwritable : (x : ℕ) → getD gridTable x 0 ≡ 0 → kind x ≡ unwritable
+is-unwritable x e = shaped x .is ∙ rw (eq-eqb (getD gridTable x 0) 0 e)
 
-pub is-latin : (x : ℕ) → getD shapes x 0 ≡ 1 → kind x ≡ latin
+pub is-latin : (x : ℕ) → getD gridTable x 0 ≡ 1 → kind x ≡ latin
 is-latin x e = shaped x .is ∙ rw e
 
-pub is-common : (x : ℕ) → (getD shapes x 0 ≡ 0 → ⊥) → (getD shapes x 0 ≡ 1 → ⊥) → getD shapes x 0 ≡ x → kind x ≡ common
-is-common x n m e = shaped x .is ∙ rw (ne-eqb (getD shapes x 0) 0 n, ne-eqb (getD shapes x 0) 1 m, eq-eqb (getD shapes x 0) x e)
+pub is-common : (x : ℕ) → (getD gridTable x 0 ≡ 0 → ⊥) → (getD gridTable x 0 ≡ 1 → ⊥) → getD gridTable x 0 ≡ x → kind x ≡ common
+is-common x n m e = shaped x .is ∙ rw (ne-eqb (getD gridTable x 0) 0 n, ne-eqb (getD gridTable x 0) 1 m, eq-eqb (getD gridTable x 0) x e)
 
-pub is-russian : (x : ℕ) → (getD shapes x 0 ≡ 0 → ⊥) → (getD shapes x 0 ≡ 1 → ⊥) → (getD shapes x 0 ≡ x → ⊥) → kind x ≡ russian
-is-russian x n m e = shaped x .is ∙ rw (ne-eqb (getD shapes x 0) 0 n, ne-eqb (getD shapes x 0) 1 m, ne-eqb (getD shapes x 0) x e)
+pub is-russian : (x : ℕ) → (getD gridTable x 0 ≡ 0 → ⊥) → (getD gridTable x 0 ≡ 1 → ⊥) → (getD gridTable x 0 ≡ x → ⊥) → kind x ≡ russian
+is-russian x n m e = shaped x .is ∙ rw (ne-eqb (getD gridTable x 0) 0 n, ne-eqb (getD gridTable x 0) 1 m, ne-eqb (getD gridTable x 0) x e)
 
 -- ---- sizes, one behind another
 onward-onward : (i n j m : ℕ) (z : Extent) → onward i n (onward j m z) ≡ onward (i + j) (n + m) z
@@ -120,32 +120,32 @@ size-mark (at k) t = let e : k ≡ 0 + k = omega arith in ap Halts e
 
 -- on the Russian side a character that has a shape above 1 is written as it
 record Shown (x : ℕ) (xs : List ℕ) : Type 0 where
-  text : best false (x ∷ xs) ≡ getD shapes x 0 ∷ best false xs
+  text : best false (x ∷ xs) ≡ getD gridTable x 0 ∷ best false xs
   fine : bad (x ∷ xs) ≡ further (bad xs)
 
-shown : (x : ℕ) (xs : List ℕ) → 1 < getD shapes x 0 → Shown x xs
+shown : (x : ℕ) (xs : List ℕ) → 1 < getD gridTable x 0 → Shown x xs
 unfolding best bad
-shown x xs h = go (eqb (getD shapes x 0) x) refl
+shown x xs h = go (eqb (getD gridTable x 0) x) refl
   where
-    no-0 : getD shapes x 0 ≡ 0 → ⊥
+    no-0 : getD gridTable x 0 ≡ 0 → ⊥
     no-0 e = omega arith
 
-    no-1 : getD shapes x 0 ≡ 1 → ⊥
+    no-1 : getD gridTable x 0 ≡ 1 → ⊥
     no-1 e = omega arith
 
-    first : (y : ℕ) → y ≡ getD shapes x 0 → y ∷ best false xs ≡ getD shapes x 0 ∷ best false xs
+    first : (y : ℕ) → y ≡ getD gridTable x 0 → y ∷ best false xs ≡ getD gridTable x 0 ∷ best false xs
     first y e = ap (λ (z : ℕ). z ∷ best false xs) e
 
-    go : (q : Bool) → eqb (getD shapes x 0) x ≡ q → Shown x xs
+    go : (q : Bool) → eqb (getD gridTable x 0) x ≡ q → Shown x xs
     go true e =
-        let k : kind x ≡ common = is-common x no-0 no-1 (eqb-true (getD shapes x 0) x e) in
+        let k : kind x ≡ common = is-common x no-0 no-1 (eqb-true (getD gridTable x 0) x e) in
         record { text = rw k (first x (rw k at (shaped x .spelt h))); fine = rw k }
     go false e =
-        let k : kind x ≡ russian = is-russian x no-0 no-1 (eqb-false (getD shapes x 0) x e) in
+        let k : kind x ≡ russian = is-russian x no-0 no-1 (eqb-false (getD gridTable x 0) x e) in
         record { text = rw k (first (getD grid x 0) (rw k at (shaped x .spelt h))); fine = rw k }
 
-size-russian : (x : ℕ) (xs : List ℕ) → 1 < getD shapes x 0 → sized false (x ∷ xs) ≡ onward 1 1 (sized false xs)
-size-russian x xs h = let w : Shown x xs = shown x xs h in rw (w .text, w .fine) (size-unit (bad xs) (getD shapes x 0) (best false xs))
+size-russian : (x : ℕ) (xs : List ℕ) → 1 < getD gridTable x 0 → sized false (x ∷ xs) ≡ onward 1 1 (sized false xs)
+size-russian x xs h = let w : Shown x xs = shown x xs h in rw (w .text, w .fine) (size-unit (bad xs) (getD gridTable x 0) (best false xs))
 
 size-unwritable : (s : Bool) (x : ℕ) (xs : List ℕ) → kind x ≡ unwritable → sized s (x ∷ xs) ≡ Halts 0
 unfolding bad
@@ -179,30 +179,30 @@ size-common x xs e = go (latinNext xs) refl
         ∙ sym (ap (onward 1 1) (size-leave xs n) ∙ onward-onward 1 1 0 1 (sized false xs))
 
 -- ---- the Russian run
-run-size : (d : List ℕ) → sized false d ≡ onward (run shapes 1 d) (run shapes 1 d) (sized false (drop (run shapes 1 d) d))
+run-size : (d : List ℕ) → sized false d ≡ onward (run gridTable 1 d) (run gridTable 1 d) (sized false (drop (run gridTable 1 d) d))
 unfolding run
 run-size [] = onward-none (sized false [])
-run-size (x ∷ xs) = go (ltb 1 (getD shapes x 0)) refl (run-size xs)
+run-size (x ∷ xs) = go (ltb 1 (getD gridTable x 0)) refl (run-size xs)
   where
     r : ℕ
-    r = run shapes 1 xs
+    r = run gridTable 1 xs
 
-    go : (q : Bool) → ltb 1 (getD shapes x 0) ≡ q → sized false xs ≡ onward r r (sized false (drop r xs))
+    go : (q : Bool) → ltb 1 (getD gridTable x 0) ≡ q → sized false xs ≡ onward r r (sized false (drop r xs))
         → sized false (x ∷ xs) ≡ onward (pick q (suc r) 0) (pick q (suc r) 0) (sized false (drop (pick q (suc r) 0) (x ∷ xs)))
     go false e ih = onward-none (sized false (x ∷ xs))
     go true e ih =
         let n : 1 + r ≡ suc r = omega arith in
-        size-russian x xs (ltb-true 1 (getD shapes x 0) e) ∙ ap (onward 1 1) ih ∙ onward-onward 1 1 r r (sized false (drop r xs)) ∙ ap (λ (k : ℕ). onward k k (sized false (drop r xs))) n
+        size-russian x xs (ltb-true 1 (getD gridTable x 0) e) ∙ ap (onward 1 1) ih ∙ onward-onward 1 1 r r (sized false (drop r xs)) ∙ ap (λ (k : ℕ). onward k k (sized false (drop r xs))) n
 
-run-text : (d : List ℕ) → best false d ≡ through shapes false d ++ best false (drop (run shapes 1 d) d)
+run-text : (d : List ℕ) → best false d ≡ through gridTable false d ++ best false (drop (run gridTable 1 d) d)
 unfolding run through
 run-text [] = refl
-run-text (x ∷ xs) = go (ltb 1 (getD shapes x 0)) refl (run-text xs)
+run-text (x ∷ xs) = go (ltb 1 (getD gridTable x 0)) refl (run-text xs)
   where
-    go : (q : Bool) → ltb 1 (getD shapes x 0) ≡ q → best false xs ≡ through shapes false xs ++ best false (drop (run shapes 1 xs) xs)
-        → best false (x ∷ xs) ≡ pick q (getD shapes x 0 ∷ through shapes false xs) [] ++ best false (drop (pick q (suc (run shapes 1 xs)) 0) (x ∷ xs))
+    go : (q : Bool) → ltb 1 (getD gridTable x 0) ≡ q → best false xs ≡ through gridTable false xs ++ best false (drop (run gridTable 1 xs) xs)
+        → best false (x ∷ xs) ≡ pick q (getD gridTable x 0 ∷ through gridTable false xs) [] ++ best false (drop (pick q (suc (run gridTable 1 xs)) 0) (x ∷ xs))
     go false e ih = refl
-    go true e ih = shown x xs (ltb-true 1 (getD shapes x 0) e) .text ∙ ap (λ (u : List ℕ). getD shapes x 0 ∷ u) ih
+    go true e ih = shown x xs (ltb-true 1 (getD gridTable x 0) e) .text ∙ ap (λ (u : List ℕ). getD gridTable x 0 ∷ u) ih
 
 -- ---- the Latin group
 group-first : (x : ℕ) (xs : List ℕ) → latinNext (x ∷ xs) ≡ true → best true (x ∷ xs) ≡ x ∷ best true xs
@@ -365,11 +365,11 @@ weighing-end desk marks i v h =
     let z : i + marks + 0 ≡ i + marks = omega arith in
     sym (v .whole ∙ ap (λ (b : List ℕ). onward i (i + marks) (sized false b)) (drop-of-length-le desk h) ∙ ap Takes z)
 
-module _ (desk : List ℕ) (marks i k : ℕ) (v : Weighing desk marks i) (r : k ≡ i + run shapes 1 (drop i desk)) (w : Ended shapes 1 desk k) where
+module _ (desk : List ℕ) (marks i k : ℕ) (v : Weighing desk marks i) (r : k ≡ i + run gridTable 1 (drop i desk)) (w : Ended gridTable 1 desk k) where
   -- the Russian run
   pub weighing-run : Weighing desk marks k
   weighing-run =
-      let n : ℕ = run shapes 1 (drop i desk) in
+      let n : ℕ = run gridTable 1 (drop i desk) in
       let z : Extent = sized false (drop k desk) in
       let a : i + n ≡ k = sym r in
       let b : i + marks + n ≡ k + marks = omega arith in
@@ -453,26 +453,26 @@ module _ {desk out₀ out : List ℕ} {from n i : ℕ} (v : Writing desk out₀ 
   writing-end h = putting-end (v .is) (ap (best false) (drop-of-length-le desk h))
 
   -- the Russian run
-  module _ (k : ℕ) (e : k ≡ i + run shapes 1 (drop i desk)) where
-    over-run : best false (drop i desk) ≡ through shapes false (drop i desk) ++ best false (drop k desk)
-    over-run = run-text (drop i desk) ∙ ap (λ (b : List ℕ). through shapes false (drop i desk) ++ best false b) (drop-drop (run shapes 1 (drop i desk)) i desk ∙ ap (λ (j : ℕ). drop j desk) (sym e))
+  module _ (k : ℕ) (e : k ≡ i + run gridTable 1 (drop i desk)) where
+    over-run : best false (drop i desk) ≡ through gridTable false (drop i desk) ++ best false (drop k desk)
+    over-run = run-text (drop i desk) ∙ ap (λ (b : List ℕ). through gridTable false (drop i desk) ++ best false b) (drop-drop (run gridTable 1 (drop i desk)) i desk ∙ ap (λ (j : ℕ). drop j desk) (sym e))
 
-    pub run-step : Writing desk out₀ (sets out n (through shapes false (drop i desk))) from (n + (k - i)) k
+    pub run-step : Writing desk out₀ (sets out n (through gridTable false (drop i desk))) from (n + (k - i)) k
     run-step =
         record {
-          long = ended shapes 1 desk i k (v .long) e .within;
-          is = putting-by (v .is) (through shapes false (drop i desk)) (best false (drop k desk)) over-run (n + (k - i)) (omega (arith, through-length shapes false (drop i desk)));
+          long = ended gridTable 1 desk i k (v .long) e .within;
+          is = putting-by (v .is) (through gridTable false (drop i desk)) (best false (drop k desk)) over-run (n + (k - i)) (omega (arith, through-length gridTable false (drop i desk)));
         }
 
-  pub run-room : n + length (through shapes false (drop i desk)) ≤ length out
-  run-room = putting-room (v .is) (through shapes false (drop i desk)) _ (over-run (i + run shapes 1 (drop i desk)) refl)
+  pub run-room : n + length (through gridTable false (drop i desk)) ≤ length out
+  run-room = putting-room (v .is) (through gridTable false (drop i desk)) _ (over-run (i + run gridTable 1 (drop i desk)) refl)
 
   -- the Latin group behind it
-  module _ (b : bad desk ≡ nowhere) (h : i < length desk) (c : getD shapes (getD desk i 0) 0 ≤ 1) where
+  module _ (b : bad desk ≡ nowhere) (h : i < length desk) (c : getD gridTable (getD desk i 0) 0 ≤ 1) where
     is-here : kind (getD desk i 0) ≡ latin
-    is-here = go (decLt (getD shapes (getD desk i 0) 0) 1)
+    is-here = go (decLt (getD gridTable (getD desk i 0) 0) 1)
       where
-        go : Dec (getD shapes (getD desk i 0) 0 < 1) → kind (getD desk i 0) ≡ latin
+        go : Dec (getD gridTable (getD desk i 0) 0 < 1) → kind (getD desk i 0) ≡ latin
         go (yes z) = absurd (all-fine desk i b h (is-unwritable (getD desk i 0) (omega arith)))
         go (no z) = is-latin (getD desk i 0) (omega arith)
 

@@ -14,24 +14,24 @@ use Rattle.alphabets.specs.declared.parts.Extent.{Extent}
 use Rattle.alphabets.specs.declared.parts.Extent.the-variants.{Takes, Halts, Long}
 
 -- ---- a bank text: 0 for the apostrophe and outside the x set, 1 for a letter that only the Latin side reads, else what the Russian side reads
-unfoldable pub code : ℕ → ℕ
-code y = pick (eqb y 39) 0 (pick (letter y && eqb (character false y) 0) 1 (character false y))
+unfoldable pub backValue : ℕ → ℕ
+backValue y = pick (eqb y 39) 0 (pick (letter y && eqb (character false y) 0) 1 (character false y))
 
-unfoldable pub codes : List ℕ
-codes = values code 0 256
+unfoldable pub backTable : List ℕ
+backTable = values backValue 0 256
 
 -- ---- a desk text: 0 can't be written, 1 is a Latin letter, a shared character is itself, else the bank letter
-abbrev pub shapeBy : Kind → ℕ → ℕ
-shapeBy unwritable x = 0
-shapeBy russian x = getD grid x 0
-shapeBy latin x = 1
-shapeBy common x = x
+abbrev pub gridValueBy : Kind → ℕ → ℕ
+gridValueBy unwritable x = 0
+gridValueBy russian x = getD grid x 0
+gridValueBy latin x = 1
+gridValueBy common x = x
 
-unfoldable pub shape : ℕ → ℕ
-shape x = shapeBy (kind x) x
+unfoldable pub gridValue : ℕ → ℕ
+gridValue x = gridValueBy (kind x) x
 
-unfoldable pub shapes : List ℕ
-shapes = values shape 0 256
+unfoldable pub gridTable : List ℕ
+gridTable = values gridValue 0 256
 
 -- the size of what is still to be written from a side, and that of a text of which i bytes were taken and n units made, from that of the rest
 abbrev pub sized : Bool → List ℕ → Extent

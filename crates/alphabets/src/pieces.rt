@@ -1,10 +1,10 @@
 // A bank text read in pieces, as details that run over lines are, and its first characters. The table is lent, so that it is made once.
 ghost use mathlib.Core.Path.{_≡_};
 ghost use mathlib.Core.Bool.{false};
-ghost use Rattle.alphabets.specs.Steps.{codes};
+ghost use Rattle.alphabets.specs.Steps.{backTable};
 ghost use Rattle.alphabets.specs.Runs.{floorOf, heardOf};
 ghost use Rattle.alphabets.specs.Pieces.{pieceIn, characterFrom, charactersFrom};
-use super::codes::BACK;
+use super::backwards::BACK;
 use super::runs::run_of;
 use super::runs::value;
 
@@ -22,7 +22,7 @@ pub struct Character {
 }
 
 pub fn back_table() -> [u8; 256]
-    ensures { λ r. ⌜ r ≡ codes ⌝ }
+    ensures { λ r. ⌜ r ≡ backTable ⌝ }
 {
     BACK
 }

@@ -9,7 +9,7 @@ use Rattle.base.specs.Calls.{over, placed}
 use Rattle.base.specs.Quoted.{bytes, desk}
 use Rattle.base.specs.declared.Outcome.the-variants.{Done, Refused}
 use Rattle.alphabets.specs.Text.{ReadTo, WrittenTo}
-use Rattle.alphabets.specs.Steps.{codes}
+use Rattle.alphabets.specs.Steps.{backTable}
 use Rattle.alphabets.specs.Parts.{extent, pieceText}
 use Rattle.alphabets.specs.Parts as parts
 use Rattle.alphabets.specs.declared.parts.Extent.{Extent}
@@ -48,7 +48,7 @@ Holds (unread b n p) = ReadTo true (bytes b) room (Refused n p) room
 Holds (unwritten d n p) = WrittenTo true (desk d) room (Refused n p) room
 Holds (sized s d e) = extent s (desk d) ≡ e
 Holds (puts s d out at after) = placed (bytes out) at (parts.written s (desk d)) ≡ bytes after
-Holds (hears s b d) = pieceText codes s (bytes b) ≡ desk d
+Holds (hears s b d) = pieceText backTable s (bytes b) ≡ desk d
 Holds (worth a k) = kopecksOf (bytes "240229RUB" ++ bytes a) ≡ k
 Holds (isDay d) = realDay (bytes d) ≡ true
 Holds (noDay d) = realDay (bytes d) ≡ false

@@ -66,7 +66,7 @@ pub record BikTests (l : Text) : Type 0 where
   pub other : Not (length l ≡ 21)
   pub word : cut 0 4 l ≡ bytes "//RU"
   pub begins : cut 4 2 l ≡ bytes "04"
-  pub code : Digits 9 (cut 4 9 l)
+  pub nine : Digits 9 (cut 4 9 l)
   pub tail : Not (length l ≡ 13) → (length l ≡ 34) × (cut 13 1 l ≡ bytes ".") × Digits 20 (cut 14 20 l)
 
 pub bik-tests : (bik account l : Text) → PartyByBik bik account l → BikTests l
@@ -77,14 +77,14 @@ bik-tests bik account l t = go (t .number)
 
     go : Perhaps (Digits 20) account → BikTests l
     go (inl e) =
-        let p = stands-at (spot 4 4 ∷ spot 9 13 ∷ spot 0 13 ∷ []) (bytes "//RU" ∷ bik ∷ [] ∷ []) l (refl, refl, (t .code .size, refl, (refl, refl, tt))) (t .line ∙ rw e) in
+        let p = stands-at (spot 4 4 ∷ spot 9 13 ∷ spot 0 13 ∷ []) (bytes "//RU" ∷ bik ∷ [] ∷ []) l (refl, refl, (t .nine .size, refl, (refl, refl, tt))) (t .line ∙ rw e) in
         let z = p .1 .1 .1 in
-        record { least = omega arith; other = λ x. absurd (omega arith); word = p .0; begins = first (p .1 .0); code = rw (p .1 .0) (t .code); tail = λ off. absurd (off z) }
+        record { least = omega arith; other = λ x. absurd (omega arith); word = p .0; begins = first (p .1 .0); nine = rw (p .1 .0) (t .nine); tail = λ off. absurd (off z) }
     go (inr d) =
-        let p = stands-at (spot 4 4 ∷ spot 9 13 ∷ spot 1 14 ∷ spot 20 34 ∷ []) (bytes "//RU" ∷ bik ∷ bytes "." ∷ account ∷ []) l (refl, refl, (t .code .size, refl, (refl, refl, (d .size, refl, tt))))
+        let p = stands-at (spot 4 4 ∷ spot 9 13 ∷ spot 1 14 ∷ spot 20 34 ∷ []) (bytes "//RU" ∷ bik ∷ bytes "." ∷ account ∷ []) l (refl, refl, (t .nine .size, refl, (refl, refl, (d .size, refl, tt))))
         (t .line ∙ rw (mark-some "." account (omega (arith, d .size)))) in
         let z = p .1 .1 .1 .1 in
-        record { least = omega arith; other = λ x. absurd (omega arith); word = p .0; begins = first (p .1 .0); code = rw (p .1 .0) (t .code); tail = λ off. (z, p .1 .1 .0, rw (p .1 .1 .1 .0) d) }
+        record { least = omega arith; other = λ x. absurd (omega arith); word = p .0; begins = first (p .1 .0); nine = rw (p .1 .0) (t .nine); tail = λ off. (z, p .1 .1 .0, rw (p .1 .1 .1 .0) d) }
 
 pub account-tests : (account l : Text) → PartyByAccount account l → (length l ≡ 21) × (cut 0 1 l ≡ bytes "/") × Digits 20 (cut 1 20 l)
 account-tests a l t =
@@ -96,12 +96,12 @@ account-made l e w d = record { number = d; line = made (spot 1 1 ∷ spot 20 21
 
 module _ (l : Text) (w : cut 0 4 l ≡ bytes "//RU") (b : cut 4 2 l ≡ bytes "04") (c : Digits 9 (cut 4 9 l)) where
   pub bik-short : length l ≡ 13 → BikWith 0 l
-  bik-short e = (record { code = c; begins = take-take 2 9 (drop 4 l) (omega arith) ∙ b; number = inl refl; line = made (spot 4 4 ∷ spot 9 13 ∷ spot 0 13 ∷ []) l (refl, (refl, (refl, sym e))) ∙ rw w }, refl)
+  bik-short e = (record { nine = c; begins = take-take 2 9 (drop 4 l) (omega arith) ∙ b; number = inl refl; line = made (spot 4 4 ∷ spot 9 13 ∷ spot 0 13 ∷ []) l (refl, (refl, (refl, sym e))) ∙ rw w }, refl)
 
   pub bik-long : length l ≡ 34 → cut 13 1 l ≡ bytes "." → Digits 20 (cut 14 20 l) → BikWith 20 l
   bik-long e p d = (
     record {
-      code = c;
+      nine = c;
       begins = take-take 2 9 (drop 4 l) (omega arith) ∙ b;
       number = inr d;
       line = made (spot 4 4 ∷ spot 9 13 ∷ spot 1 14 ∷ spot 20 34 ∷ []) l (refl, (refl, (refl, (refl, sym e)))) ∙ rw (w, p, mark-some "." (cut 14 20 l) (omega (arith, d .size)));

@@ -208,7 +208,7 @@ looks-by {l} e = subst (Says (LooksTax l)) (sym e) (looks-says l)
 -- ---- Cparty
 pub bik-parts : {bik account l : Text} → PartyByBik bik account l → bikParts l ≡ bytes "//RU" ∷ bik ∷ withMark "." account ∷ []
 bik-parts {bik} {account} t =
-    ap bikParts (t .line) ∙ cut-once (sized 4 ∷ sized 9 ∷ []) (bytes "//RU" ∷ bik ∷ withMark "." account ∷ []) (refl, (t .code .size, tt))
+    ap bikParts (t .line) ∙ cut-once (sized 4 ∷ sized 9 ∷ []) (bytes "//RU" ∷ bik ∷ withMark "." account ∷ []) (refl, (t .nine .size, tt))
 
 no-digits : (n : ℕ) → Not (n ≡ 0) → Not (Digits n [])
 no-digits n z d = z (sym (d .size))
@@ -229,7 +229,7 @@ bik-says l =
       piece 1 (bikParts l),
       p .1 .1 .1 .0,
       record {
-        code = p .1 .0;
+        nine = p .1 .0;
         begins = p .1 .1 .0;
         number = p .1 .1 .1 .1;
         line = sym (cut-whole (sized 4 ∷ sized 9 ∷ []) l) ∙ ap₂ (λ (x y : Text). join (x ∷ piece 1 (bikParts l) ∷ y ∷ [])) (p .0) (p .1 .1 .1 .2);
@@ -237,7 +237,7 @@ bik-says l =
     )
 
     tested : {bik account : Text} → PartyByBik bik account l → BikTests (bikParts l)
-    tested {bik} {account} t = subst BikTests (sym (bik-parts t)) (refl, (t .code, (t .begins, (account, t .number, refl))))
+    tested {bik} {account} t = subst BikTests (sym (bik-parts t)) (refl, (t .nine, (t .begins, (account, t .number, refl))))
 
 pub party-says : (l : Line) → Says (IsParty l) (isParty l)
 unfolding isParty

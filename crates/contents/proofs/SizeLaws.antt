@@ -56,7 +56,7 @@ own-name l p = let e = simp length-append at (ap length (p .1 .line)) in let n =
 party-name : (l : Line) → IsParty l → Name l
 party-name l (inl (bik, account, p)) =
     let e = simp length-append at (ap length (p .line)) in
-    let c = p .code in
+    let c = p .nine in
     let b = mark-size "." account in
     let n = some-just 20 account (p .number) in
     record { least = omega arith; most = omega arith }

@@ -117,10 +117,10 @@ PayerSaid ls (held.Taxed p inn kpp) = AccountFirst true ls (held.Taxed p inn kpp
 
 -- ---- a line that begins with the VO code
 pub record VoFirst (sign : Bool) (l : Line) : Type 0 where
-  pub code : Text
+  pub vo : Text
   pub text : Text
-  pub digits : Digits 5 code
-  pub line : l ≡ join (opening sign ∷ code ∷ closing sign ∷ text ∷ [])
+  pub digits : Digits 5 vo
+  pub line : l ≡ join (opening sign ∷ vo ∷ closing sign ∷ text ∷ [])
 
 -- ---- banks
 abbrev pub noParty : Party → Bool
@@ -161,7 +161,7 @@ Later false = Name
 pub record NzpFirst (sign : Bool) (l : Line) : Type 0 where
   pub rest : Text
   pub line : l ≡ bytes "/NZP/" ++ rest
-  pub code : VoFirst sign rest
+  pub vo-first : VoFirst sign rest
   pub room : length rest ≤ 30
 
 -- where the VO code ends

@@ -89,21 +89,21 @@ abbrev pub Payer : List Line → Type 0
 Payer ls = Customer true ls or (Not (Then (BeginsWith "/") Any ls) × Beside true ls)
 
 -- ---- Cdetails: the VO code and a text of at least one byte, over lines that begin with these marks, each within its room
-pub record Details (first later : String) (room rest most : ℕ) (sign : Bool) (code t : Text) (ts : List Text) (ls : List Line) : Type 0 where
-  pub number : Digits 5 code
-  pub lines : ls ≡ join (bytes first ∷ opening sign ∷ code ∷ closing sign ∷ t ∷ []) ∷ map (λ (s : Text). bytes later ++ s) ts
-  pub front : length (join (opening sign ∷ code ∷ closing sign ∷ t ∷ [])) ≤ room
+pub record Details (first later : String) (room rest most : ℕ) (sign : Bool) (vo t : Text) (ts : List Text) (ls : List Line) : Type 0 where
+  pub number : Digits 5 vo
+  pub lines : ls ≡ join (bytes first ∷ opening sign ∷ vo ∷ closing sign ∷ t ∷ []) ∷ map (λ (s : Text). bytes later ++ s) ts
+  pub front : length (join (opening sign ∷ vo ∷ closing sign ∷ t ∷ [])) ≤ room
   pub back : AllHold (Size 1 rest) ts
   pub count : length ls ≤ most
   pub text : Not ((t ≡ []) × (ts ≡ []))
 
 -- C70: 1 to 4 lines of 1 to 35 bytes
 abbrev pub In70 : Bool → List Line → Type 0
-In70 sign ls = (code t : Text) × (ts : List Text) × Details "" "" 35 35 4 sign code t ts ls
+In70 sign ls = (vo t : Text) × (ts : List Text) × Details "" "" 35 35 4 sign vo t ts ls
 
 -- C72 in 202: /NZP/ with room for 30, then // with room for 33; at most six lines, an RPP line counted
 abbrev pub In72 : Bool → ℕ → List Line → Type 0
-In72 sign most ls = (code t : Text) × (ts : List Text) × Details "/NZP/" "//" 30 33 most sign code t ts ls
+In72 sign most ls = (vo t : Text) × (ts : List Text) × Details "/NZP/" "//" 30 33 most sign vo t ts ls
 
 abbrev pub RppAndDetails : Bool → List Line → Type 0
 RppAndDetails sign ls = In72 sign 6 ls or Then IsRpp (In72 sign 5) ls

@@ -44,7 +44,7 @@ pub record OwnAccount (account : Text) (l : Line) : Type 0 where
 
 -- Cparty: //RU, a BIK of nine digits that begins 04, then perhaps . and an account of 20 digits
 pub record PartyByBik (bik account : Text) (l : Line) : Type 0 where
-  pub code : Digits 9 bik
+  pub nine : Digits 9 bik
   pub begins : take 2 bik ≡ bytes "04"
   pub number : Perhaps (Digits 20) account
   pub line : l ≡ join (bytes "//RU" ∷ bik ∷ withMark "." account ∷ [])

@@ -12,7 +12,7 @@ use Rattle.base.specs.Says.{Not}
 use Rattle.base.specs.declared.Verdict.{Verdict}
 use Rattle.base.specs.declared.Verdict.the-variants.{Broken}
 use Rattle.base.proofs.SaysLaws.{says-so, says-not, says-same}
-use Rattle.alphabets.specs.Steps.{codes}
+use Rattle.alphabets.specs.Steps.{backTable}
 use Rattle.fields.specs.Field.{Field, fields, linesOf}
 use Rattle.fields.specs.Frame.{limit}
 use Rattle.fields.specs.Places.{sizeOf, startOf, nextOf}
@@ -39,7 +39,7 @@ use Rattle.roles.specs.declared.Spot.the-variants.{Nowhere, At}
 use Rattle.roles.specs.Rule14.{unheard, spoken}
 use Rattle.roles.specs.Found.{brokenIn, verdictAt}
 use Rattle.roles.proofs.BreachLaws.{unheard-within, spoken-within}
-use Rattle.roles.proofs.CodeLaws.{field-found, spoken-next}
+use Rattle.roles.proofs.BackTableLaws.{field-found, spoken-next}
 use Rattle.judge.specs.declared.parts.Part.{Part}
 use Rattle.judge.specs.declared.facts.Facts.{Facts}
 use Rattle.judge.specs.Parts.{Settled, Here}
@@ -124,15 +124,15 @@ module _ {m spots : List ℕ} {k : ℕ} {p : Part} (h : Here m spots k p) where
     abbrev unheard14 : ℕ → List Field → Verdict
     unheard14 o fs = unheard (spoken form o fs)
 
-    heard-here : {b : List ℕ} {s : Spot} → b ≡ codes → s ≡ brokenIn b form (unpack (p .tag)) content
+    heard-here : {b : List ℕ} {s : Spot} → b ≡ backTable → s ≡ brokenIn b form (unpack (p .tag)) content
         → unheard14 (byte spots k) (drop k (fields m)) ≡ then (verdictAt (p .start) s) (unheard14 (byte spots (k + 1)) (drop (k + 1) (fields m)))
     heard-here {b} {s} x e =
         let f = fieldOf h in
-        let same : s ≡ brokenIn codes form (h .tag) (joined (h .line ∷ h .more)) = e ∙ ap (λ (u : List ℕ). brokenIn u form (unpack (p .tag)) content) x ∙ ap₂ (brokenIn codes form) (h .tag-is) (h .content-is) in
+        let same : s ≡ brokenIn backTable form (h .tag) (joined (h .line ∷ h .more)) = e ∙ ap (λ (u : List ℕ). brokenIn u form (unpack (p .tag)) content) x ∙ ap₂ (brokenIn backTable form) (h .tag-is) (h .content-is) in
         at-field h unheard14 ∙ spoken-next form (p .colon) f (drop (k + 1) (fields m))
         ∙ ap₂ then (field-found form (p .colon) (h .tag) (h .line) (h .more) (h .no-cr) ∙ ap₂ verdictAt (sym (h .start-is)) (sym same)) (next-field h unheard14)
 
-    module _ {b : List ℕ} (x : b ≡ codes) where
+    module _ {b : List ℕ} (x : b ≡ backTable) where
       pub unheard-here : {i : ℕ} → At i ≡ brokenIn b form (unpack (p .tag)) content → Broken 14 (p .start + i) ≡ unheard14 (byte spots k) (drop k (fields m))
       unheard-here e = sym (heard-here x e)
 

@@ -1,4 +1,4 @@
--- 14 over one content, line by line; and that with the table of codes it is the rule over the field. Assumes nothing.
+-- 14 over one content, line by line; and that with the table backwards it is the rule over the field. Assumes nothing.
 use Prim.Native.Nat.{ℕ, _+_, _-_, _<_, _≤_, min}
 use mathlib.Core.Path.{_≡_, refl, sym, ap, ap₂, _∙_}
 use mathlib.Core.Bool.{Bool, true, false, not, _&&_, _||_, and-true}

@@ -1,5 +1,5 @@
--- 14 over one content, as code finds it: the content in bytes, the table lent, places counted from the content's start. With the table of codes
--- it is the rule (proofs/CodeLaws). Assumes nothing.
+-- 14 over one content, as code finds it: the content in bytes, the table lent, places counted from the content's start. With the table backwards
+-- it is the rule (proofs/BackTableLaws). Assumes nothing.
 use Prim.Native.Nat.{ℕ, _+_}
 use mathlib.Core.Bool.{Bool, true, false, _||_, _&&_, not}
 use mathlib.Core.List.{List, [], _∷_, _++_, map}

@@ -1,5 +1,5 @@
 -- What the functions say to each other that put a message's sheet into room: fields, lines and texts as code finds them, the table lent (S2, T7,
--- T12, Cdetails, C72). With the table of codes, over an accepted message, this is its sheet (proofs/ReadLaws). Assumes nothing.
+-- T12, Cdetails, C72). With the table backwards, over an accepted message, this is its sheet (proofs/ReadLaws). Assumes nothing.
 use Prim.Native.Nat.{ℕ, _+_, _-_, _≤_, _<_}
 use mathlib.Core.Path.{_≡_}
 use mathlib.Core.Bool.{Bool, false, _&&_}

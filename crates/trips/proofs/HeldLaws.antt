@@ -24,7 +24,7 @@ use Rattle.roles.specs.Rule14.{texts, spoken}
 use Rattle.roles.specs.Sentences.{Heard}
 use Rattle.roles.specs.declared.Shape.{Shape}
 use Rattle.roles.proofs.BreachLaws.{rule14-fine}
-use Rattle.roles.proofs.CodeLaws.{speeches-moved}
+use Rattle.roles.proofs.BackTableLaws.{speeches-moved}
 use Rattle.judge.specs.Message.{verdictOf}
 use Rattle.judge.proofs.RuleLaws.{accepted-rules}
 use Rattle.written.proofs.ReadyLaws.{Fair}

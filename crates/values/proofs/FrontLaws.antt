@@ -98,7 +98,7 @@ module _ (c : Text) where
       let e : n ≡ 20 = sym st ∙ perhaps-size 20 (cut 14 n l) (p .number) (λ y. z (sym st ∙ y)) in
       let h = stand-within 14 n l st z in
       let k = first-long c l ls q in
-      let a : lastThree (cut 4 9 l) ≡ cut 10 3 c = last-cut 4 9 l (p .code .size) (omega arith) ∙ first-cut c l ls q 10 3 (omega arith) in
+      let a : lastThree (cut 4 9 l) ≡ cut 10 3 c = last-cut 4 9 l (p .nine .size) (omega arith) ∙ first-cut c l ls q 10 3 (omega arith) in
       let f : 14 + (n - 3) ≡ 31 = omega arith in
       let b : lastThree (cut 14 n l) ≡ cut 31 3 c = last-cut 14 n l st (omega arith) ∙ ap (λ (i : ℕ). cut i 3 l) f ∙ first-cut c l ls q 31 3 (omega arith) in (
         omega arith,

@@ -6,7 +6,7 @@ use mathlib.Core.List.{List}
 use native.Mathlib.Omega.{arith}
 use borrow.Author.Needs.{needs}
 use lib.ListN.{length, drop, getD}
-use Rattle.alphabets.specs.Steps.{sized, onward, shapes}
+use Rattle.alphabets.specs.Steps.{sized, onward, gridTable}
 use Rattle.alphabets.proofs.WriteLaws.{is-unwritable, is-latin, is-common, is-russian, next-unwritable, next-russian, next-none, latin-run-start, latin-run-latin, latin-run-common, Grouping, grouping-start, grouping-latin, grouping-common, grouping-end}
 use Rattle.alphabets.proofs.writing.stretch_from.Statement.{statement}
 use Rattle.alphabets.proofs.writing.stretch_from.Tie as tie
@@ -18,7 +18,7 @@ abbrev μ-loop : tie.MeasureT-loop
 μ-loop grid desk from last₀ i₀ last i = length desk - i
 
 -- the shape of the character at hand, by the table
-shape-of : (c : tie.After-value Inv-loop μ-loop) → let l = c .before .before .before in c .value .result ≡ getD shapes (getD (l .before .before .args .desk .now) (l .loop .i) 0) 0
+shape-of : (c : tie.After-value Inv-loop μ-loop) → let l = c .before .before .before in c .value .result ≡ getD gridTable (getD (l .before .before .args .desk .now) (l .loop .i) 0) 0
 shape-of c =
     let l = c .before .before .before in
     let a = l .before .before in

@@ -1,4 +1,4 @@
--- With the table of codes, what is found in a content is 14 over the field. Assumes nothing.
+-- With the table backwards, what is found in a content is 14 over the field. Assumes nothing.
 use Prim.Native.Nat.{ℕ, _+_, _<_, _≤_}
 use mathlib.Core.Path.{_≡_, refl, sym, ap, ap₂, _∙_}
 use mathlib.Core.Bool.{Bool, true, false, _&&_, _||_}
@@ -14,7 +14,7 @@ use Rattle.base.specs.Rules.{then}
 use Rattle.base.specs.Calls.{Answer, said, stuck, textOf}
 use Rattle.base.specs.declared.Verdict.the-variants.{Broken}
 use Rattle.alphabets.specs.Bank.{reads, reading}
-use Rattle.alphabets.specs.Steps.{codes}
+use Rattle.alphabets.specs.Steps.{backTable}
 use Rattle.alphabets.specs.Pieces.{pieceIn, whole, charactersFrom}
 use Rattle.alphabets.specs.Parts.{spoken as heard}
 use Rattle.alphabets.specs.declared.pieces.Piece.{Piece}
@@ -63,26 +63,26 @@ module _ (d u : List ℕ) (h : (j : ℕ) → j < 4 → getD d j 0 ≡ getD u j 0
   same-clauses asName q b = ap (λ (x : Bool). q || x) (same-hidden b)
   same-clauses asTaxName q b = ap₂ (λ (x y : Bool). q || (x || y)) (same-hidden b) same-like
 
-pub mute-codes : (b : List ℕ) → muteIn (pieceIn codes false b) ≡ mute (reading true b)
-mute-codes b = go (pieceIn codes false b) (counted codes false b) ∙ ap mute (sym (reads-piece false b))
+pub mute-back : (b : List ℕ) → muteIn (pieceIn backTable false b) ≡ mute (reading true b)
+mute-back b = go (pieceIn backTable false b) (counted backTable false b) ∙ ap mute (sym (reads-piece false b))
   where
-    go : (p : Piece) → ((n : ℕ) (z : Bool) → p ≡ Read n z → n ≡ length (heard codes false b)) → muteIn p ≡ mute (whole (length b) p (heard codes false b))
+    go : (p : Piece) → ((n : ℕ) (z : Bool) → p ≡ Read n z → n ≡ length (heard backTable false b)) → muteIn p ≡ mute (whole (length b) p (heard backTable false b))
     go (Stops k) h = refl
     go (Read n true) h = refl
-    go (Read n false) h = by (heard codes false b) (h n false refl)
+    go (Read n false) h = by (heard backTable false b) (h n false refl)
       where
         by : (u : List ℕ) → n ≡ length u → eqb n 0 ≡ empty u
         by [] e = rw e
         by (x ∷ u) e = ne-eqb n 0 (λ z. omega arith)
 
-pub breaks-codes : (m : Manner) (b : List ℕ) → breaksIn codes m b ≡ breaks m b
+pub breaks-back : (m : Manner) (b : List ℕ) → breaksIn backTable m b ≡ breaks m b
 unfolding breaksIn breaks
-breaks-codes m b = ap (λ (q : Bool). clauses m q b (charactersFrom codes 4 false b 0)) (mute-codes b) ∙ go (reads false b) refl
+breaks-back m b = ap (λ (q : Bool). clauses m q b (charactersFrom backTable 4 false b 0)) (mute-back b) ∙ go (reads false b) refl
   where
-    go : (a : Answer) → reads false b ≡ a → clauses m (mute (reads false b)) b (charactersFrom codes 4 false b 0) ≡ clauses m (mute (reads false b)) b (textOf (reads false b))
-    go (stuck k) e = ap (λ (a : Answer). clauses m (mute a) b (charactersFrom codes 4 false b 0)) e ∙ first-clause m b (charactersFrom codes 4 false b 0) ∙ sym (ap (λ (a : Answer). clauses m (mute a) b (textOf a)) e ∙ first-clause m b [])
+    go : (a : Answer) → reads false b ≡ a → clauses m (mute (reads false b)) b (charactersFrom backTable 4 false b 0) ≡ clauses m (mute (reads false b)) b (textOf (reads false b))
+    go (stuck k) e = ap (λ (a : Answer). clauses m (mute a) b (charactersFrom backTable 4 false b 0)) e ∙ first-clause m b (charactersFrom backTable 4 false b 0) ∙ sym (ap (λ (a : Answer). clauses m (mute a) b (textOf a)) e ∙ first-clause m b [])
     go (said d) e =
-        same-clauses (charactersFrom codes 4 false b 0) d (characters-said 4 false b 0 d e) m (mute (reads false b)) b
+        same-clauses (charactersFrom backTable 4 false b 0) d (characters-said 4 false b 0 d e) m (mute (reads false b)) b
         ∙ ap (λ (u : List ℕ). clauses m (mute (reads false b)) b u) (sym (ap textOf e))
 
 -- ---- texts further on
@@ -137,18 +137,18 @@ speeches-moved s Note103 o i ls = refl
 speeches-moved s Note202 o i ls = note-moved s o i ls
 
 -- ---- what is found is the rule
-found-unheard : (o : ℕ) (xs : List Speech) → unheard (map (moved o) xs) ≡ verdictAt o (found codes xs)
+found-unheard : (o : ℕ) (xs : List Speech) → unheard (map (moved o) xs) ≡ verdictAt o (found backTable xs)
 unfolding unheard found
 found-unheard o [] = refl
-found-unheard o (speech m p b ∷ xs) = ap (λ (q : Bool). pick q (Broken 14 (o + p)) (unheard (map (moved o) xs))) (sym (breaks-codes m b)) ∙ go (breaksIn codes m b) (found-unheard o xs)
+found-unheard o (speech m p b ∷ xs) = ap (λ (q : Bool). pick q (Broken 14 (o + p)) (unheard (map (moved o) xs))) (sym (breaks-back m b)) ∙ go (breaksIn backTable m b) (found-unheard o xs)
   where
-    go : (q : Bool) → unheard (map (moved o) xs) ≡ verdictAt o (found codes xs) → pick q (Broken 14 (o + p)) (unheard (map (moved o) xs)) ≡ verdictAt o (pick q (At p) (found codes xs))
+    go : (q : Bool) → unheard (map (moved o) xs) ≡ verdictAt o (found backTable xs) → pick q (Broken 14 (o + p)) (unheard (map (moved o) xs)) ≡ verdictAt o (pick q (At p) (found backTable xs))
     go true e = refl
     go false e = e
 
 -- one field: its content is its lines with CR LF between them
 pub field-found : (form : Form) (o : ℕ) (t l : List ℕ) (ls : List (List ℕ)) → all (without 13) (l ∷ ls) ≡ true
-    → unheard (texts form o (field t (l ∷ ls))) ≡ verdictAt (startOf o (field t (l ∷ ls))) (brokenIn codes form t (joined (l ∷ ls)))
+    → unheard (texts form o (field t (l ∷ ls))) ≡ verdictAt (startOf o (field t (l ∷ ls))) (brokenIn backTable form t (joined (l ∷ ls)))
 unfolding brokenIn
 field-found form o t l ls e =
     let n : ℕ = startOf o (field t (l ∷ ls)) in
@@ -156,11 +156,11 @@ field-found form o t l ls e =
     ap (λ (k : ℕ). unheard (speeches true (shapeOf form t) k (l ∷ ls))) z
     ∙ ap unheard (speeches-moved true (shapeOf form t) n 0 (l ∷ ls))
     ∙ found-unheard n (speeches true (shapeOf form t) 0 (l ∷ ls))
-    ∙ ap (λ (k : List (List ℕ)). verdictAt n (found codes (speeches true (shapeOf form t) 0 k))) (sym (lines-joined l ls e))
+    ∙ ap (λ (k : List (List ℕ)). verdictAt n (found backTable (speeches true (shapeOf form t) 0 k))) (sym (lines-joined l ls e))
 
 -- the place found lies in the content, or just behind it
 pub spot-within : (form : Form) (t l : List ℕ) (ls : List (List ℕ)) (p : ℕ) → all (without 13) (l ∷ ls) ≡ true
-    → brokenIn codes form t (joined (l ∷ ls)) ≡ At p → p ≤ length (joined (l ∷ ls)) + 4
+    → brokenIn backTable form t (joined (l ∷ ls)) ≡ At p → p ≤ length (joined (l ∷ ls)) + 4
 spot-within form t l ls p e u =
     let n : ℕ = startOf 0 (field t (l ∷ ls)) in
     let z = joined-length l ls in
