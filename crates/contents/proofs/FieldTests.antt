@@ -14,9 +14,9 @@ use Rattle.base.specs.Examples.{AllHold}
 use Rattle.contents.specs.declared.Content.{Content}
 use Rattle.contents.specs.declared.Content.the-variants as holds
 use Rattle.contents.specs.Words.{Text, Line, Size, Digits, join}
-use Rattle.contents.specs.Lines.{Name, opening, closing}
+use Rattle.contents.specs.Lines.{Name, codeOpening, codeClosing}
 use Rattle.contents.specs.Fields.{One, Then, Any, Several, Names, Beside, Customer, Payer, Details, Right}
-use Rattle.contents.specs.Tests.{sized, piece, sizes, isName, one, after, any, several, beside, customer, payer, codeParts, codeTest, laterTest, details, right}
+use Rattle.contents.specs.Tests.{sized, piece, sizes, isName, one, after, any, several, beside, customer, payer, codeParts, codeTest, laterTest, isDetails, right}
 use Rattle.contents.proofs.CutLaws.{cut-whole, cut-once}
 use Rattle.contents.proofs.LineTests.{size-says, just-says, starts-says, begins-says, reference-says, purpose-says, payment-says, own-says, account-says, looks-says, party-says, bic-says, tax-says, rpp-says}
 
@@ -60,20 +60,20 @@ payer-says ls = says-or (customer-says true ls) (says-and (says-no (then-says _ 
 
 -- ---- details: the first line
 pub code-parts : (first : String) (sign : Bool) (code t : Text) → Digits 5 code
-    → codeParts (bytes first) sign (join (bytes first ∷ opening sign ∷ code ∷ closing sign ∷ t ∷ [])) ≡ bytes first ∷ opening sign ∷ code ∷ closing sign ∷ t ∷ []
+    → codeParts (bytes first) sign (join (bytes first ∷ codeOpening sign ∷ code ∷ codeClosing sign ∷ t ∷ [])) ≡ bytes first ∷ codeOpening sign ∷ code ∷ codeClosing sign ∷ t ∷ []
 code-parts first sign code t d =
-    cut-once (sized (length (bytes first)) ∷ sized (length (opening sign)) ∷ sized 5 ∷ sized (length (closing sign)) ∷ []) (bytes first ∷ opening sign ∷ code ∷ closing sign ∷ t ∷ [])
+    cut-once (sized (length (bytes first)) ∷ sized (length (codeOpening sign)) ∷ sized 5 ∷ sized (length (codeClosing sign)) ∷ []) (bytes first ∷ codeOpening sign ∷ code ∷ codeClosing sign ∷ t ∷ [])
     (refl, (refl, (d .size, (refl, tt))))
 
 abbrev CodeTests : String → ℕ → Bool → List Text → Type 0
 CodeTests first room sign ts =
-    (piece 0 ts ≡ bytes first) × ((piece 1 ts ≡ opening sign) × (Digits 5 (piece 2 ts) × ((piece 3 ts ≡ closing sign)
-    × (length (opening sign) + (5 + (length (closing sign) + length (piece 4 ts))) ≤ room))))
+    (piece 0 ts ≡ bytes first) × ((piece 1 ts ≡ codeOpening sign) × (Digits 5 (piece 2 ts) × ((piece 3 ts ≡ codeClosing sign)
+    × (length (codeOpening sign) + (5 + (length (codeClosing sign) + length (piece 4 ts))) ≤ room))))
 
 code-tests : (first : String) (room : ℕ) (sign : Bool) (ts : List Text) → Says (CodeTests first room sign ts) (codeTest (bytes first) room sign ts)
 code-tests first room sign ts =
-    says-and (says-text (piece 0 ts) (bytes first)) (says-and (says-text (piece 1 ts) (opening sign)) (says-and (just-says digit 5 (piece 2 ts)) (says-and (says-text (piece 3 ts) (closing sign))
-    (says-le (length (opening sign) + (5 + (length (closing sign) + length (piece 4 ts)))) room))))
+    says-and (says-text (piece 0 ts) (bytes first)) (says-and (says-text (piece 1 ts) (codeOpening sign)) (says-and (just-says digit 5 (piece 2 ts)) (says-and (says-text (piece 3 ts) (codeClosing sign))
+    (says-le (length (codeOpening sign) + (5 + (length (codeClosing sign) + length (piece 4 ts)))) room))))
 
 -- ---- details: the later lines
 abbrev Marked : String → ℕ → Line → Type 0
@@ -118,9 +118,9 @@ module _ (first later : String) (room rest most : ℕ) (sign : Bool) where
           number = q .1 .1 .0;
           lines =
               ap₂ (λ (x : Line) (y : List Line). x ∷ y)
-              (sym (cut-whole (sized (length (bytes first)) ∷ sized (length (opening sign)) ∷ sized 5 ∷ sized (length (closing sign)) ∷ []) l)
+              (sym (cut-whole (sized (length (bytes first)) ∷ sized (length (codeOpening sign)) ∷ sized 5 ∷ sized (length (codeClosing sign)) ∷ []) l)
               ∙ ap₂ (λ (x y : Text). join (x ∷ y ∷ piece 2 ts ∷ piece 3 ts ∷ piece 4 ts ∷ [])) (q .0) (q .1 .0)
-              ∙ ap (λ (x : Text). join (bytes first ∷ opening sign ∷ piece 2 ts ∷ x ∷ piece 4 ts ∷ [])) (q .1 .1 .1 .0))
+              ∙ ap (λ (x : Text). join (bytes first ∷ codeOpening sign ∷ piece 2 ts ∷ x ∷ piece 4 ts ∷ [])) (q .1 .1 .1 .0))
               (w .1);
           front = simp (length-append, q .1 .1 .0 .size) (q .1 .1 .1 .1);
           back = w .2;
@@ -131,7 +131,7 @@ module _ (first later : String) (room rest most : ℕ) (sign : Bool) where
 
   tested : (l : Line) (ls : List Line) (code t : Text) (ts : List Text) → Details first later room rest most sign code t ts (l ∷ ls) → Parts l ls
   tested l ls code t ts d =
-      let e : l ≡ join (bytes first ∷ opening sign ∷ code ∷ closing sign ∷ t ∷ []) = cc (d .lines) in
+      let e : l ≡ join (bytes first ∷ codeOpening sign ∷ code ∷ codeClosing sign ∷ t ∷ []) = cc (d .lines) in
       let f : ls ≡ on later ts = cc (d .lines) in
       let g = ap (codeParts (bytes first) sign) e ∙ code-parts first sign code t (d .number) in
       let h : piece 4 (codeParts (bytes first) sign l) ≡ t = ap (piece 4) g in (
@@ -139,8 +139,8 @@ module _ (first later : String) (room rest most : ℕ) (sign : Bool) where
         (subst (AllHold (Marked later rest)) (sym f) (texts-marked later rest ts (d .back)), (d .count, λ z. d .text (sym h ∙ z .0, on-empty later ls ts f (z .1)))),
       )
 
-  pub details-says : (ls : List Line) → Says (IsDetails first later room rest most sign ls) (details (bytes first) (bytes later) room rest most sign ls)
-  unfolding details
+  pub details-says : (ls : List Line) → Says (IsDetails first later room rest most sign ls) (isDetails (bytes first) (bytes later) room rest most sign ls)
+  unfolding isDetails
   details-says [] = says-not (λ d. true≢false (ap empty (d .3 .lines)))
   details-says (l ∷ ls) =
       says-as (made l ls) (λ d. tested l ls (d .0) (d .1) (d .2) (d .3))

@@ -19,7 +19,7 @@ use Rattle.base.proofs.SaysLaws.{says-so, says-not, says-by, says-as, says-and,
 use Rattle.contents.specs.Words.{Text, Line, Size, Just, capitalOrDigit, Digits, Capitals, CapitalsOrDigits, join, Perhaps, withMark, BeginsWith}
 use Rattle.contents.specs.Lines.{Reference, twoDigits, Purpose, Payment, PartyByBik, Bic, Inn, TaxLine, Way, RppLine}
 use Rattle.contents.specs.Fields.{IsPurpose, IsPayment, IsOwnAccount, IsParty, IsBic, IsAccount, IsTax, LooksTax, IsRpp}
-use Rattle.contents.specs.Tests.{sized, digits, piece, sizes, just, starts, perhaps, ends, pair, isReference, numberIn, isPurpose, paymentParts, paymentTest, isPayment, isOwnAccount, bikParts, isPartyByBik, isParty, bicParts, isBic, isAccount, isInn, taxParts, isTax, looksTax, isWay, rppParts, rppTest, isRpp}
+use Rattle.contents.specs.Tests.{sized, digits, piece, sizes, just, starts, perhaps, ends, hasPair, isReference, numberIn, isPurpose, paymentParts, paymentTest, isPayment, isOwnAccount, bikParts, isPartyByBik, isParty, bicParts, isBic, isAccount, isInn, taxParts, isTax, looksTax, isWay, rppParts, rppTest, isRpp}
 use Rattle.contents.specs.Parts.{unmarked}
 use Rattle.contents.proofs.CutLaws.{cut-whole, cut-once}
 
@@ -85,8 +85,8 @@ ends-says (x ∷ y ∷ l) = says-as (λ b. (x ∷ b .0, ap (λ (t : Text). x ∷
     more [] e = absurd (false≢true (ap (λ (t : Text). empty (drop 1 t)) e))
     more (z ∷ s) e = (s, ap (drop 1) e)
 
-pair-says : (l : Line) → Says ((s t : Text) × (l ≡ join (s ∷ bytes "//" ∷ t ∷ []))) (pair 47 l)
-unfolding pair
+pair-says : (l : Line) → Says ((s t : Text) × (l ≡ join (s ∷ bytes "//" ∷ t ∷ []))) (hasPair 47 l)
+unfolding hasPair
 pair-says [] = says-not (λ b. none (b .0) (b .1) (b .2))
   where
     none : (s t : Text) → [] ≡ s ++ (bytes "//" ++ t) → ⊥

@@ -10,7 +10,7 @@ use native.Mathlib.Omega.{arith}
 use native.Mathlib.Decide.{decLt}
 use lib.ListN.{length, take, drop}
 use lib.Seq.{take-all}
-use Rattle.base.specs.Bytes.{upTo}
+use Rattle.base.specs.Bytes.{countUpTo}
 use Rattle.fields.specs.Lines.{linesIn}
 use Rattle.contents.specs.Words.{Text, Line}
 use Rattle.contents.specs.Fields.{IsParty, IsBic, IsRpp, One, Then, Names, Beside, Customer, Payer, BankByBic, BankByName, In72, RppAndDetails}
@@ -76,12 +76,12 @@ note-is sign ls (note.Dated n v) b e s = rw e (says-so (inr (dated-is sign n v l
 
 -- one line
 pub not-one : (P : Line → Type 0) (s : Text) → Not (linesIn s ≡ s ∷ []) → Not (One P (linesIn s))
-not-one P s f o = go (decLt (0 + upTo 13 s) (length s))
+not-one P s f o = go (decLt (0 + countUpTo 13 s) (length s))
   where
     none : (l : Line) (ms : List Line) → 1 ≤ length ms → One P (l ∷ ms) → ⊥
     none l [] h x = absurd (omega arith)
     none l (m ∷ ms) h x = x
 
-    go : Dec (0 + upTo 13 s < length s) → ⊥
-    go (yes k) = let g = on-0 s (0 + upTo 13 s) refl (min (0 + upTo 13 s + 2) (length s)) k refl in none (take (0 + upTo 13 s) s) (linesIn (drop (min (0 + upTo 13 s + 2) (length s)) s)) (g .2) (rw (g .0) at o)
-    go (no k) = f (last-0 s (0 + upTo 13 s) refl (omega arith) ∙ ap (λ (l : Line). l ∷ []) (take-all (0 + upTo 13 s) s (omega arith)))
+    go : Dec (0 + countUpTo 13 s < length s) → ⊥
+    go (yes k) = let g = on-0 s (0 + countUpTo 13 s) refl (min (0 + countUpTo 13 s + 2) (length s)) k refl in none (take (0 + countUpTo 13 s) s) (linesIn (drop (min (0 + countUpTo 13 s + 2) (length s)) s)) (g .2) (rw (g .0) at o)
+    go (no k) = f (last-0 s (0 + countUpTo 13 s) refl (omega arith) ∙ ap (λ (l : Line). l ∷ []) (take-all (0 + countUpTo 13 s) s (omega arith)))

@@ -12,13 +12,13 @@ use Rattle.base.specs.Quoted.{bytes}
 use Rattle.base.specs.Says.{_or_}
 use Rattle.base.specs.Examples.{AllHold}
 use Rattle.fields.specs.Field.{field}
-use Rattle.fields.specs.Places.{sizeOf}
+use Rattle.fields.specs.Places.{linesSize}
 use Rattle.types.specs.declared.Form.{Form}
 use Rattle.types.specs.Sign.{firstLine}
 use Rattle.contents.specs.declared.Content.{Content}
 use Rattle.contents.specs.declared.Content.the-variants as holds
 use Rattle.contents.specs.Words.{Text, Line, Size, Just, Perhaps, join, withMark}
-use Rattle.contents.specs.Lines.{Reference, Name, opening, closing}
+use Rattle.contents.specs.Lines.{Reference, Name, codeOpening, codeClosing}
 use Rattle.contents.specs.Fields.{Is, IsPurpose, IsPayment, IsOwnAccount, IsParty, IsBic, IsAccount, IsTax, IsRpp, One, Then, Names, Beside, Customer, Details, Right}
 use Rattle.contents.specs.Tags.{heldBy}
 use Rattle.contents.specs.Rule8.{rightField}
@@ -128,7 +128,7 @@ module _ (first later : String) (room rest most : ℕ) (sign : Bool) (h : length
   details-names ls (code, t, ts, d) =
       let n = simp length-append at (d .front) in
       let c = d .number in
-      let front : Name (join (bytes first ∷ opening sign ∷ code ∷ closing sign ∷ t ∷ [])) = record { least = simp length-append (omega arith); most = simp length-append (omega arith) } in
+      let front : Name (join (bytes first ∷ codeOpening sign ∷ code ∷ codeClosing sign ∷ t ∷ [])) = record { least = simp length-append (omega arith); most = simp length-append (omega arith) } in
       record { least = omega (arith, ap length (d .lines)); most = d .count; each = rw (d .lines) (front, marked-names later rest ts k (d .back)) }
 
 -- ---- every content
@@ -164,9 +164,9 @@ names-some ((x ∷ l) ∷ ls) p = refl
 pub right-nonempty : (form : Form) (sign : Bool) (t : List ℕ) (ls : List (List ℕ)) → rightField form sign (field t ls) ≡ true → empty (firstLine ls) ≡ false
 right-nonempty form sign t ls e = names-some ls (right-names (heldBy form t) sign ls (field-says form sign (field t ls) .0 e))
 
-lines-size : (ls : List Line) → AllHold Name ls → sizeOf ls ≤ 37 * length ls
+lines-size : (ls : List Line) → AllHold Name ls → linesSize ls ≤ 37 * length ls
 lines-size [] e = omega arith
 lines-size (l ∷ ls) e = omega (arith, e .0 .most, lines-size ls (e .1))
 
-pub right-size : (c : Content) (sign : Bool) (ls : List (List ℕ)) → Right c sign ls → sizeOf ls ≤ 37 * 6
+pub right-size : (c : Content) (sign : Bool) (ls : List (List ℕ)) → Right c sign ls → linesSize ls ≤ 37 * 6
 right-size c sign ls r = let p = right-names c sign ls r in let m = p .most in omega (arith, lines-size ls (p .each))

@@ -9,7 +9,7 @@ use native.Mathlib.Decide.{decLt}
 use lib.ListN.{length, drop, length-map, length-drop, take-append-drop}
 use Rattle.base.specs.Quoted.{bytes}
 use Rattle.contents.specs.Words.{Text, Line, Size, Digits, join}
-use Rattle.contents.specs.Lines.{opening, closing}
+use Rattle.contents.specs.Lines.{codeOpening, codeClosing}
 use Rattle.contents.specs.Fields.{Names, Several, In70, In72}
 use Rattle.contents.specs.Answers.{cut, VoFirst, textAt, IsMarked, NzpFirst, RppWith}
 use Rattle.contents.proofs.Laws.{Spot, spot, stands-at, made}
@@ -19,20 +19,20 @@ use Rattle.base.specs.Examples.{AllHold}
 
 -- where the code's digits begin, and where the text behind it
 abbrev pub codeAt : Bool → ℕ
-codeAt sign = length (opening sign)
+codeAt sign = length (codeOpening sign)
 
 abbrev spots : Bool → ℕ → List Spot
-spots sign n = spot (codeAt sign) (codeAt sign) ∷ spot 5 (5 + codeAt sign) ∷ spot (length (closing sign)) (textAt sign) ∷ spot n (n + textAt sign) ∷ []
+spots sign n = spot (codeAt sign) (codeAt sign) ∷ spot 5 (5 + codeAt sign) ∷ spot (length (codeClosing sign)) (textAt sign) ∷ spot n (n + textAt sign) ∷ []
 
 pub record VoTests (sign : Bool) (l : Text) : Type 0 where
   pub size : textAt sign ≤ length l
-  pub front : cut 0 (codeAt sign) l ≡ opening sign
-  pub close : cut (5 + codeAt sign) (length (closing sign)) l ≡ closing sign
+  pub front : cut 0 (codeAt sign) l ≡ codeOpening sign
+  pub close : cut (5 + codeAt sign) (length (codeClosing sign)) l ≡ codeClosing sign
   pub digits : Digits 5 (cut (codeAt sign) 5 l)
 
 pub vo-tests : (sign : Bool) (l : Text) → VoFirst sign l → VoTests sign l
 vo-tests sign l v =
-    let p = stands-at (spots sign (length (v .text))) (opening sign ∷ v .vo ∷ closing sign ∷ v .text ∷ []) l (refl, omega arith, (v .digits .size, refl, (refl, refl, (refl, refl, tt)))) (v .line) in
+    let p = stands-at (spots sign (length (v .text))) (codeOpening sign ∷ v .vo ∷ codeClosing sign ∷ v .text ∷ []) l (refl, omega arith, (v .digits .size, refl, (refl, refl, (refl, refl, tt)))) (v .line) in
     record { size = omega (arith, p .1 .1 .1 .1); front = p .0; close = p .1 .1 .0; digits = rw (p .1 .0) (v .digits) }
 
 pub vo-made : (sign : Bool) (l : Text) → VoTests sign l → VoFirst sign l
@@ -53,7 +53,7 @@ same-lines (t ∷ ts) = ap (λ (x : List Text). t ∷ x) (same-lines ts)
 
 pub vo-size : (sign : Bool) (l : Text) (v : VoFirst sign l) → length l ≡ length (v .text) + textAt sign
 vo-size sign l v =
-    let p = stands-at (spots sign (length (v .text))) (opening sign ∷ v .vo ∷ closing sign ∷ v .text ∷ []) l (refl, omega arith, (v .digits .size, refl, (refl, refl, (refl, refl, tt)))) (v .line) in
+    let p = stands-at (spots sign (length (v .text))) (codeOpening sign ∷ v .vo ∷ codeClosing sign ∷ v .text ∷ []) l (refl, omega arith, (v .digits .size, refl, (refl, refl, (refl, refl, tt)))) (v .line) in
     p .1 .1 .1 .1
 
 empty : (s : Text) → length s ≡ 0 → s ≡ []
@@ -94,7 +94,7 @@ module _ (sign : Bool) (l : Line) where
 
   -- and what a 70 has
   module _ (ms : List Line) (d : In70 sign (l ∷ ms)) where
-    head-is : l ≡ join (opening sign ∷ d .0 ∷ closing sign ∷ d .1 ∷ [])
+    head-is : l ≡ join (codeOpening sign ∷ d .0 ∷ codeClosing sign ∷ d .1 ∷ [])
     head-is = let e = d .3 .lines in cc
 
     tail-is : ms ≡ d .2
@@ -167,14 +167,14 @@ module _ (sign : Bool) (most : ℕ) (l : Line) where
   )
 
   module _ (ms : List Line) (d : In72 sign most (l ∷ ms)) where
-    first-is : l ≡ bytes "/NZP/" ++ join (opening sign ∷ d .0 ∷ closing sign ∷ d .1 ∷ [])
+    first-is : l ≡ bytes "/NZP/" ++ join (codeOpening sign ∷ d .0 ∷ codeClosing sign ∷ d .1 ∷ [])
     first-is = let e = d .3 .lines in cc
 
     others-are : ms ≡ map (λ (s : Text). bytes "//" ++ s) (d .2)
     others-are = let e = d .3 .lines in cc
 
     pub in72-nzp : NzpFirst sign l
-    in72-nzp = record { rest = join (opening sign ∷ d .0 ∷ closing sign ∷ d .1 ∷ []); line = first-is; vo-first = record { vo = d .0; text = d .1; digits = d .3 .number; line = refl }; room = d .3 .front }
+    in72-nzp = record { rest = join (codeOpening sign ∷ d .0 ∷ codeClosing sign ∷ d .1 ∷ []); line = first-is; vo-first = record { vo = d .0; text = d .1; digits = d .3 .number; line = refl }; room = d .3 .front }
 
     pub in72-marked : 1 ≤ length ms → Several IsMarked (most - 1) ms
     in72-marked h = record { least = h; most = omega (arith, d .3 .count); each = rw others-are (marked-of (d .2) (d .3 .back)) }
@@ -192,7 +192,7 @@ module _ (sign : Bool) (most : ℕ) (l : Line) where
         go : Dec (5 + textAt sign < length l) → 5 + textAt sign < length l
         go (yes k) = k
         go (no k) =
-            absurd (d .3 .text (empty (d .1) (omega (arith, ap length first-is, vo-size sign (join (opening sign ∷ d .0 ∷ closing sign ∷ d .1 ∷ [])) (record { vo = d .0; text = d .1; digits = d .3 .number; line = refl }))), none (d .2) z))
+            absurd (d .3 .text (empty (d .1) (omega (arith, ap length first-is, vo-size sign (join (codeOpening sign ∷ d .0 ∷ codeClosing sign ∷ d .1 ∷ [])) (record { vo = d .0; text = d .1; digits = d .3 .number; line = refl }))), none (d .2) z))
 
 pub nzp-tests : (sign : Bool) (l : Text) → NzpFirst sign l → (5 ≤ length l) × (length l ≤ 35) × (cut 0 5 l ≡ bytes "/NZP/") × VoFirst sign (drop 5 l)
 nzp-tests sign l v = (omega (arith, ap length (v .line)), omega (arith, ap length (v .line), v .room), ap (cut 0 5) (v .line), rw (ap (drop 5) (v .line)) (v .vo-first))

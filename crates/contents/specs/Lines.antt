@@ -100,10 +100,10 @@ pub record RppLine (number date turn way value : Text) (l : Line) : Type 0 where
   pub line : l ≡ join (bytes "/RPP/" ∷ number ∷ bytes "." ∷ date ∷ bytes "." ∷ turn ∷ bytes "." ∷ way ∷ withMark "." value ∷ [])
 
 -- Cdetails: the VO code is (VO, five digits, ); with the sign '(VO, five digits, )'
-abbrev pub opening : Bool → Text
-opening false = bytes "(VO"
-opening true = bytes "'(VO"
+abbrev pub codeOpening : Bool → Text
+codeOpening false = bytes "(VO"
+codeOpening true = bytes "'(VO"
 
-abbrev pub closing : Bool → Text
-closing false = bytes ")"
-closing true = bytes ")'"
+abbrev pub codeClosing : Bool → Text
+codeClosing false = bytes ")"
+codeClosing true = bytes ")'"

@@ -14,8 +14,8 @@ use Rattle.base.specs.Quoted.{bytes}
 use Rattle.base.proofs.CallLaws.{one-answer}
 use Rattle.fields.specs.ByLines.{joined}
 use Rattle.details.specs.Lines.{together, none, line, Division, lines, Most}
-use Rattle.details.specs.Breaking.{opens, Fit, fits, unfit, last, breaks, pieces, cutBy, broken, steady}
-use Rattle.details.specs.Layouts.{Layout, layout, divided, DivisionIn, marked, laterBytes, laid, linesOf, linesFor, laidFor, sizeOf, sizeFor, Lays}
+use Rattle.details.specs.Breaking.{opens, Fit, fits, unfit, last, breaks, pieces, cutFit, broken, steady}
+use Rattle.details.specs.Layouts.{Layout, layout, divided, DivisionIn, marked, laterBytes, laid, fitLines, linesFor, laidFor, fitSize, sizeFor, Lays}
 use Rattle.details.specs.declared.DetailsField.{DetailsField}
 use Rattle.details.specs.declared.DetailsField.the-variants.{In70, In72, BehindRpp}
 use Rattle.details.specs.declared.Size.{Size}
@@ -33,7 +33,7 @@ module _ (ok : ℕ → Bool) (least : ℕ) (text : List ℕ) where
     ours : {w : ℕ} {ws es : List ℕ} → least - 1 < length text → Took ok text (least - 1) w ws es → Ours (w ∷ ws) (pieces text 0 es)
 
   ours-by : (b : Bool) {w : ℕ} {ws : List ℕ} {a : Fit (List ℕ)} {ls : List (List ℕ)} → ltb (least - 1) (length text) ≡ b → Came ok text (least - 1) w ws a
-      → pick b (cutBy text a) unfit ≡ fits ls → Ours (w ∷ ws) ls
+      → pick b (cutFit text a) unfit ≡ fits ls → Ours (w ∷ ws) ls
   ours-by true {ls = ls} h (took {es} t) e = let f : ls ≡ pieces text 0 es = cc in rw f (ours (ltb-true _ _ h) t)
   ours-by true h (stuck t) e = absurd (fits-not (sym e))
   ours-by false h t e = absurd (fits-not (sym e))
@@ -74,7 +74,7 @@ pub no-division : (barred : List ℕ) (least : ℕ) (text widths : List ℕ) {ls
 unfolding broken
 no-division barred least text (w ∷ ws) s e (lines {l = l} {ls = ls} z p q m j) = go (ltb (least - 1) (length text)) refl (came (opens barred) text ws (least - 1) w) e
   where
-    go : (b : Bool) {a : Fit (List ℕ)} → ltb (least - 1) (length text) ≡ b → Came (opens barred) text (least - 1) w ws a → pick b (cutBy text a) unfit ≡ unfit → ⊥
+    go : (b : Bool) {a : Fit (List ℕ)} → ltb (least - 1) (length text) ≡ b → Came (opens barred) text (least - 1) w ws a → pick b (cutFit text a) unfit ≡ unfit → ⊥
     go true h (took t) r = fits-not r
     go true h (stuck t) r = none-fits (opens barred) text t (breaks-of (opens barred) text m l (least - 1) w (length l) refl j (omega arith) q) (steadily barred ws s)
     go false h t r = omega (arith, ltb-false (least - 1) (length text) h, ap length j, length-append l (together ls))
@@ -130,20 +130,20 @@ pub record Fitted (p : DetailsField) (least : ℕ) (text : List ℕ) (n : ℕ) :
 module _ (p : DetailsField) (least : ℕ) (text : List ℕ) where
   pub laid-lines : laidFor p least text ≡ joined (linesFor p least text)
   unfolding laidFor linesFor
-  laid-lines = laid-joined (layout p) (linesOf (divided (layout p) least text))
+  laid-lines = laid-joined (layout p) (fitLines (divided (layout p) least text))
 
   -- Unfit exactly if there is no division
   pub unfit-none : sizeFor p least text ≡ Unfit → {ls : List (List ℕ)} → DivisionIn (layout p) least text ls → ⊥
   unfolding sizeFor
   unfit-none e d = no-division (layout p .barred) least text (layout p .widths) (steady-in p) (go (divided (layout p) least text) e) d
     where
-      go : (a : Fit (List (List ℕ))) → sizeOf (layout p) a ≡ Unfit → a ≡ unfit
+      go : (a : Fit (List (List ℕ))) → fitSize (layout p) a ≡ Unfit → a ≡ unfit
       go (fits ls) q = absurd (bytes-not q)
       go unfit q = refl
 
   pub none-unfit : ((ls : List (List ℕ)) → DivisionIn (layout p) least text ls → ⊥) → sizeFor p least text ≡ Unfit
   unfolding sizeFor
-  none-unfit n = ap (sizeOf (layout p)) (no-lines (opens (layout p .barred)) least text (layout p .widths) n)
+  none-unfit n = ap (fitSize (layout p)) (no-lines (opens (layout p .barred)) least text (layout p .widths) n)
 
   pub fitted : (n : ℕ) → sizeFor p least text ≡ Bytes n → Fitted p least text n
   unfolding sizeFor laidFor
@@ -151,7 +151,7 @@ module _ (p : DetailsField) (least : ℕ) (text : List ℕ) where
     where
       go : (a : Fit (List (List ℕ))) → divided (layout p) least text ≡ a → Fitted p least text n
       go (fits ls) i =
-          let f : Bytes (length (laid (layout p) ls)) ≡ Bytes n = ap (sizeOf (layout p)) (sym i) ∙ e in
+          let f : Bytes (length (laid (layout p) ls)) ≡ Bytes n = ap (fitSize (layout p)) (sym i) ∙ e in
           let g : n ≡ length (laid (layout p) ls) = cc in
           let d = lawful-lines (opens (layout p .barred)) least text (layout p .widths) i in
           record {
@@ -159,10 +159,10 @@ module _ (p : DetailsField) (least : ℕ) (text : List ℕ) where
             is = i;
             division = d;
             fullest = most (opens (layout p .barred)) least text (layout p .widths) i;
-            long = g ∙ ap (λ (a : Fit (List (List ℕ))). length (laid (layout p) (linesOf a))) (sym i);
+            long = g ∙ ap (λ (a : Fit (List (List ℕ))). length (laid (layout p) (fitLines a))) (sym i);
             some = omega (arith, some-laid (layout p) d);
           }
-      go unfit i = absurd (bytes-not (sym e ∙ ap (sizeOf (layout p)) i))
+      go unfit i = absurd (bytes-not (sym e ∙ ap (fitSize (layout p)) i))
 
 -- ---- at the contracts: any two outcomes are equal, the room counted
 pub size-one : (p : DetailsField) (least : ℕ) (text : List ℕ) {r s : Size} → r ≡ sizeFor p least text → s ≡ sizeFor p least text → r ≡ s

@@ -14,8 +14,8 @@ use Rattle.base.specs.Choice.{pick}
 use Rattle.base.specs.Calls.{placed}
 use Rattle.base.proofs.Bools.{pick-same}
 use Rattle.base.proofs.Room.{placed-not, placed-none}
-use Rattle.details.specs.Breaking.{opens, Fit, fits, unfit, last, part, pieces, cutBy, broken}
-use Rattle.details.specs.Layouts.{Layout, layout, divided, laterBytes, laid, linesOf, laidFor, sizeOf, sizeFor, Lays}
+use Rattle.details.specs.Breaking.{opens, Fit, fits, unfit, last, part, pieces, cutFit, broken}
+use Rattle.details.specs.Layouts.{Layout, layout, divided, laterBytes, laid, fitLines, laidFor, fitSize, sizeFor, Lays}
 use Rattle.details.specs.Steps.{layoutNumbers, Small, barredBy, breaksIn, sizeOn, sizeBy, laidBy, wholeBy, RoomFor}
 use Rattle.details.specs.declared.DetailsField.{DetailsField}
 use Rattle.details.specs.declared.DetailsField.the-variants.{In70, In72, BehindRpp}
@@ -87,9 +87,9 @@ module _ (p : DetailsField) (least : ℕ) (text : List ℕ) where
   ours = breaksIn (layoutNumbers p) text (least - 1)
 
   abbrev by : Bool → Fit (List (List ℕ))
-  by b = pick b (cutBy text ours) unfit
+  by b = pick b (cutFit text ours) unfit
 
-  in-numbers : (q : DetailsField) → divided (layout q) least text ≡ pick (ltb (least - 1) (length text)) (cutBy text (breaksIn (layoutNumbers q) text (least - 1))) unfit
+  in-numbers : (q : DetailsField) → divided (layout q) least text ≡ pick (ltb (least - 1) (length text)) (cutFit text (breaksIn (layoutNumbers q) text (least - 1))) unfit
   unfolding broken
   in-numbers In70 = refl
   in-numbers In72 = refl
@@ -99,19 +99,19 @@ module _ (p : DetailsField) (least : ℕ) (text : List ℕ) where
   divided-no : length text ≤ least - 1 → divided (layout p) least text ≡ unfit
   divided-no h = in-numbers p ∙ ap by (le-ltb (least - 1) (length text) h)
 
-  divided-yes : least - 1 < length text → divided (layout p) least text ≡ cutBy text ours
+  divided-yes : least - 1 < length text → divided (layout p) least text ≡ cutFit text ours
   divided-yes h = in-numbers p ∙ ap by (lt-ltb (least - 1) (length text) h)
 
   pub size-none : length text ≤ least - 1 → Unfit ≡ sizeFor p least text
   unfolding sizeFor
-  size-none h = ap (sizeOf (layout p)) (sym (divided-no h))
+  size-none h = ap (fitSize (layout p)) (sym (divided-no h))
 
   measured : least - 1 < length text → sizeBy (layoutNumbers p .mark + length text) (layoutNumbers p .next) ours ≡ sizeFor p least text
   unfolding sizeFor
-  measured h = go (came (opens (barredBy (layoutNumbers p .barred))) text _ (least - 1) (layoutNumbers p .first)) ∙ ap (sizeOf (layout p)) (sym (divided-yes h))
+  measured h = go (came (opens (barredBy (layoutNumbers p .barred))) text _ (least - 1) (layoutNumbers p .first)) ∙ ap (fitSize (layout p)) (sym (divided-yes h))
     where
       go : {ws : List ℕ} {b : Fit (List ℕ)} → Came (opens (barredBy (layoutNumbers p .barred))) text (least - 1) (layoutNumbers p .first) ws b
-          → sizeBy (layoutNumbers p .mark + length text) (layoutNumbers p .next) b ≡ sizeOf (layout p) (cutBy text b)
+          → sizeBy (layoutNumbers p .mark + length text) (layoutNumbers p .next) b ≡ fitSize (layout p) (cutFit text b)
       go (took {es} t) =
           let l : List ℕ = laidBy (13 ∷ 10 ∷ layout p .next) text 0 es in
           let f : sizeOn (layoutNumbers p .mark + length text) (length (13 ∷ 10 ∷ layout p .next)) es ≡ layoutNumbers p .mark + length l =
@@ -139,9 +139,9 @@ module _ (p : DetailsField) (least : ℕ) (text : List ℕ) where
     where
       go : (b : Bool) (a : Fit (List ℕ)) → ltb (least - 1) (length text) ≡ b → ours ≡ a → Known n
       go true (fits es) h i =
-          let d : divided (layout p) least text ≡ fits (pieces text 0 es) = divided-yes (ltb-true _ _ h) ∙ ap (cutBy text) i in
-          let f : Bytes n ≡ Bytes (length (laid (layout p) (pieces text 0 es))) = e ∙ ap (sizeOf (layout p)) d in
-          let g : laid (layout p) (pieces text 0 es) ≡ laid (layout p) (linesOf (divided (layout p) least text)) = ap (λ (a : Fit (List (List ℕ))). laid (layout p) (linesOf a)) (sym d) in
+          let d : divided (layout p) least text ≡ fits (pieces text 0 es) = divided-yes (ltb-true _ _ h) ∙ ap (cutFit text) i in
+          let f : Bytes n ≡ Bytes (length (laid (layout p) (pieces text 0 es))) = e ∙ ap (fitSize (layout p)) d in
+          let g : laid (layout p) (pieces text 0 es) ≡ laid (layout p) (fitLines (divided (layout p) least text)) = ap (λ (a : Fit (List (List ℕ))). laid (layout p) (fitLines a)) (sym d) in
           let m : n ≡ length (laid (layout p) (pieces text 0 es)) = cc in
           record {
             inside = ltb-true _ _ h;
@@ -150,17 +150,17 @@ module _ (p : DetailsField) (least : ℕ) (text : List ℕ) where
             long = m ∙ ap length g;
             whole = ap (wholeBy (layout p .mark) (13 ∷ 10 ∷ layout p .next) text) i ∙ sym (pieces-laid text (layout p .next) (layout p) es refl) ∙ g;
           }
-      go true unfit h i = absurd (bytes-not (e ∙ ap (sizeOf (layout p)) (divided-yes (ltb-true _ _ h) ∙ ap (cutBy text) i)))
-      go false a h i = absurd (bytes-not (e ∙ ap (sizeOf (layout p)) (in-numbers p ∙ ap by h)))
+      go true unfit h i = absurd (bytes-not (e ∙ ap (fitSize (layout p)) (divided-yes (ltb-true _ _ h) ∙ ap (cutFit text) i)))
+      go false a h i = absurd (bytes-not (e ∙ ap (fitSize (layout p)) (in-numbers p ∙ ap by h)))
 
   -- ---- the ways out of `lay`
   pub lay-unfit : Unfit ≡ sizeFor p least text → (out : List ℕ) (at : ℕ) → Lays p least text out at 0 out
   unfolding sizeFor laidFor
   lay-unfit e out at =
-      let f : laid (layout p) (linesOf (divided (layout p) least text)) ≡ [] = go (divided (layout p) least text) e in
+      let f : laid (layout p) (fitLines (divided (layout p) least text)) ≡ [] = go (divided (layout p) least text) e in
       record { answers = rw f (sym (pick-same (leb (at + 0) (length out)) 0)); leaves = rw f (sym (placed-none out at)) }
     where
-      go : (a : Fit (List (List ℕ))) → Unfit ≡ sizeOf (layout p) a → laid (layout p) (linesOf a) ≡ []
+      go : (a : Fit (List (List ℕ))) → Unfit ≡ fitSize (layout p) a → laid (layout p) (fitLines a) ≡ []
       go (fits ls) q = absurd (bytes-not (sym q))
       go unfit q = refl
 

@@ -40,14 +40,14 @@ abbrev pub pieces : List ℕ → ℕ → List ℕ → List (List ℕ)
 pieces text from [] = drop from text ∷ []
 pieces text from (e ∷ es) = part from e text ∷ pieces text e es
 
-abbrev pub cutBy : List ℕ → Fit (List ℕ) → Fit (List (List ℕ))
-cutBy text (fits es) = fits (pieces text 0 es)
-cutBy text unfit = unfit
+abbrev pub cutFit : List ℕ → Fit (List ℕ) → Fit (List (List ℕ))
+cutFit text (fits es) = fits (pieces text 0 es)
+cutFit text unfit = unfit
 
 -- the text in lines of these widths, the first with one byte and `least` bytes at least
 unfoldable pub broken : (ℕ → Bool) → ℕ → List ℕ → List ℕ → Fit (List (List ℕ))
 broken ok least [] text = unfit
-broken ok least (w ∷ ws) text = pick (ltb (least - 1) (length text)) (cutBy text (breaks ok text (least - 1) w ws)) unfit
+broken ok least (w ∷ ws) text = pick (ltb (least - 1) (length text)) (cutFit text (breaks ok text (least - 1) w ws)) unfit
 
 -- widths after the first for which the most is never too much: where no byte is barred none is 0, else none is greater than one before it
 abbrev pub noMore : ℕ → ℕ → Bool

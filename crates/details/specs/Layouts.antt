@@ -47,23 +47,23 @@ abbrev pub laid : Layout → List (List ℕ) → List ℕ
 laid v [] = []
 laid v (l ∷ ls) = v .mark ++ (l ++ laterBytes (v .next) ls)
 
-abbrev pub linesOf : Fit (List (List ℕ)) → List (List ℕ)
-linesOf (fits ls) = ls
-linesOf unfit = []
+abbrev pub fitLines : Fit (List (List ℕ)) → List (List ℕ)
+fitLines (fits ls) = ls
+fitLines unfit = []
 
 -- ---- a field of details: its lines, their bytes, and how many these are; none where the text does not fit
 unfoldable pub linesFor : DetailsField → ℕ → List ℕ → List (List ℕ)
-linesFor p least text = marked (layout p) (linesOf (divided (layout p) least text))
+linesFor p least text = marked (layout p) (fitLines (divided (layout p) least text))
 
 unfoldable pub laidFor : DetailsField → ℕ → List ℕ → List ℕ
-laidFor p least text = laid (layout p) (linesOf (divided (layout p) least text))
+laidFor p least text = laid (layout p) (fitLines (divided (layout p) least text))
 
-abbrev pub sizeOf : Layout → Fit (List (List ℕ)) → Size
-sizeOf v (fits ls) = Bytes (length (laid v ls))
-sizeOf v unfit = Unfit
+abbrev pub fitSize : Layout → Fit (List (List ℕ)) → Size
+fitSize v (fits ls) = Bytes (length (laid v ls))
+fitSize v unfit = Unfit
 
 unfoldable pub sizeFor : DetailsField → ℕ → List ℕ → Size
-sizeFor p least text = sizeOf (layout p) (divided (layout p) least text)
+sizeFor p least text = fitSize (layout p) (divided (layout p) least text)
 
 -- the bytes are put in from `at` on, where there is room for them, and r says how many were put
 pub record Lays (p : DetailsField) (least : ℕ) (text out : List ℕ) (at r : ℕ) (now : List ℕ) : Type 0 where

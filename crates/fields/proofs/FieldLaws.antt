@@ -11,7 +11,7 @@ use Rattle.base.specs.Bytes.{xset, begins, empty, other, without}
 use Rattle.base.specs.declared.Verdict.the-variants.{Fine}
 use Rattle.fields.specs.Field.{Field, field, opening, closing, withCrLf, linesOf, message, body, lines, Group, group, opened, add, grouped, fields}
 use Rattle.fields.specs.Frame.{tagged, lineBad, rule2, rule3, rule4}
-use Rattle.fields.specs.Places.{sizeOf}
+use Rattle.fields.specs.Places.{linesSize}
 use Rattle.fields.specs.Shapes.{shaped, shapedTag, follows, lineable, goesOn, proper}
 use Rattle.fields.specs.Sentences.{Framed, Good}
 use Rattle.base.proofs.Bools.{left, right, both, isnt, all-append, all-behind, all-imp}
@@ -182,7 +182,7 @@ first-opens (l ∷ ls) g = go (stands true l (g .0))
     go (opens h) = none-waits l (grouped ls) (headed-begins h)
     go (goes e q) = absurd (true≢false q)
 
-pub crlf-size : (ls : List (List ℕ)) → length (withCrLf ls) ≡ sizeOf ls
+pub crlf-size : (ls : List (List ℕ)) → length (withCrLf ls) ≡ linesSize ls
 crlf-size [] = refl
 crlf-size (l ∷ ls) = let h = crlf-size ls in let n = length-append l (13 ∷ 10 ∷ withCrLf ls) in omega arith
 
@@ -236,7 +236,7 @@ module _ (m : List ℕ) (e2 : rule2 m ≡ Fine) (e3 : rule3 m ≡ Fine) (e4 : ru
   message-fields = ap (λ (b : List ℕ). opening ++ (b ++ closing)) crlf-fields ∙ around-body m frame
 
   -- the - stands behind the last line
-  pub fields-dash : 5 + sizeOf (linesOf (fields m)) ≡ length m - 2
+  pub fields-dash : 5 + linesSize (linesOf (fields m)) ≡ length m - 2
   fields-dash =
       let a = sym (crlf-size (linesOf (fields m))) ∙ ap length crlf-fields in
       let b = body-length m frame in

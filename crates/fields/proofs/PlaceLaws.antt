@@ -14,7 +14,7 @@ use Rattle.base.specs.Bytes.{byte}
 use Rattle.base.specs.declared.Verdict.the-variants.{Fine}
 use Rattle.fields.specs.Field.{Field, field, closing, withCrLf, lined, linesOf, message, body, lines, fields}
 use Rattle.fields.specs.Frame.{rule2, rule3, rule4}
-use Rattle.fields.specs.Places.{sizeOf, startOf, nextOf, endOf, colonsOf, listed}
+use Rattle.fields.specs.Places.{linesSize, startOf, nextOf, endOf, colonsOf, listed}
 use Rattle.fields.specs.Shapes.{shaped, shapedTag, lineable, pack}
 use Rattle.fields.specs.ByLines.{colonsAt, joined, startAt, tagAt, firstOr, listedBy, Standing}
 use Rattle.base.proofs.Bools.{left, right}
@@ -27,8 +27,8 @@ pub crlf-append : (ks ls : List (List ℕ)) → withCrLf (ks ++ ls) ≡ withCrLf
 crlf-append [] ls = refl
 crlf-append (k ∷ ks) ls = ap (λ (x : List ℕ). k ++ 13 ∷ 10 ∷ x) (crlf-append ks ls) ∙ sym (append-assoc k (13 ∷ 10 ∷ withCrLf ks) (withCrLf ls))
 
-pub size-append : (ks ls : List (List ℕ)) → sizeOf (ks ++ ls) ≡ sizeOf ks + sizeOf ls
-size-append [] ls = sym (zero-add (sizeOf ls))
+pub size-append : (ks ls : List (List ℕ)) → linesSize (ks ++ ls) ≡ linesSize ks + linesSize ls
+size-append [] ls = sym (zero-add (linesSize ls))
 size-append (k ∷ ks) ls = let h = size-append ks ls in omega arith
 
 pub crlf-joined : (l : List ℕ) (ls : List (List ℕ)) → withCrLf (l ∷ ls) ≡ joined (l ∷ ls) ++ 13 ∷ 10 ∷ []
@@ -36,7 +36,7 @@ crlf-joined l [] = refl
 crlf-joined l (k ∷ ls) = ap (λ (x : List ℕ). l ++ 13 ∷ 10 ∷ x) (crlf-joined k ls) ∙ sym (append-assoc l (13 ∷ 10 ∷ joined (k ∷ ls)) (13 ∷ 10 ∷ []))
 
 -- how many bytes a content takes
-pub joined-length : (l : List ℕ) (ls : List (List ℕ)) → length (joined (l ∷ ls)) + 2 ≡ sizeOf (l ∷ ls)
+pub joined-length : (l : List ℕ) (ls : List (List ℕ)) → length (joined (l ∷ ls)) + 2 ≡ linesSize (l ∷ ls)
 joined-length l ls = let a = length-append (joined (l ∷ ls)) (13 ∷ 10 ∷ []) in let b = ap length (crlf-joined l ls) in omega (arith, crlf-size (l ∷ ls))
 
 -- the bytes from a tag's colon on
@@ -96,7 +96,7 @@ module _ (m : List ℕ) (o : ℕ) (t l : List ℕ) (ls : List (List ℕ)) (fs : 
 
   pub next-standing : Standing m (nextOf o (field t (l ∷ ls))) fs
   next-standing =
-      let n : ℕ = sizeOf (lined (field t (l ∷ ls))) in
+      let n : ℕ = linesSize (lined (field t (l ∷ ls))) in
       let z = size-append (lined (field t (l ∷ ls))) (linesOf fs) in
       let d = w .dash in
       record {
@@ -152,7 +152,7 @@ listed-length o [] = refl
 listed-length o (f ∷ fs) = let h = listed-length (nextOf o f) fs in omega arith
 
 -- the colons, and the - behind them, stand within the lines
-pub colons-within : (fs : List Field) (o e k : ℕ) → o + sizeOf (linesOf fs) ≡ e → k ≤ length fs → (o ≤ byte (colonsOf o fs ++ e ∷ []) k) × (byte (colonsOf o fs ++ e ∷ []) k ≤ e)
+pub colons-within : (fs : List Field) (o e k : ℕ) → o + linesSize (linesOf fs) ≡ e → k ≤ length fs → (o ≤ byte (colonsOf o fs ++ e ∷ []) k) × (byte (colonsOf o fs ++ e ∷ []) k ≤ e)
 colons-within [] o e zero z h = (omega arith, omega arith)
 colons-within [] o e (suc k) z h = absurd (omega arith)
 colons-within (f ∷ fs) o e zero z h = (omega arith, omega arith)

@@ -48,13 +48,13 @@ onto x [] = (x ∷ []) ∷ []
 onto x (l ∷ ls) = (x ∷ l) ∷ ls
 
 -- a CR ends a line, and the byte behind it (true) is its LF
-unfoldable pub cut : Bool → List ℕ → List (List ℕ)
-cut lf [] = []
-cut true (x ∷ xs) = cut false xs
-cut false (x ∷ xs) = pick (eqb x 13) ([] ∷ cut true xs) (onto x (cut false xs))
+unfoldable pub cutLines : Bool → List ℕ → List (List ℕ)
+cutLines lf [] = []
+cutLines true (x ∷ xs) = cutLines false xs
+cutLines false (x ∷ xs) = pick (eqb x 13) ([] ∷ cutLines true xs) (onto x (cutLines false xs))
 
 abbrev pub lines : List ℕ → List (List ℕ)
-lines b = cut false b
+lines b = cutLines false b
 
 -- up to the first c, and behind it
 unfoldable pub upto : ℕ → List ℕ → List ℕ

@@ -7,7 +7,7 @@ use lib.ListN.{length}
 use Rattle.base.specs.Rules.{then}
 use Rattle.base.specs.declared.Verdict.{Verdict}
 use Rattle.base.specs.declared.Verdict.the-variants.{Broken}
-use Rattle.fields.specs.Field.{cut, lines}
+use Rattle.fields.specs.Field.{cutLines, lines}
 use Rattle.fields.specs.Frame.{scan, lineBad, badLine}
 use Rattle.frame.specs.Rest.{rest, Tail, Line, after3, after4}
 use Rattle.frame.proofs.RunLaws.{line-scan, rest-end}
@@ -53,7 +53,7 @@ module _ {m : List ℕ} {i at : ℕ} (w : For4 m i at) (v : Verdict) where
       ∙ ap (λ (u : Verdict). then (scan false (end + 2) (rest m (end + 2))) (then u v)) (w .fronts ∙ bad-stop r false b)
 
   pub for4-end : length m - 2 ≤ at → after4 m i v ≡ v
-  unfolding after4 badLine cut
+  unfolding after4 badLine cutLines
   for4-end h =
       for3-end (w .for3) (then (badLine false i (lines (rest m i))) v) h
       ∙ ap (λ (u : Verdict). then u v) (w .fronts ∙ ap (λ (b : List ℕ). badLine false at (lines b)) (rest-end m at h))

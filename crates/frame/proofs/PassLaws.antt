@@ -303,17 +303,17 @@ module _ {form : Form} {m s : List ℕ} {at n next w : ℕ} (g : Going form m s 
     dash = let t = g .tail .within in omega arith
 
     pub finish : {t : Bool} → skips ps next (length ps) ≡ t → body567 form m ≡ pick t (Broken 7 (length m - 2)) Fine
-    unfolding scan badLine byLines Rattle.fields.specs.Field.cut
+    unfolding scan badLine byLines Rattle.fields.specs.Field.cutLines
     finish {t} q =
         g .judged ∙ ap (judgedFrom ps (eqb at 5) next at) none-left
         ∙ ap₂ (λ (o : ℕ) (b : Bool). pick b (Broken 7 o) Fine) dash q
 
     no-colons : colonsAt at (lines (rest m at)) ≡ []
-    unfolding colonsAt Rattle.fields.specs.Field.cut
+    unfolding colonsAt Rattle.fields.specs.Field.cutLines
     no-colons = ap (λ (b : List ℕ). colonsAt at (lines b)) none-left
 
     no-bits : wordLines ps at (lines (rest m at)) ≡ 0
-    unfolding byLines Rattle.fields.specs.Field.cut
+    unfolding byLines Rattle.fields.specs.Field.cutLines
     no-bits = ap (λ (b : List ℕ). wordLines ps at (lines b)) none-left
 
     module _ (fine : body567 form m ≡ Fine) where

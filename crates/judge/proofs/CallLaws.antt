@@ -19,7 +19,7 @@ use Rattle.frame.specs.Frame.{frameRules, refusal, bare, frameBy, frameOf}
 use Rattle.contents.specs.Rule8.{firstWrong, rightField, rule8}
 use Rattle.contents.proofs.RuleLaws.{firstOf, sign-first}
 use Rattle.values.specs.Judged.{rule9, rule10, rule11, rule12, rule13}
-use Rattle.roles.specs.Rule14.{unheard, spoken, rule14}
+use Rattle.roles.specs.Rule14.{unheard, speechesOf, rule14}
 use Rattle.judge.specs.declared.facts.Facts.{Facts}
 use Rattle.judge.specs.declared.facts.Read.{Read}
 use Rattle.judge.specs.declared.facts.Read.the-variants.{Wrong, Right}
@@ -46,15 +46,15 @@ module _ (form : Form) (fs : List Field) {f : Facts} (e : f ≡ factsFrom form n
   inner-refused z = sym (inner-by ∙ ap (λ (u : Verdict). then u (rule14 form fs)) z)
 
   module _ (z : v ≡ Fine) {s : Bool} (g : s ≡ signOf fs) where
-    texts-left : first (innerRules form fs) ≡ pick s (unheard (spoken form 5 fs)) Fine
+    texts-left : first (innerRules form fs) ≡ pick s (unheard (speechesOf form 5 fs)) Fine
     unfolding rule14
-    texts-left = inner-by ∙ ap (λ (u : Verdict). then u (rule14 form fs)) z ∙ ap (λ (b : Bool). pick b (unheard (spoken form 5 fs)) Fine) (sym g)
+    texts-left = inner-by ∙ ap (λ (u : Verdict). then u (rule14 form fs)) z ∙ ap (λ (b : Bool). pick b (unheard (speechesOf form 5 fs)) Fine) (sym g)
 
     pub inner-plain : s ≡ false → Fine ≡ first (innerRules form fs)
-    inner-plain h = sym (texts-left ∙ ap (λ (b : Bool). pick b (unheard (spoken form 5 fs)) Fine) h)
+    inner-plain h = sym (texts-left ∙ ap (λ (b : Bool). pick b (unheard (speechesOf form 5 fs)) Fine) h)
 
-    pub inner-signed : s ≡ true → unheard (spoken form 5 fs) ≡ first (innerRules form fs)
-    inner-signed h = sym (texts-left ∙ ap (λ (b : Bool). pick b (unheard (spoken form 5 fs)) Fine) h)
+    pub inner-signed : s ≡ true → unheard (speechesOf form 5 fs) ≡ first (innerRules form fs)
+    inner-signed h = sym (texts-left ∙ ap (λ (b : Bool). pick b (unheard (speechesOf form 5 fs)) Fine) h)
 
 module _ (form : Form) (m : List ℕ) where
   pub sign-is : {s : Bool} → walked form m ≡ Fine → s ≡ begins 43 (firstOf (fields m)) → s ≡ signOf (fields m)

@@ -24,7 +24,7 @@ use Rattle.types.specs.Walk.{among}
 use Rattle.contents.specs.declared.Content.{Content}
 use Rattle.values.specs.declared.Finds.{Finds}
 use Rattle.values.specs.Values.{Kind, tag, Value, placeOf, kindOf, valuesOf, valuesIn}
-use Rattle.values.specs.Judged.{firstBad, has, noDay, foreign, bikDiffers, tagged, hasKpp, kppIn, is56, is57, is26T, is77B, tags56, tags57, rule9, rule10, rule11, rule12, rule13}
+use Rattle.values.specs.Judged.{firstBad, has, noDay, foreign, bikDiffers, hasTag, hasKpp, kppIn, is56, is57, is26T, is77B, tags56, tags57, rule9, rule10, rule11, rule12, rule13}
 use Rattle.values.specs.Answers.{faultOf, answered}
 use Rattle.values.specs.Steps.{finds}
 use Rattle.values.proofs.JudgedLaws.{Ordered, none, next}
@@ -190,10 +190,10 @@ module _ (form : Form) where
       ∙ ap (λ (v : Verdict). then v (firstBad number bad (valuesIn form (nextOf o (field t ls)) gs))) (by-fault number (startOf o (field t ls)) (faultOf bad (valuesFor form (field t ls))))
 
   tag-step : (number : ℕ) (ts : List (List ℕ)) (o : ℕ) (g : Field) (gs : List Field)
-      → firstBad number (tagged ts) (valuesIn form o (g ∷ gs)) ≡ then (asVerdict number (marked (among (tagOf g) ts) o)) (firstBad number (tagged ts) (valuesIn form (nextOf o g) gs))
-  tag-step number ts o (field t ls) gs = first-tag form o t ls gs number ts ∙ by-mark number (among t ts) o (firstBad number (tagged ts) (valuesIn form (nextOf o (field t ls)) gs))
+      → firstBad number (hasTag ts) (valuesIn form o (g ∷ gs)) ≡ then (asVerdict number (marked (among (tagOf g) ts) o)) (firstBad number (hasTag ts) (valuesIn form (nextOf o g) gs))
+  tag-step number ts o (field t ls) gs = first-tag form o t ls gs number ts ∙ by-mark number (among t ts) o (firstBad number (hasTag ts) (valuesIn form (nextOf o (field t ls)) gs))
 
-  has-step : (ts : List (List ℕ)) (o : ℕ) (g : Field) (gs : List Field) → has (tagged ts) (valuesIn form o (g ∷ gs)) ≡ (among (tagOf g) ts || has (tagged ts) (valuesIn form (nextOf o g) gs))
+  has-step : (ts : List (List ℕ)) (o : ℕ) (g : Field) (gs : List Field) → has (hasTag ts) (valuesIn form o (g ∷ gs)) ≡ (among (tagOf g) ts || has (hasTag ts) (valuesIn form (nextOf o g) gs))
   has-step ts o (field t ls) gs = has-tag form o t ls gs ts
 
   kpp-step : (u : List ℕ) (o : ℕ) (g : Field) (gs : List Field)

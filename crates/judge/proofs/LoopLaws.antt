@@ -15,7 +15,7 @@ use Rattle.base.proofs.SaysLaws.{says-so, says-not, says-same}
 use Rattle.alphabets.specs.Steps.{backTable}
 use Rattle.fields.specs.Field.{Field, fields, linesOf}
 use Rattle.fields.specs.Frame.{limit}
-use Rattle.fields.specs.Places.{sizeOf, startOf, nextOf}
+use Rattle.fields.specs.Places.{linesSize, startOf, nextOf}
 use Rattle.fields.specs.Shapes.{unpack}
 use Rattle.fields.specs.ByLines.{joined}
 use Rattle.fields.specs.Lines.{linesIn}
@@ -36,7 +36,7 @@ use Rattle.values.specs.declared.Found.the-variants.{Wrong, Plain, Has}
 use Rattle.values.specs.Steps.{finds}
 use Rattle.roles.specs.declared.Spot.{Spot}
 use Rattle.roles.specs.declared.Spot.the-variants.{Nowhere, At}
-use Rattle.roles.specs.Rule14.{unheard, spoken}
+use Rattle.roles.specs.Rule14.{unheard, speechesOf}
 use Rattle.roles.specs.Found.{brokenIn, verdictAt}
 use Rattle.roles.proofs.BreachLaws.{unheard-within, spoken-within}
 use Rattle.roles.proofs.BackTableLaws.{field-found, spoken-next}
@@ -122,7 +122,7 @@ module _ {m spots : List ℕ} {k : ℕ} {p : Part} (h : Here m spots k p) where
   -- ---- 14
   module _ (form : Form) where
     abbrev unheard14 : ℕ → List Field → Verdict
-    unheard14 o fs = unheard (spoken form o fs)
+    unheard14 o fs = unheard (speechesOf form o fs)
 
     heard-here : {b : List ℕ} {s : Spot} → b ≡ backTable → s ≡ brokenIn b form (unpack (p .tag)) content
         → unheard14 (byte spots k) (drop k (fields m)) ≡ then (verdictAt (p .start) s) (unheard14 (byte spots (k + 1)) (drop (k + 1) (fields m)))
@@ -140,11 +140,11 @@ module _ {m spots : List ℕ} {k : ℕ} {p : Part} (h : Here m spots k p) where
       heard-on e = heard-here x e
 
 -- a text that breaks 14 stands in the message
-pub place-small : {m spots : List ℕ} → Settled m spots → (form : Form) (k n q : ℕ) → k ≤ length (fields m) → Broken n q ≡ unheard (spoken form (byte spots k) (drop k (fields m))) → q ≤ length m + 2
+pub place-small : {m spots : List ℕ} → Settled m spots → (form : Form) (k n q : ℕ) → k ≤ length (fields m) → Broken n q ≡ unheard (speechesOf form (byte spots k) (drop k (fields m))) → q ≤ length m + 2
 place-small {m} {spots} s form k n q h e =
     let fs = drop k (fields m) in
     let o : ℕ = byte spots k in
-    omega (arith, s .stand k h .dash, unheard-within (spoken form o fs) (o + 2) (o + sizeOf (linesOf fs) + 2) n q (spoken-within form o fs) (sym e))
+    omega (arith, s .stand k h .dash, unheard-within (speechesOf form o fs) (o + 2) (o + linesSize (linesOf fs) + 2) n q (spoken-within form o fs) (sym e))
 
 -- ---- 9 to 13: one field more
 pub field-on : {m spots : List ℕ} {k : ℕ} {p : Part} (h : Here m spots k p) (form : Form) (f : Facts) {e g : Facts} {x : Finds} → x ≡ findsIn form (fieldOf h)

@@ -3,7 +3,7 @@ ghost use mathlib.Core.Path.{_≡_};
 ghost use lib.ListN.{length};
 ghost use Rattle.alphabets.specs.Steps.{backTable};
 ghost use Rattle.fields.specs.Field.{fields};
-ghost use Rattle.roles.specs.Rule14.{unheard, spoken};
+ghost use Rattle.roles.specs.Rule14.{unheard, speechesOf};
 ghost use Rattle.judge.specs.Parts.{Settled};
 use super::parts::field_at;
 use base::Verdict;
@@ -20,7 +20,7 @@ pub(crate) fn speeches_rule(
     n: usize,
 ) -> Verdict
     requires { ⌜ (now back ≡ backTable) × Settled (now m) (now spots) × (n ≡ length (fields (now m))) ⌝ }
-    ensures { λ v. ⌜ v ≡ unheard (spoken form 5 (fields (now (m .entry)))) ⌝ }
+    ensures { λ v. ⌜ v ≡ unheard (speechesOf form 5 (fields (now (m .entry)))) ⌝ }
 {
     let mut k = 0;
     while k < n {

@@ -15,7 +15,7 @@ use Rattle.fields.specs.Field.{onto}
 use Rattle.types.specs.declared.Form.{Form}
 use Rattle.types.specs.Form.{formOf}
 use Rattle.records.specs.Record.{line, pieces, recordOf}
-use Rattle.records.specs.Rule19.{isDigits, numbered, typed, number, formIn}
+use Rattle.records.specs.Rule19.{isDigits, isTypePart, typed, typeNumber, formIn}
 use Rattle.records.proofs.SheetLaws.{line-record}
 use Rattle.records.proofs.RuleLaws.{named}
 
@@ -23,7 +23,7 @@ pub record Spelt (l : List ℕ) : Type 0 where
   pub type : List ℕ
   pub is : l ≡ 77 ∷ 84 ∷ 9 ∷ type
   pub three : isDigits 3 type ≡ true
-  pub worth : formIn (recordOf l) ≡ formOf (number type)
+  pub worth : formIn (recordOf l) ≡ formOf (typeNumber type)
 
 pub spelt : (l : List ℕ) → typed (recordOf l) ≡ true → Spelt l
 spelt l e =
@@ -63,9 +63,9 @@ one-piece (x ∷ p) a =
     let r = digit-range x (left (digit x) (all digit p) a) .0 in
     rw (ne-eqb x 9 (λ e. omega arith)) (ap (onto x) (one-piece p (right (digit x) (all digit p) a)))
 
-numbered-three : (p : List ℕ) → isDigits 3 p ≡ true → numbered (pieces 9 p) ≡ true
+numbered-three : (p : List ℕ) → isDigits 3 p ≡ true → isTypePart (pieces 9 p) ≡ true
 unfolding isDigits
-numbered-three p e = ap numbered (one-piece p (right (eqb (length p) 3) (all digit p) e)) ∙ e
+numbered-three p e = ap isTypePart (one-piece p (right (eqb (length p) 3) (all digit p) e)) ∙ e
 
 typed-text : (p : List ℕ) → isDigits 3 p ≡ true → typed (recordOf (77 ∷ 84 ∷ 9 ∷ p)) ≡ true
 unfolding recordOf pieces same
@@ -102,5 +102,5 @@ module _ (s : List ℕ) (e : ℕ) (z : length (take e s) ≡ e) (y : typed (reco
   pub type-digits : isDigits 3 (take (e - 3) (drop 3 s)) ≡ true
   type-digits = ap (isDigits 3) type-part ∙ spelt (take e s) y .three
 
-  pub type-form : {n : ℕ} {f : Form} → n ≡ number (take (e - 3) (drop 3 s)) → f ≡ formOf n → f ≡ formIn (recordOf (take e s))
-  type-form h i = i ∙ ap formOf (h ∙ ap number type-part) ∙ sym (spelt (take e s) y .worth)
+  pub type-form : {n : ℕ} {f : Form} → n ≡ typeNumber (take (e - 3) (drop 3 s)) → f ≡ formOf n → f ≡ formIn (recordOf (take e s))
+  type-form h i = i ∙ ap formOf (h ∙ ap typeNumber type-part) ∙ sym (spelt (take e s) y .worth)

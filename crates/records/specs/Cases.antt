@@ -10,7 +10,7 @@ use Rattle.fields.specs.Field.{field}
 use Rattle.types.specs.Form.{formOf}
 use Rattle.records.specs.Record.{Record, sheet, records, rest}
 use Rattle.records.specs.Places.{startsOf, partsOf}
-use Rattle.records.specs.Rule19.{sheetVerdict, sheetForm, sheetSign}
+use Rattle.records.specs.Rule19.{verdict19And18, sheetForm, sheetSign}
 
 pub data Case : Type 0 where
   -- the sheet is refused, of 19 and 18, by this number at this place
@@ -25,8 +25,8 @@ pub data Case : Type 0 where
   parts : ℕ → Record → List ℕ → Case
 
 abbrev pub Holds : Case → Type 0
-Holds (refused s n p) = sheetVerdict (desk s) ≡ Broken n p
-Holds (taken s k g) = (sheetVerdict (desk s) ≡ Fine) × (sheetForm (desk s) ≡ formOf k) × (sheetSign (desk s) ≡ g)
+Holds (refused s n p) = verdict19And18 (desk s) ≡ Broken n p
+Holds (taken s k g) = (verdict19And18 (desk s) ≡ Fine) × (sheetForm (desk s) ≡ formOf k) × (sheetSign (desk s) ≡ g)
 Holds (signed s g) = sheetSign (desk s) ≡ g
 Holds (reads s rs w ps) = (records (desk s) ≡ rs) × (rest (desk s) ≡ desk w) × (sheet rs ++ desk w ≡ desk s) × (startsOf 0 rs ≡ ps)
 Holds (parts o r ps) = partsOf o r ≡ ps

@@ -22,16 +22,16 @@ use Rattle.alphabets.specs.declared.pieces.Piece.the-variants.{Read, Stops}
 use Rattle.alphabets.proofs.PieceLaws.{reads-piece, characters-said}
 use Rattle.alphabets.proofs.SpokenLaws.{counted}
 use Rattle.fields.specs.Field.{Field, field}
-use Rattle.fields.specs.Places.{sizeOf, startOf, nextOf}
+use Rattle.fields.specs.Places.{linesSize, startOf, nextOf}
 use Rattle.fields.specs.ByLines.{joined}
 use Rattle.fields.proofs.ContentLaws.{lines-joined}
 use Rattle.fields.proofs.PlaceLaws.{joined-length}
-use Rattle.contents.specs.Tests.{numbered, looksTax}
+use Rattle.contents.specs.Tests.{wordAndDigit, looksTax}
 use Rattle.contents.specs.Parts.{opensRpp}
 use Rattle.roles.specs.Role.{Part, copy, name, taxName, lineOf, shapeOf, cast}
 use Rattle.roles.specs.Speech.{Manner, asName, asTaxName, asDetails, Speech, speech, saidAt, nameSpeeches, laterText, detailsSpeech, codeSize, noteSpeeches, speeches}
-use Rattle.roles.specs.Rule14.{mute, hidden, isInn, taxLike, clauses, breaks, unheard, texts, spoken}
-use Rattle.roles.specs.Found.{muteIn, breaksIn, found, brokenIn, verdictAt}
+use Rattle.roles.specs.Rule14.{mute, hidden, isCyrillicInn, taxLike, clauses, breaks14, unheard, texts, speechesOf}
+use Rattle.roles.specs.Found.{muteIn, breaks14In, found, brokenIn, verdictAt}
 use Rattle.roles.specs.declared.Shape.{Shape}
 use Rattle.roles.specs.declared.Shape.the-variants.{Plain, Payer, Payee, Agent, Details, Note103, Note202}
 use Rattle.roles.specs.declared.Spot.the-variants.{At}
@@ -39,14 +39,14 @@ use Rattle.roles.proofs.BreachLaws.{first-clause, unheard-append, unhea
 
 -- ---- the clauses look at four signs of a reading
 module _ (x y z : ℕ) (a : eqb 0 x ≡ false) (b : eqb 0 y ≡ false) (c : eqb 0 z ≡ false) where
-  numbered-by : (s : List ℕ) → numbered (x ∷ y ∷ z ∷ []) s ≡ ((eqb (byte s 0) x && (eqb (byte s 1) y && (eqb (byte s 2) z && true))) && digit (byte s 3))
+  numbered-by : (s : List ℕ) → wordAndDigit (x ∷ y ∷ z ∷ []) s ≡ ((eqb (byte s 0) x && (eqb (byte s 1) y && (eqb (byte s 2) z && true))) && digit (byte s 3))
   unfolding same
   numbered-by [] = rw a
   numbered-by (p ∷ []) = rw b
   numbered-by (p ∷ q ∷ []) = rw c
   numbered-by (p ∷ q ∷ r ∷ s) = refl
 
-  numbered-same : (d u : List ℕ) → ((j : ℕ) → j < 4 → getD d j 0 ≡ getD u j 0) → numbered (x ∷ y ∷ z ∷ []) d ≡ numbered (x ∷ y ∷ z ∷ []) u
+  numbered-same : (d u : List ℕ) → ((j : ℕ) → j < 4 → getD d j 0 ≡ getD u j 0) → wordAndDigit (x ∷ y ∷ z ∷ []) d ≡ wordAndDigit (x ∷ y ∷ z ∷ []) u
   numbered-same d u h = numbered-by d ∙ rw (h 0 (omega arith), h 1 (omega arith), h 2 (omega arith), h 3 (omega arith)) (sym (numbered-by u))
 
 module _ (d u : List ℕ) (h : (j : ℕ) → j < 4 → getD d j 0 ≡ getD u j 0) where
@@ -55,7 +55,7 @@ module _ (d u : List ℕ) (h : (j : ℕ) → j < 4 → getD d j 0 ≡ getD u j 0
   same-hidden b = ap (λ (n : ℕ). begins 39 b && isIn n (47 ∷ 58 ∷ 45 ∷ [])) (h 0 (omega arith))
 
   same-like : taxLike d ≡ taxLike u
-  unfolding taxLike looksTax isInn
+  unfolding taxLike looksTax isCyrillicInn
   same-like = ap₂ (λ (p q : Bool). p || q) (numbered-same 73 78 78 refl refl refl d u h) (numbered-same 200 205 205 refl refl refl d u h)
 
   same-clauses : (m : Manner) (q : Bool) (b : List ℕ) → clauses m q b d ≡ clauses m q b u
@@ -75,8 +75,8 @@ mute-back b = go (pieceIn backTable false b) (counted backTable false b) ∙ ap 
         by [] e = rw e
         by (x ∷ u) e = ne-eqb n 0 (λ z. omega arith)
 
-pub breaks-back : (m : Manner) (b : List ℕ) → breaksIn backTable m b ≡ breaks m b
-unfolding breaksIn breaks
+pub breaks-back : (m : Manner) (b : List ℕ) → breaks14In backTable m b ≡ breaks14 m b
+unfolding breaks14In breaks14
 breaks-back m b = ap (λ (q : Bool). clauses m q b (charactersFrom backTable 4 false b 0)) (mute-back b) ∙ go (reads false b) refl
   where
     go : (a : Answer) → reads false b ≡ a → clauses m (mute (reads false b)) b (charactersFrom backTable 4 false b 0) ≡ clauses m (mute (reads false b)) b (textOf (reads false b))
@@ -140,7 +140,7 @@ speeches-moved s Note202 o i ls = note-moved s o i ls
 found-unheard : (o : ℕ) (xs : List Speech) → unheard (map (moved o) xs) ≡ verdictAt o (found backTable xs)
 unfolding unheard found
 found-unheard o [] = refl
-found-unheard o (speech m p b ∷ xs) = ap (λ (q : Bool). pick q (Broken 14 (o + p)) (unheard (map (moved o) xs))) (sym (breaks-back m b)) ∙ go (breaksIn backTable m b) (found-unheard o xs)
+found-unheard o (speech m p b ∷ xs) = ap (λ (q : Bool). pick q (Broken 14 (o + p)) (unheard (map (moved o) xs))) (sym (breaks-back m b)) ∙ go (breaks14In backTable m b) (found-unheard o xs)
   where
     go : (q : Bool) → unheard (map (moved o) xs) ≡ verdictAt o (found backTable xs) → pick q (Broken 14 (o + p)) (unheard (map (moved o) xs)) ≡ verdictAt o (pick q (At p) (found backTable xs))
     go true e = refl
@@ -164,10 +164,10 @@ pub spot-within : (form : Form) (t l : List ℕ) (ls : List (List ℕ)) (p : ℕ
 spot-within form t l ls p e u =
     let n : ℕ = startOf 0 (field t (l ∷ ls)) in
     let z = joined-length l ls in
-    let w = unheard-within (texts form 0 (field t (l ∷ ls))) n (n + sizeOf (l ∷ ls) + 2) 14 (n + p) (speeches-within true (shapeOf form t) n (l ∷ ls)) (field-found form 0 t l ls e ∙ ap (verdictAt n) u) in
+    let w = unheard-within (texts form 0 (field t (l ∷ ls))) n (n + linesSize (l ∷ ls) + 2) 14 (n + p) (speeches-within true (shapeOf form t) n (l ∷ ls)) (field-found form 0 t l ls e ∙ ap (verdictAt n) u) in
     omega (arith, w, z)
 
 -- field by field
-pub spoken-next : (form : Form) (o : ℕ) (f : Field) (fs : List Field) → unheard (spoken form o (f ∷ fs)) ≡ then (unheard (texts form o f)) (unheard (spoken form (nextOf o f) fs))
-unfolding spoken
-spoken-next form o f fs = unheard-append (texts form o f) (spoken form (nextOf o f) fs)
+pub spoken-next : (form : Form) (o : ℕ) (f : Field) (fs : List Field) → unheard (speechesOf form o (f ∷ fs)) ≡ then (unheard (texts form o f)) (unheard (speechesOf form (nextOf o f) fs))
+unfolding speechesOf
+spoken-next form o f fs = unheard-append (texts form o f) (speechesOf form (nextOf o f) fs)

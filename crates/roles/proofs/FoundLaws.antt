@@ -11,7 +11,7 @@ use lib.ListN.{length, take, drop, drop-of-length-le}
 use lib.Seq.{drop-nil}
 use Rattle.types.specs.declared.Form.{Form}
 use Rattle.base.specs.Choice.{pick}
-use Rattle.base.specs.Bytes.{begins, upTo}
+use Rattle.base.specs.Bytes.{begins, countUpTo}
 use Rattle.alphabets.specs.Pieces.{pieceIn, pieceOn, pieceAfter}
 use Rattle.alphabets.specs.declared.pieces.Piece.{Piece}
 use Rattle.alphabets.specs.declared.pieces.Piece.the-variants.{Read, Stops}
@@ -21,7 +21,7 @@ use Rattle.contents.specs.Tests.{looksTax}
 use Rattle.contents.specs.Parts.{opensRpp}
 use Rattle.roles.specs.Role.{copy, name, taxName, shapeOf, taxed, cast}
 use Rattle.roles.specs.Speech.{asName, asTaxName, nameSpeeches, laterText, detailsStart, detailsSpeech, noteSpeeches, speeches}
-use Rattle.roles.specs.Found.{linesPast, muteIn, breaksIn, found, brokenIn, castFrom, lineBreaks, detailsText, muteAfter}
+use Rattle.roles.specs.Found.{linesPast, muteIn, breaks14In, found, brokenIn, castFrom, lineBreaks, detailsText, muteAfter}
 use Rattle.roles.specs.declared.Shape.{Shape}
 use Rattle.roles.specs.declared.Shape.the-variants.{Plain, Payer, Payee, Agent, Details, Note103, Note202}
 use Rattle.roles.specs.declared.Spot.{Spot}
@@ -35,7 +35,7 @@ unfolding nameSpeeches found lineBreaks
 names-line t i false l ls = refl
 names-line t i true l ls = go (looksTax l)
   where
-    go : (q : Bool) → found t (nameSpeeches i (pick q (copy l) (taxName l) ∷ map name ls)) ≡ pick (pick q false (breaksIn t asTaxName l)) (At i) (found t (nameSpeeches (i + length l + 2) (map name ls)))
+    go : (q : Bool) → found t (nameSpeeches i (pick q (copy l) (taxName l) ∷ map name ls)) ≡ pick (pick q false (breaks14In t asTaxName l)) (At i) (found t (nameSpeeches (i + length l + 2) (map name ls)))
     go true = refl
     go false = refl
 
@@ -53,7 +53,7 @@ module _ (t c : List ℕ) (e : ℕ) (tax : Bool) where
   names-end h = sym (none-left (e + 2) h)
 
 -- the next line begins at i and ends at n
-module _ (t c : List ℕ) (e : ℕ) (tax : Bool) (i n : ℕ) (h : e < length c) (p : i ≡ min (e + 2) (length c)) (q : n ≡ i + upTo 13 (drop i c)) where
+module _ (t c : List ℕ) (e : ℕ) (tax : Bool) (i n : ℕ) (h : e < length c) (p : i ≡ min (e + 2) (length c)) (q : n ≡ i + countUpTo 13 (drop i c)) where
   names-step : found t (nameSpeeches (e + 2) (castFrom tax (linesPast c e)))
       ≡ pick (lineBreaks t tax (take (n - i) (drop i c))) (At (e + 2)) (found t (nameSpeeches (n + 2) (castFrom false (linesPast c n))))
   names-step =
@@ -75,7 +75,7 @@ module _ (t c : List ℕ) (e : ℕ) (tax : Bool) (i n : ℕ) (h : e < length c) 
   names-miss b = names-step ∙ ap (λ (u : Bool). pick u (At (e + 2)) (found t (nameSpeeches (n + 2) (castFrom false (linesPast c n))))) (sym b)
 
 -- ---- the first line of a content, to its end e
-module _ (t c : List ℕ) (e : ℕ) (q : e ≡ 0 + upTo 13 (drop 0 c)) where
+module _ (t c : List ℕ) (e : ℕ) (q : e ≡ 0 + countUpTo 13 (drop 0 c)) where
   width : 0 + length (take e c) + 2 ≡ e + 2
   width = omega (arith, head-size c e q)
 
@@ -104,7 +104,7 @@ module _ (t c : List ℕ) (e : ℕ) (q : e ≡ 0 + upTo 13 (drop 0 c)) where
       ∙ ap (λ (k : ℕ). pick (lineBreaks t true (take e c)) (At 0) (found t (nameSpeeches k (castFrom false (linesPast c e))))) width
   party-name false b =
       by-first Payee ∙ ap (λ (u : Bool). found t (nameSpeeches 0 (pick u (copy (take e c)) (name (take e c)) ∷ taxed (linesPast c e)))) (sym b)
-      ∙ ap (λ (k : ℕ). pick (breaksIn t asName (take e c)) (At 0) (found t (nameSpeeches k (taxed (linesPast c e))))) width
+      ∙ ap (λ (k : ℕ). pick (breaks14In t asName (take e c)) (At 0) (found t (nameSpeeches k (taxed (linesPast c e))))) width
 
   module _ (payer : Bool) (b : false ≡ begins 47 (take e c)) where
     pub party-hit : true ≡ lineBreaks t payer (take e c) → At 0 ≡ found t (speeches true (pick payer Payer Payee) 0 (linesIn c))
@@ -165,7 +165,7 @@ mute-past t c from front mark h =
     ∙ ap (λ (d : List ℕ). muteIn (pieceIn t false (d ++ []))) (drop-nil front))
 
 -- the line from at on ends at e, its text begins at b
-module _ (t c : List ℕ) (at d mark : ℕ) (latin some : Bool) (e b : ℕ) (q : e ≡ at + upTo 13 (drop at c)) (r : b ≡ at + min d (e - at)) where
+module _ (t c : List ℕ) (at d mark : ℕ) (latin some : Bool) (e b : ℕ) (q : e ≡ at + countUpTo 13 (drop at c)) (r : b ≡ at + min d (e - at)) where
   text-line : detailsText d mark (linesIn (drop at c)) ≡ take (e - b) (drop b c) ++ detailsText mark mark (linesPast c e)
   text-line =
       ap (detailsText d mark) (lines-from c at e q)
@@ -195,9 +195,9 @@ module _ (t c : List ℕ) (at d mark : ℕ) (latin some : Bool) (e b : ℕ) (q :
     mute-on i h p = mute-line ∙ ap (λ (ls : List (List ℕ)). muteAfter (some || not (eqb n 0)) (pieceIn t z (detailsText mark mark ls))) (past-at c e i h p)
 
 -- ---- details
-module _ (t c : List ℕ) (at front mark e : ℕ) (q : e ≡ at + upTo 13 (drop at c)) where
+module _ (t c : List ℕ) (at front mark e : ℕ) (q : e ≡ at + countUpTo 13 (drop at c)) where
   details-is : found t (detailsSpeech front mark at (linesIn (drop at c))) ≡ pick (muteIn (pieceIn t false (detailsText front mark (linesIn (drop at c))))) (At (detailsStart front mark at (take (e - at) (drop at c)))) Nowhere
-  unfolding detailsSpeech found breaksIn
+  unfolding detailsSpeech found breaks14In
   details-is =
       ap (λ (ls : List (List ℕ)). found t (detailsSpeech front mark at ls)) (lines-from c at e q)
       ∙ ap (λ (ls : List (List ℕ)). pick (muteIn (pieceIn t false (detailsText front mark ls))) (At (detailsStart front mark at (take (e - at) (drop at c)))) Nowhere) (sym (lines-from c at e q))

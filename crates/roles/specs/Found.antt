@@ -29,12 +29,12 @@ abbrev pub muteIn : Piece → Bool
 muteIn (Read n s) = s || eqb n 0
 muteIn (Stops k) = true
 
-unfoldable pub breaksIn : List ℕ → Manner → List ℕ → Bool
-breaksIn t m b = clauses m (muteIn (pieceIn t false b)) b (charactersFrom t 4 false b 0)
+unfoldable pub breaks14In : List ℕ → Manner → List ℕ → Bool
+breaks14In t m b = clauses m (muteIn (pieceIn t false b)) b (charactersFrom t 4 false b 0)
 
 unfoldable pub found : List ℕ → List Speech → Spot
 found t [] = Nowhere
-found t (speech m o b ∷ xs) = pick (breaksIn t m b) (At o) (found t xs)
+found t (speech m o b ∷ xs) = pick (breaks14In t m b) (At o) (found t xs)
 
 unfoldable pub brokenIn : List ℕ → Form → List ℕ → List ℕ → Spot
 brokenIn t form tag c = found t (speeches true (shapeOf form tag) 0 (linesIn c))
@@ -51,7 +51,7 @@ castFrom true ls = taxed ls
 castFrom false ls = map name ls
 
 unfoldable pub lineBreaks : List ℕ → Bool → List ℕ → Bool
-lineBreaks t tax l = pick tax (pick (looksTax l) false (breaksIn t asTaxName l)) (breaksIn t asName l)
+lineBreaks t tax l = pick tax (pick (looksTax l) false (breaks14In t asTaxName l)) (breaks14In t asName l)
 
 -- the text of details
 abbrev pub detailsText : ℕ → ℕ → List (List ℕ) → List ℕ

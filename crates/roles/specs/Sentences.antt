@@ -6,7 +6,7 @@ use mathlib.Core.List.{List, [], _∷_, _++_}
 use Rattle.base.specs.Calls.{said, stuck}
 use Rattle.alphabets.specs.Bank.{reading}
 use Rattle.roles.specs.Speech.{Manner, asName, asTaxName, Speech, speech}
-use Rattle.roles.specs.Rule14.{hidden, taxLike, breaks}
+use Rattle.roles.specs.Rule14.{hidden, taxLike, breaks14}
 
 -- a text breaks 14 in one of these ways
 pub data Breach : Manner → List ℕ → Type 0 where
@@ -22,7 +22,7 @@ pub data Breach : Manner → List ℕ → Type 0 where
 -- no text breaks it
 abbrev pub Heard : List Speech → Type 0
 Heard [] = Unit {0}
-Heard (speech m o b ∷ xs) = (breaks m b ≡ false) × Heard xs
+Heard (speech m o b ∷ xs) = (breaks14 m b ≡ false) × Heard xs
 
 -- the text at p breaks it, and none before
 pub record FirstBreach (xs : List Speech) (p : ℕ) : Type 0 where
@@ -42,4 +42,4 @@ Within a e (speech m p b ∷ xs) = (a ≤ p) × Within p e xs
 -- every text that breaks it stands at p or later
 abbrev pub NoneBefore : ℕ → List Speech → Type 0
 NoneBefore p [] = Unit {0}
-NoneBefore p (speech m q b ∷ xs) = (breaks m b ≡ true → p ≤ q) × NoneBefore p xs
+NoneBefore p (speech m q b ∷ xs) = (breaks14 m b ≡ true → p ≤ q) × NoneBefore p xs

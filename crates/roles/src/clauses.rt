@@ -5,8 +5,8 @@ ghost use mathlib.Core.List.{[], _∷_};
 ghost use Rattle.base.specs.Bytes.{isIn, begins};
 ghost use Rattle.alphabets.specs.Pieces.{pieceIn};
 ghost use Rattle.roles.specs.Speech.{asName, asTaxName};
-ghost use Rattle.roles.specs.Rule14.{isInn};
-ghost use Rattle.roles.specs.Found.{muteIn, breaksIn, lineBreaks};
+ghost use Rattle.roles.specs.Rule14.{isCyrillicInn};
+ghost use Rattle.roles.specs.Found.{muteIn, breaks14In, lineBreaks};
 use alphabets::pieces::Piece;
 use alphabets::pieces::first_characters;
 use alphabets::pieces::read_piece;
@@ -51,7 +51,7 @@ fn is_mute(back: &[u8; 256], text: &[u8]) -> bool
 }
 
 pub(crate) fn breaks_named(back: &[u8; 256], name: &[u8]) -> bool
-    ensures { λ r. ⌜ r ≡ breaksIn (now (back .entry)) asName (now (name .entry)) ⌝ }
+    ensures { λ r. ⌜ r ≡ breaks14In (now (back .entry)) asName (now (name .entry)) ⌝ }
 {
     if is_mute(back, name) {
         return true;
@@ -68,14 +68,14 @@ const INN: [u8; 3] = [200, 205, 205];
 
 // Whether a reading begins with INN in Cyrillic and a digit.
 pub fn is_inn(d: &[u8]) -> bool
-    ensures { λ r. ⌜ r ≡ isInn (now (d .entry)) ⌝ }
+    ensures { λ r. ⌜ r ≡ isCyrillicInn (now (d .entry)) ⌝ }
 {
     let inn = INN;
     is_numbered(d, &inn)
 }
 
 fn breaks_tax(back: &[u8; 256], name: &[u8]) -> bool
-    ensures { λ r. ⌜ r ≡ breaksIn (now (back .entry)) asTaxName (now (name .entry)) ⌝ }
+    ensures { λ r. ⌜ r ≡ breaks14In (now (back .entry)) asTaxName (now (name .entry)) ⌝ }
 {
     if breaks_named(back, name) {
         return true;

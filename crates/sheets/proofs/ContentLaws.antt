@@ -10,7 +10,7 @@ use lib.ListN.{length, take, drop, length-drop}
 use Rattle.base.proofs.ByteLaws.{past-in}
 use Rattle.base.proofs.Room.{puts-on, puts-by}
 use Rattle.base.specs.Choice.{pick}
-use Rattle.base.specs.Bytes.{upTo}
+use Rattle.base.specs.Bytes.{countUpTo}
 use Rattle.base.specs.Calls.{placed, Puts}
 use Rattle.fields.specs.Lines.{linesIn}
 use Rattle.contents.specs.Parts.{opensRpp}
@@ -24,20 +24,20 @@ use Rattle.roles.proofs.PartLaws.{each-lined}
 use Rattle.roles.proofs.LineLaws.{lines-head, past-none, past-at, head-size, head-within}
 use Rattle.records.specs.Record.{tabbed}
 use Rattle.sheets.specs.Gather.{codeDigits}
-use Rattle.sheets.specs.Steps.{partsBy, cutBy, overBy, detailsBy, noteBy, contentBy}
+use Rattle.sheets.specs.Steps.{partsBy, textPieces, overBy, detailsBy, noteBy, contentBy}
 use Rattle.sheets.proofs.TextLaws.{tab-put, take-few, code-few}
 
 -- ---- details, of a content whose first line ends at e
-module _ (c : List ℕ) (e : ℕ) (q : e ≡ 0 + upTo 13 (drop 0 c)) (t : List ℕ) (s : Bool) where
+module _ (c : List ℕ) (e : ℕ) (q : e ≡ 0 + countUpTo 13 (drop 0 c)) (t : List ℕ) (s : Bool) where
   pub details-put : (first mark : ℕ) {k v : List ℕ} → k ≡ drop first (take e c) → v ≡ codeDigits s k → {z : ℕ} → z ≡ codeSize s
-      → {out mid now after : List ℕ} {at n r : ℕ} → Puts (9 ∷ v) out at n mid → now ≡ placed mid n (9 ∷ []) → Puts (overBy t s false (cutBy (first + z) mark (linesIn c))) now (n + 1) r after
+      → {out mid now after : List ℕ} {at n r : ℕ} → Puts (9 ∷ v) out at n mid → now ≡ placed mid n (9 ∷ []) → Puts (overBy t s false (textPieces (first + z) mark (linesIn c))) now (n + 1) r after
       → n ≤ at + 1 + length v → r ≤ n + 1 + length c → (r ≤ at + length c + 7) × Puts (tabbed (detailsBy t s first mark (linesIn c))) out at r after
   details-put first mark {k} {v} hk hv {z} hz p f o i j =
       let ls = linesPast c e in
       let l = take e c in
-      let x : List ℕ = overBy t s false (cutBy (first + z) mark (linesIn c)) in
-      let y : List ℕ = overBy t s false (cutBy (first + codeSize s) mark (l ∷ ls)) in
-      let same : x ≡ y = ap₂ (λ (i : ℕ) (xs : List (List ℕ)). overBy t s false (cutBy (first + i) mark xs)) hz (lines-head c e q) in (
+      let x : List ℕ = overBy t s false (textPieces (first + z) mark (linesIn c)) in
+      let y : List ℕ = overBy t s false (textPieces (first + codeSize s) mark (l ∷ ls)) in
+      let same : x ≡ y = ap₂ (λ (i : ℕ) (xs : List (List ℕ)). overBy t s false (textPieces (first + i) mark xs)) hz (lines-head c e q) in (
         omega (arith, code-few s k hv),
         puts-by (ap₂ (λ (a b : List ℕ). 9 ∷ (a ++ 9 ∷ b)) (hv ∙ ap (codeDigits s) hk) (same ∙ sym (append-nil y)) ∙ ap (λ (xs : List (List ℕ)). tabbed (detailsBy t s first mark xs)) (sym (lines-head c e q)))
             (puts-on (9 ∷ v) (9 ∷ x) p (tab-put f o)),

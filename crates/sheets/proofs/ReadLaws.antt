@@ -33,7 +33,7 @@ use Rattle.roles.specs.Role.{shapeOf, Part, copy, name, taxName, lineOf, cast}
 use Rattle.roles.specs.Parts.{castBy, isNameBy, nextRole}
 use Rattle.roles.specs.Speech as speech
 use Rattle.roles.specs.Speech.{Manner, asDetails, asTaxName, Speech, nameSpeeches, laterText, codeSize, speeches}
-use Rattle.roles.specs.Rule14.{mute, clauses, breaks, spoken as texts}
+use Rattle.roles.specs.Rule14.{mute, clauses, breaks14, speechesOf as texts}
 use Rattle.roles.specs.Sentences.{Heard}
 use Rattle.roles.specs.declared.Shape.{Shape}
 use Rattle.roles.specs.declared.Shape.the-variants.{Plain, Payer, Payee, Agent, Details, Note103, Note202}
@@ -46,7 +46,7 @@ use Rattle.judge.proofs.RuleLaws.{accepted-rules}
 use Rattle.judge.proofs.VerdictTheorems.{frame-clean}
 use Rattle.records.specs.Record.{Record, line, sheet}
 use Rattle.sheets.specs.Gather.{partFor, codeDigits, detailsParts, noteParts, contentParts, recordFor, gather, typeRecord, recordsOf, sheetOf}
-use Rattle.sheets.specs.Steps.{saidBy, sideOf, sideBy, partsBy, cutBy, overBy, detailsBy, noteBy, contentBy, recordBy, sheetBy}
+use Rattle.sheets.specs.Steps.{saidBy, sideOf, sideBy, partsBy, textPieces, overBy, detailsBy, noteBy, contentBy, recordBy, sheetBy}
 
 -- ---- a text that reads
 abbrev pub Speaks : Bool → List ℕ → Type 0
@@ -171,8 +171,8 @@ DetailsSpeak s front mark (l ∷ ls) = Speaks s (drop front l ++ laterText mark 
 details-same : (s : Bool) (first mark : ℕ) (ls : List (List ℕ)) → DetailsSpeak s (first + codeSize s) mark ls → detailsBy backTable s first mark ls ≡ detailsParts s first mark ls
 details-same s first mark [] w = refl
 details-same s first mark (l ∷ ls) w =
-    let e : drop (first + codeSize s) l ++ laterText mark ls ≡ run (cutBy (first + codeSize s) mark (l ∷ ls)) = ap (λ (x : List ℕ). drop (first + codeSize s) l ++ x) (behind-run mark ls) in
-    ap (λ (x : List ℕ). codeDigits s (drop first l) ∷ x ∷ []) (over-reads s (cutBy (first + codeSize s) mark (l ∷ ls)) (subst (Speaks s) e w) ∙ ap (λ (x : List ℕ). textOf (reading s x)) (sym e))
+    let e : drop (first + codeSize s) l ++ laterText mark ls ≡ run (textPieces (first + codeSize s) mark (l ∷ ls)) = ap (λ (x : List ℕ). drop (first + codeSize s) l ++ x) (behind-run mark ls) in
+    ap (λ (x : List ℕ). codeDigits s (drop first l) ∷ x ∷ []) (over-reads s (textPieces (first + codeSize s) mark (l ∷ ls)) (subst (Speaks s) e w) ∙ ap (λ (x : List ℕ). textOf (reading s x)) (sym e))
 
 pub record Noted (s : Bool) (l : List ℕ) (ls : List (List ℕ)) : Type 0 where
   pub behind-rpp : opensRpp l ≡ true → DetailsSpeak s (5 + codeSize s) 2 ls
@@ -208,8 +208,8 @@ content-same s Note202 [] w = refl
 content-same s Note202 (l ∷ ls) w = note-same s l ls w
 
 -- ---- with the sign every text reads, by 14
-heard-speaks : (m : Manner) (b : List ℕ) → breaks m b ≡ false → Speaks true b
-unfolding breaks
+heard-speaks : (m : Manner) (b : List ℕ) → breaks14 m b ≡ false → Speaks true b
+unfolding breaks14
 heard-speaks m b e = go (reading true b) refl
   where
     go : (a : Answer) → reading true b ≡ a → Speaks true b

@@ -49,9 +49,9 @@ partsBy t s role [] = []
 partsBy t s role (l ∷ ls) = saidBy t (s && isNameBy role l) false l ∷ partsBy t s (nextRole role l) ls
 
 -- ---- a text over lines: what stands behind the marks, one piece behind another
-abbrev pub cutBy : ℕ → ℕ → List (List ℕ) → List (List ℕ)
-cutBy front mark [] = []
-cutBy front mark (l ∷ ls) = drop front l ∷ map (drop mark) ls
+abbrev pub textPieces : ℕ → ℕ → List (List ℕ) → List (List ℕ)
+textPieces front mark [] = []
+textPieces front mark (l ∷ ls) = drop front l ∷ map (drop mark) ls
 
 unfoldable pub overBy : List ℕ → Bool → Bool → List (List ℕ) → List ℕ
 overBy t s latin [] = []
@@ -60,7 +60,7 @@ overBy t s latin (p ∷ ps) = saidBy t s latin p ++ overBy t s (sideBy t s latin
 -- ---- details: the digits of the VO code at the front, and the text
 abbrev pub detailsBy : List ℕ → Bool → ℕ → ℕ → List (List ℕ) → List (List ℕ)
 detailsBy t s first mark [] = []
-detailsBy t s first mark (l ∷ ls) = codeDigits s (drop first l) ∷ overBy t s false (cutBy (first + codeSize s) mark (l ∷ ls)) ∷ []
+detailsBy t s first mark (l ∷ ls) = codeDigits s (drop first l) ∷ overBy t s false (textPieces (first + codeSize s) mark (l ∷ ls)) ∷ []
 
 -- 72 of a 202: what follows /RPP/ or an empty part, then details
 abbrev pub noteBy : List ℕ → Bool → List (List ℕ) → List (List ℕ)

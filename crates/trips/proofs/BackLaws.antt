@@ -40,8 +40,8 @@ use Rattle.roles.specs.declared.Shape.the-variants.{Plain, Payer, Payee, Agent}
 use Rattle.roles.proofs.BreachLaws.{same-lines}
 use Rattle.judge.specs.Message.{messageRules, verdictOf}
 use Rattle.records.specs.Record.{Record, sheet, records}
-use Rattle.records.specs.Rule19.{isDigits, number, sheetForm, sheetSign}
-use Rattle.records.specs.Sentences.{Right, plain, agent, payer, payee, details, note103, note202, Sound}
+use Rattle.records.specs.Rule19.{isDigits, typeNumber, sheetForm, sheetSign}
+use Rattle.records.specs.Sentences.{RightParts, plain, agent, payer, payee, details, note103, note202, SoundSheet}
 use Rattle.records.proofs.RuleLaws.{fine-sound, named}
 use Rattle.records.proofs.SoundLaws.{sound-sheet, sound-type}
 use Rattle.details.specs.Lines.{together}
@@ -74,7 +74,7 @@ module _ (s : Bool) where
   parts-back (x ∷ xs) e =
       ap₂ (λ (l : List ℕ) (k : List (List ℕ)). l ∷ k) (part-back x (left (speaks s x) _ e)) (parts-back xs (right (speaks s x) _ e))
 
-  cast-back : (sh : Shape) (ps : List (List ℕ)) → Right s sh ps → all (speaks s) (cast sh ps) ≡ true
+  cast-back : (sh : Shape) (ps : List (List ℕ)) → RightParts s sh ps → all (speaks s) (cast sh ps) ≡ true
       → map (partFor s) (cast sh (map (lineFor s) (cast sh ps))) ≡ ps
   cast-back sh ps r e = ap (map (partFor s)) (cast-again s sh ps r e) ∙ parts-back (cast sh ps) e ∙ same-lines sh ps
 
@@ -128,13 +128,13 @@ unfolding speech.detailsSpeech
 code-text-back p s vo w d h =
     let l : List ℕ = layout p .mark ++ h .front in
     let ls : List (List ℕ) = map (λ (k : List ℕ). layout p .next ++ k) (h .behind) in
-    let number : codeDigits s (drop (markOf p) l) ≡ vo =
+    let digits : codeDigits s (drop (markOf p) l) ≡ vo =
     ap (codeDigits s) (mark-dropped p (h .front)) ∙ digits-in s (h .front) (together (h .behind)) (h .code) ∙ ap (codeDigits s) (h .joins) ∙ digits-back s vo w d in
     let text : drop (frontOf p s) l ++ speech.laterText (nextOf p) ls ≡ w =
     ap textIn (ap (speech.detailsSpeech (frontOf p s) (nextOf p) 0) (sym (h .is)) ∙ details-again p s vo w 0 d h .1) in
     ap (detailsParts s (markOf p) (nextOf p)) (h .is)
     ∙ ap (λ (n : ℕ). codeDigits s (drop (markOf p) l) ∷ textOf (reading s (drop n l ++ speech.laterText (nextOf p) ls)) ∷ []) (mark-and-code p s)
-    ∙ ap₂ (λ (v t : List ℕ). v ∷ textOf (reading s t) ∷ []) number text
+    ∙ ap₂ (λ (v t : List ℕ). v ∷ textOf (reading s t) ∷ []) digits text
 
 -- with the text that is written
 spelt-back : (p : DetailsField) (s : Bool) (vo t : List ℕ) → isDigits 5 vo ≡ true → all (speaks s) (copy vo ∷ name t ∷ []) ≡ true
@@ -158,7 +158,7 @@ pub content-back : (s : Bool) (sh : Shape) (ps : List (List ℕ)) → Ready s sh
 unfolding contentParts contentLines crowded
 content-back s sh ps w = go (w .is-right) (w .says) (w .fits)
   where
-    go : {sh : Shape} {ps : List (List ℕ)} → Right s sh ps → all (speaks s) (castParts sh ps) ≡ true → crowded s sh ps ≡ false
+    go : {sh : Shape} {ps : List (List ℕ)} → RightParts s sh ps → all (speaks s) (castParts sh ps) ≡ true → crowded s sh ps ≡ false
         → contentParts s sh (contentLines s sh ps) ≡ ps
     go (plain p ps e g) a u = cast-back s Plain (p ∷ ps) (plain p ps e g) a
     go (agent p ps e g) a u = cast-back s Agent (p ∷ ps) (agent p ps e g) a
@@ -179,7 +179,7 @@ gather-back form s (field t ps ∷ rs) w =
 abbrev threeDigits : ℕ → List ℕ
 threeDigits n = (48 + n / 100 % 10) ∷ (48 + n / 10 % 10) ∷ (48 + n % 10) ∷ []
 
-digits-number : (p : List ℕ) → isDigits 3 p ≡ true → threeDigits (number p) ≡ p
+digits-number : (p : List ℕ) → isDigits 3 p ≡ true → threeDigits (typeNumber p) ≡ p
 unfolding isDigits
 digits-number [] d = absurd (false≢true d)
 digits-number (a ∷ []) d = absurd (false≢true d)
@@ -200,18 +200,18 @@ digits-number (a ∷ b ∷ c ∷ []) d =
     ap (λ (k : ℕ). k ∷ (48 + n / 10 % 10) ∷ (48 + n % 10) ∷ []) u ∙ ap₂ (λ (k j : ℕ). a ∷ k ∷ j ∷ []) v w
 
 -- a type that is one of the two is named as it was
-named-back : (p : List ℕ) → isDigits 3 p ≡ true → rule18 (formOf (number p)) ≡ Fine → typeName (formOf (number p)) ≡ p
+named-back : (p : List ℕ) → isDigits 3 p ≡ true → rule18 (formOf (typeNumber p)) ≡ Fine → typeName (formOf (typeNumber p)) ≡ p
 unfolding rule18
-named-back p d e = go (eqb (number p) 103) (eqb (number p) 202) refl refl e
+named-back p d e = go (eqb (typeNumber p) 103) (eqb (typeNumber p) 202) refl refl e
   where
-    go : (a b : Bool) → eqb (number p) 103 ≡ a → eqb (number p) 202 ≡ b → rule18 (pick a Mt103 (pick b Mt202 Other)) ≡ Fine → typeName (pick a Mt103 (pick b Mt202 Other)) ≡ p
-    go true b x y e = ap threeDigits (sym (eqb-true (number p) 103 x)) ∙ digits-number p d
-    go false true x y e = ap threeDigits (sym (eqb-true (number p) 202 y)) ∙ digits-number p d
+    go : (a b : Bool) → eqb (typeNumber p) 103 ≡ a → eqb (typeNumber p) 202 ≡ b → rule18 (pick a Mt103 (pick b Mt202 Other)) ≡ Fine → typeName (pick a Mt103 (pick b Mt202 Other)) ≡ p
+    go true b x y e = ap threeDigits (sym (eqb-true (typeNumber p) 103 x)) ∙ digits-number p d
+    go false true x y e = ap threeDigits (sym (eqb-true (typeNumber p) 202 y)) ∙ digits-number p d
     go false false x y e = absurd (fine-broken 18 0 (sym e))
 
 -- ---- a sheet that no rule before 17 refuses
 module _ (s : List ℕ) (c : Clean (sheetRules s)) where
-  is-sound : Sound s
+  is-sound : SoundSheet s
   is-sound = fine-sound s (sheet-rules s c .sound)
 
   type-back : typeRecord (sheetForm s) ≡ is-sound .head

@@ -52,13 +52,13 @@ module _ (s : Bool) where
       let k : speaks s (name t) ≡ true = left (speaks s (name t)) _ (right (speaks s (copy vo)) _ a) in
       laid-pass p vo (textOf (writing s t)) d (spelt-empty s t (textOf (writing s t)) (said-is (writing s t) k) ∙ e) u
 
-  details-pass : {ps : List (List ℕ)} → sentences.Right s Details ps → all (speaks s) (castParts Details ps) ≡ true → crowded s Details ps ≡ false
+  details-pass : {ps : List (List ℕ)} → sentences.RightParts s Details ps → all (speaks s) (castParts Details ps) ≡ true → crowded s Details ps ≡ false
       → IsIn In70 s (contentLines s Details ps)
   unfolding contentLines crowded
   details-pass (sentences.details v t d e) a u = text-pass In70 v t d e a u
 
   -- r is what follows /RPP/, or nothing
-  behind-pass : {r : List ℕ} {ps : List (List ℕ)} → sentences.Right s Note202 (r ∷ ps) → all (speaks s) (castParts Note202 (r ∷ ps)) ≡ true → crowded s Note202 (r ∷ ps) ≡ false
+  behind-pass : {r : List ℕ} {ps : List (List ℕ)} → sentences.RightParts s Note202 (r ∷ ps) → all (speaks s) (castParts Note202 (r ∷ ps)) ≡ true → crowded s Note202 (r ∷ ps) ≡ false
       → IsIn (noteField r) s (linesFor (noteField r) (codeSize s) (codeAndText s ps))
   unfolding crowded
   behind-pass (sentences.note202 r v t d e) a u = text-pass (noteField r) v t d e (right (speaks s (copy r)) _ a) u

@@ -20,7 +20,7 @@ use Rattle.base.proofs.Bools.{left, right, both}
 use Rattle.base.specs.Examples.{AllHold}
 use Rattle.fields.specs.Shapes.{goesOn}
 use Rattle.contents.specs.Words.{Size, join, withMark}
-use Rattle.contents.specs.Lines.{opening, closing}
+use Rattle.contents.specs.Lines.{codeOpening, codeClosing}
 use Rattle.contents.specs.Fields as fields
 use Rattle.contents.specs.Fields.{One, IsRpp, Details, RppAndDetails}
 use Rattle.roles.specs.Speech.{codeSize}
@@ -56,7 +56,7 @@ as-behind : As BehindRpp "/NZP/" "//" 30 33 4
 as-behind = record { mark = refl; next = refl; widths = refl; wide = refl }
 
 -- the code
-code-on : (s : Bool) (vo t : List ℕ) → join (opening s ∷ vo ∷ closing s ∷ t ∷ []) ≡ code s vo ++ t
+code-on : (s : Bool) (vo t : List ℕ) → join (codeOpening s ∷ vo ∷ codeClosing s ∷ t ∷ []) ≡ code s vo ++ t
 code-on true vo t = ap (λ (k : List ℕ). bytes "'(VO" ++ k) (sym (append-assoc vo (bytes ")'") t))
 code-on false vo t = ap (λ (k : List ℕ). bytes "(VO" ++ k) (sym (append-assoc vo (bytes ")") t))
 
@@ -106,7 +106,7 @@ some-text w [] ((x ∷ l) ∷ ts) e n = refl
 module _ {p : DetailsField} {first later : String} {room rest more : ℕ} (a : As p first later room rest more) (s : Bool) where
   -- the lines, as the grammar and as the layout have them
   lines-as : (vo t : List ℕ) (ts : List (List ℕ))
-      → join (bytes first ∷ opening s ∷ vo ∷ closing s ∷ t ∷ []) ∷ map (λ (k : List ℕ). bytes later ++ k) ts ≡ marked (layout p) ((code s vo ++ t) ∷ ts)
+      → join (bytes first ∷ codeOpening s ∷ vo ∷ codeClosing s ∷ t ∷ []) ∷ map (λ (k : List ℕ). bytes later ++ k) ts ≡ marked (layout p) ((code s vo ++ t) ∷ ts)
   lines-as vo t ts = rw (a .mark, a .next, code-on s vo t)
 
   details-by : {vo t : List ℕ} {ts ls : List (List ℕ)} → Details first later room rest (suc more) s vo t ts ls → all goesOn (tail ls) ≡ true → DetailsOver p s ls

@@ -27,7 +27,7 @@ use Rattle.contents.proofs.RuleLaws.{field-says}
 use Rattle.roles.specs.Role.{shapeFor, shapeOf, cast}
 use Rattle.roles.specs.Speech as speech
 use Rattle.roles.specs.Speech.{codeSize, speeches}
-use Rattle.roles.specs.Rule14.{breaks}
+use Rattle.roles.specs.Rule14.{breaks14}
 use Rattle.roles.specs.Sentences.{Heard}
 use Rattle.roles.specs.declared.Shape.{Shape}
 use Rattle.roles.specs.declared.Shape.the-variants.{Details, Note103, Note202}
@@ -109,9 +109,9 @@ module _ {p : DetailsField} {s : Bool} {ls : List (List ℕ)} (w : DetailsOver p
       ap (detailsParts s (markSize p) (nextSize p)) (w .is)
       ∙ ap₂ (λ (a b : List ℕ). a ∷ textOf (reading s b) ∷ []) (ap (codeDigits s) (drop-append-seam (layout p .mark) (code s (w .vo) ++ w .text)) ∙ code-digits s (w .vo) (w .text) (w .five)) whole-text
 
-  details-heard : (o : ℕ) → Heard (speech.detailsSpeech (markSize p + codeSize s) (nextSize p) o ls) → breaks speech.asDetails whole ≡ false
+  details-heard : (o : ℕ) → Heard (speech.detailsSpeech (markSize p + codeSize s) (nextSize p) o ls) → breaks14 speech.asDetails whole ≡ false
   unfolding speech.detailsSpeech
-  details-heard o h = ap (breaks speech.asDetails) (sym whole-text) ∙ (rw (w .is) at h) .0
+  details-heard o h = ap (breaks14 speech.asDetails) (sym whole-text) ∙ (rw (w .is) at h) .0
 
   details-set : all (all xset) ls ≡ true → all xset whole ≡ true
   details-set e =

@@ -20,7 +20,7 @@ use Rattle.contents.specs.Rule8.{rightField}
 use Rattle.contents.proofs.RuleLaws.{rule8-fine}
 use Rattle.roles.specs.Role.{shapeOf}
 use Rattle.roles.specs.Speech.{Speech, speech, speeches}
-use Rattle.roles.specs.Rule14.{texts, spoken}
+use Rattle.roles.specs.Rule14.{texts, speechesOf}
 use Rattle.roles.specs.Sentences.{Heard}
 use Rattle.roles.specs.declared.Shape.{Shape}
 use Rattle.roles.proofs.BreachLaws.{rule14-fine}
@@ -54,8 +54,8 @@ heard-start sh o ls h =
 -- ---- field by field, the first colon at o
 module _ (form : Form) (s : Bool) where
   each-held : (o : ℕ) (fs : List Field) → all proper fs ≡ true → all (all xset) (linesOf fs) ≡ true → all (rightField form s) fs ≡ true
-      → (s ≡ true → Heard (spoken form o fs)) → AllHold (HeldField form s) fs
-  unfolding spoken
+      → (s ≡ true → Heard (speechesOf form o fs)) → AllHold (HeldField form s) fs
+  unfolding speechesOf
   each-held o [] p x r h = tt
   each-held o (field t [] ∷ fs) p x r h = absurd (false≢true p)
   each-held o (field t (l ∷ ls) ∷ fs) p x r h =
@@ -68,10 +68,10 @@ module _ (form : Form) (s : Bool) where
           tagged = left (shaped t) (all goesOn ls) q;
           fair = fair;
           right = left (rightField form s f) _ r;
-          heard = λ g. heard-start (shapeOf form t) (startOf o f) (l ∷ ls) (heard-front (texts form o f) (spoken form (nextOf o f) fs) (h g));
+          heard = λ g. heard-start (shapeOf form t) (startOf o f) (l ∷ ls) (heard-front (texts form o f) (speechesOf form (nextOf o f) fs) (h g));
         },
         each-held (nextOf o f) fs (right (proper f) (all proper fs) p) (all-behind (all xset) ls (linesOf fs) y) (right (rightField form s f) _ r)
-            (λ g. heard-behind (texts form o f) (spoken form (nextOf o f) fs) (h g)),
+            (λ g. heard-behind (texts form o f) (speechesOf form (nextOf o f) fs) (h g)),
       )
 
 pub all-held : (form : Form) (m : List ℕ) → verdictOf form m ≡ Fine → AllHold (HeldField form (signOf (fields m))) (fields m)

@@ -22,7 +22,7 @@ use Rattle.contents.proofs.SizeLaws.{right-nonempty}
 use Rattle.contents.specs.Tests.{looksTax, starts}
 use Rattle.roles.specs.Role.{shapeOf, Part, copy, name, taxName, lineOf, taxed, cast}
 use Rattle.roles.specs.Speech.{nameSpeeches, speeches}
-use Rattle.roles.specs.Rule14.{isInn}
+use Rattle.roles.specs.Rule14.{isCyrillicInn}
 use Rattle.roles.specs.Sentences.{Heard}
 use Rattle.roles.specs.declared.Shape.{Shape}
 use Rattle.roles.specs.declared.Shape.the-variants.{Plain, Payer, Payee, Agent}
@@ -38,7 +38,7 @@ use Rattle.written.proofs.SpeltLaws.{isSaid, plain-same, slash, colon, dash, sp
 use Rattle.written.proofs.ReadyLaws.{Fair, speaks}
 use Rattle.sheets.specs.Gather.{partFor, contentParts}
 use Rattle.trips.specs.Again.{again, lineAgain}
-use Rattle.trips.specs.Shown.{LineByLine, plain, payer, payee, agent, PartOf, Shows}
+use Rattle.trips.specs.Shown.{LineByLine, plain, payer, payee, agent, ReadPart, Shows}
 use Rattle.trips.specs.Shown as shown
 use Rattle.trips.proofs.Held.{Held, Kept, TaxKept, KeptPart, Sheeted}
 use Rattle.trips.proofs.ReadingLaws.{readAs, Clear, ClearTax, plain-clear, plain-tax, heard-clear, heard-tax, writes-again}
@@ -196,12 +196,12 @@ cast-parts _ ps payee = refl
 cast-parts _ ps agent = refl
 
 -- a tax line begins with Latin INN
-tax-inn : (l : List ℕ) → looksTax l ≡ true → isInn l ≡ false
-unfolding looksTax isInn same digit
+tax-inn : (l : List ℕ) → looksTax l ≡ true → isCyrillicInn l ≡ false
+unfolding looksTax isCyrillicInn same digit
 tax-inn [] e = refl
 tax-inn (x ∷ l) e =
     let n : x ≡ 73 = eqb-true x 73 (left (eqb x 73) _ (left (starts (bytes "INN") (x ∷ l)) _ e)) in
-    ap (λ (y : ℕ). isInn (y ∷ l)) n
+    ap (λ (y : ℕ). isCyrillicInn (y ∷ l)) n
 
 module _ (s : Bool) where
   part-some : (x : Part) → ClearPart s x → some (lineOf x) ≡ true → some (partFor s x) ≡ true
@@ -247,11 +247,11 @@ module _ (s : Bool) where
       one (name l) w = ap isSaid (writes-again s l w)
       one (taxName l) w = ap isSaid (writes-again s l (w .as-name))
 
-  parts-shown : (xs : List Part) → AllHold (ClearPart s) xs → OneByOne (PartOf s) xs (map (partFor s) xs)
+  parts-shown : (xs : List Part) → AllHold (ClearPart s) xs → OneByOne (ReadPart s) xs (map (partFor s) xs)
   parts-shown [] w = tt
   parts-shown (x ∷ xs) w = (one x (w .0), parts-shown xs (w .1))
     where
-      one : (x : Part) → ClearPart s x → PartOf s x (partFor s x)
+      one : (x : Part) → ClearPart s x → ReadPart s x (partFor s x)
       one (copy l) w = refl
       one (name l) w = w .reads
       one (taxName l) w = w .as-name .reads
@@ -267,12 +267,12 @@ module _ (s : Bool) where
       omega (arith, part-size x (w .0), parts-size xs (w .1), length-append (partFor s x) (tabbed (map (partFor s) xs)), length-append (lineOf x) (13 ∷ 10 ∷ withCrLf (map lineOf xs)))
 
   -- S5: what is read in the tax place
-  placed-inn : (b : Bool) (l : List ℕ) → looksTax l ≡ b → s ≡ true → ClearPart s (pick b (copy l) (taxName l)) → isInn (partFor s (pick b (copy l) (taxName l))) ≡ false
+  placed-inn : (b : Bool) (l : List ℕ) → looksTax l ≡ b → s ≡ true → ClearPart s (pick b (copy l) (taxName l)) → isCyrillicInn (partFor s (pick b (copy l) (taxName l))) ≡ false
   placed-inn true l e q w = tax-inn l e
   placed-inn false l e q w = w .no-inn q
 
-  first-inn : (ls : List (List ℕ)) → s ≡ true → AllHold (ClearPart s) (taxed ls) → isInn (firstLine (map (partFor s) (taxed ls))) ≡ false
-  unfolding isInn same
+  first-inn : (ls : List (List ℕ)) → s ≡ true → AllHold (ClearPart s) (taxed ls) → isCyrillicInn (firstLine (map (partFor s) (taxed ls))) ≡ false
+  unfolding isCyrillicInn same
   first-inn [] q w = refl
   first-inn (l ∷ ls) q w = placed-inn (looksTax l) l refl q (w .0)
 
@@ -281,17 +281,17 @@ module _ (s : Bool) where
   part-head false l w = w .as-name .heads 47 slash
 
   payer-inn : (b : Bool) (l : List ℕ) (ls : List (List ℕ)) → begins 47 l ≡ b → s ≡ true → AllHold (ClearPart s) (pick b (copy l ∷ taxed ls) (taxed (l ∷ ls)))
-      → isInn (taxPart Payer (map (partFor s) (pick b (copy l ∷ taxed ls) (taxed (l ∷ ls))))) ≡ false
-  payer-inn true l ls e q w = ap (λ (b : Bool). isInn (pick b (firstLine (map (partFor s) (taxed ls))) l)) e ∙ first-inn ls q (w .1)
+      → isCyrillicInn (taxPart Payer (map (partFor s) (pick b (copy l ∷ taxed ls) (taxed (l ∷ ls))))) ≡ false
+  payer-inn true l ls e q w = ap (λ (b : Bool). isCyrillicInn (pick b (firstLine (map (partFor s) (taxed ls))) l)) e ∙ first-inn ls q (w .1)
   payer-inn false l ls e q w =
       let p : List ℕ = partFor s (pick (looksTax l) (copy l) (taxName l)) in
-      ap (λ (b : Bool). isInn (pick b (firstLine (map (partFor s) (map name ls))) p)) (part-head (looksTax l) l (w .0) ∙ e) ∙ placed-inn (looksTax l) l refl q (w .0)
+      ap (λ (b : Bool). isCyrillicInn (pick b (firstLine (map (partFor s) (map name ls))) p)) (part-head (looksTax l) l (w .0) ∙ e) ∙ placed-inn (looksTax l) l refl q (w .0)
 
-  not-inn : (p : List ℕ) → (s ≡ true → isInn p ≡ false) → rule19.untaxed s p ≡ true
+  not-inn : (p : List ℕ) → (s ≡ true → isCyrillicInn p ≡ false) → rule19.untaxed s p ≡ true
   unfolding rule19.untaxed
   not-inn p h = go s h
     where
-      go : (b : Bool) → (b ≡ true → isInn p ≡ false) → not (b && isInn p) ≡ true
+      go : (b : Bool) → (b ≡ true → isCyrillicInn p ≡ false) → not (b && isCyrillicInn p) ≡ true
       go true h = ap not (h refl)
       go false h = refl
 

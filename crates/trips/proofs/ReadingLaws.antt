@@ -20,7 +20,7 @@ use Rattle.alphabets.proofs.Shortest.{Came, turned, signed, came}
 use Rattle.alphabets.proofs.Theorems.{plain-iff}
 use Rattle.contents.specs.Tests.{looksTax}
 use Rattle.roles.specs.Speech.{asName, asTaxName}
-use Rattle.roles.specs.Rule14.{mute, hidden, isInn, taxLike, clauses, breaks}
+use Rattle.roles.specs.Rule14.{mute, hidden, isCyrillicInn, taxLike, clauses, breaks14}
 use Rattle.records.specs.Record.{plainText}
 use Rattle.trips.proofs.SaidLaws.{says-written, says-short, says-text}
 use Rattle.written.proofs.SpeltLaws.{said-is, Mark, slash, colon, dash, mark-kind, mark-character, not-apostrophe, not-none}
@@ -84,7 +84,7 @@ pub record ClearTax (s : Bool) (l : List ℕ) : Type 0 where
   pub as-name : Clear s l
   pub untaxed : looksTax l ≡ false
   pub untaxed-read : looksTax (readAs s l) ≡ false
-  pub no-inn : s ≡ true → isInn (readAs s l) ≡ false
+  pub no-inn : s ≡ true → isCyrillicInn (readAs s l) ≡ false
 
 clear-by : (s : Bool) (l d : List ℕ) → reading s l ≡ said d → empty d ≡ false → ((c : ℕ) → Mark c → begins c d ≡ begins c l) → Clear s l
 clear-by s l d r m h =
@@ -111,16 +111,16 @@ or-none : (a b : Bool) → (a || b) ≡ false → (a ≡ false) × (b ≡ false)
 or-none true b e = absurd (true≢false e)
 or-none false b e = (refl, e)
 
-pub heard-clear : (l : List ℕ) → breaks asName l ≡ false → Clear true l
-unfolding breaks
+pub heard-clear : (l : List ℕ) → breaks14 asName l ≡ false → Clear true l
+unfolding breaks14
 heard-clear l e = go (reading true l) refl e
   where
     go : (a : Answer) → reading true l ≡ a → clauses asName (mute a) l (textOf a) ≡ false → Clear true l
     go (stuck k) r e = absurd (true≢false e)
     go (said d) r e = let f = or-none (empty d) (hidden l d) e in signed-clear l d r (f .0) (f .1)
 
-pub heard-tax : (l : List ℕ) → breaks asTaxName l ≡ false → looksTax l ≡ false → ClearTax true l
-unfolding breaks taxLike
+pub heard-tax : (l : List ℕ) → breaks14 asTaxName l ≡ false → looksTax l ≡ false → ClearTax true l
+unfolding breaks14 taxLike
 heard-tax l e t = go (reading true l) refl e
   where
     go : (a : Answer) → reading true l ≡ a → clauses asTaxName (mute a) l (textOf a) ≡ false → ClearTax true l
@@ -128,12 +128,12 @@ heard-tax l e t = go (reading true l) refl e
     go (said d) r e =
         let f = or-none (empty d) (hidden l d || taxLike d) e in
         let g = or-none (hidden l d) (taxLike d) (f .1) in
-        let h = or-none (looksTax d) (isInn d) (g .1) in
+        let h = or-none (looksTax d) (isCyrillicInn d) (g .1) in
         record {
           as-name = signed-clear l d r (f .0) (g .0);
           untaxed = t;
           untaxed-read = ap looksTax (ap textOf r) ∙ h .0;
-          no-inn = λ q. ap isInn (ap textOf r) ∙ h .1;
+          no-inn = λ q. ap isCyrillicInn (ap textOf r) ∙ h .1;
         }
 
 -- ---- it can be written

@@ -37,9 +37,9 @@ use Rattle.frame.specs.Frame.{EachFrameRule}
 use Rattle.judge.specs.Message.{verdictOf}
 use Rattle.judge.proofs.RuleLaws.{accepted-rules}
 use Rattle.records.specs.Record.{Record, sheet, pieces, front, final, recordOf, records, rest, begun, plainText, writable}
-use Rattle.records.specs.Places.{sizeOf}
+use Rattle.records.specs.Places.{recordsSize}
 use Rattle.records.specs.Rule19.{isDigits, good, typed, formIn, namedForm, sheetForm, sheetSign, rule19}
-use Rattle.records.specs.Sentences.{Sound}
+use Rattle.records.specs.Sentences.{SoundSheet}
 use Rattle.records.proofs.PieceLaws.{some-piece}
 use Rattle.records.proofs.PlaceLaws.{size-sheet}
 use Rattle.records.proofs.SheetLaws.{records-sheet, rest-sheet}
@@ -119,7 +119,7 @@ message-size : (fs : List Field) → length (message fs) ≡ length (withCrLf (l
 unfolding message
 message-size fs = omega (arith, length-append (withCrLf (linesOf fs)) closing)
 
-records-size : (form : Form) (s : Bool) (fs : List Field) → AllHold (SheetedField form s) fs → sizeOf (map (recordFor form s) fs) ≤ length (withCrLf (linesOf fs))
+records-size : (form : Form) (s : Bool) (fs : List Field) → AllHold (SheetedField form s) fs → recordsSize (map (recordFor form s) fs) ≤ length (withCrLf (linesOf fs))
 records-size form s [] w = omega arith
 records-size form s (field t ls ∷ fs) w =
     let n = records-size form s fs (w .1) in
@@ -194,7 +194,7 @@ module _ (form : Form) (s : Bool) (fs : List Field) (eighteen : rule18 form ≡ 
   read-as f = ap (λ (k : Form). f k (sheetSign sheetFor) (records sheetFor)) its-type ∙ ap₂ (f form) its-sign its-records
 
   -- ---- rule by rule
-  pub its-sound : Sound sheetFor
+  pub its-sound : SoundSheet sheetFor
   unfolding gather
   its-sound =
       record {

@@ -20,16 +20,16 @@ use Rattle.details.specs.declared.DetailsField.the-variants.{In72}
 use Rattle.writer.specs.Spread.{code, rppLine}
 use Rattle.written.specs.Sentences.{OneByOne}
 use Rattle.sheets.specs.Gather.{codeDigits}
-use Rattle.trips.specs.Shown.{LineByLine, plain, payer, payee, agent, PartOf, ShownDetails, Shows, each, details, note103, note202, behindRpp}
+use Rattle.trips.specs.Shown.{LineByLine, plain, payer, payee, agent, ReadPart, ShownDetails, Shows, each, details, note103, note202, behindRpp}
 use Rattle.trips.proofs.DetailRecordLaws.{code-digits}
 
 -- ---- a line's part
-part-one : (s : Bool) (x : Part) {p q : List ℕ} → PartOf s x p → PartOf s x q → p ≡ q
+part-one : (s : Bool) (x : Part) {p q : List ℕ} → ReadPart s x p → ReadPart s x q → p ≡ q
 part-one s (copy l) a b = a ∙ sym b
 part-one s (name l) a b = ap textOf (sym a ∙ b)
 part-one s (taxName l) a b = ap textOf (sym a ∙ b)
 
-pub parts-one : (s : Bool) (xs : List Part) (ps qs : List (List ℕ)) → OneByOne (PartOf s) xs ps → OneByOne (PartOf s) xs qs → ps ≡ qs
+pub parts-one : (s : Bool) (xs : List Part) (ps qs : List (List ℕ)) → OneByOne (ReadPart s) xs ps → OneByOne (ReadPart s) xs qs → ps ≡ qs
 parts-one s [] [] [] a b = refl
 parts-one s [] [] (q ∷ qs) a b = absurd b
 parts-one s [] (p ∷ ps) qs a b = absurd a

@@ -14,7 +14,7 @@ use Rattle.base.proofs.RuleLaws.{fine-broken}
 use Rattle.base.proofs.CallLaws.{not-long}
 use Rattle.fields.specs.Field.{Field, field, tagOf, closing, withCrLf, lined, linesOf, message, fields}
 use Rattle.fields.specs.Frame.{limit, rule1}
-use Rattle.fields.specs.Places.{sizeOf, nextOf}
+use Rattle.fields.specs.Places.{linesSize, nextOf}
 use Rattle.fields.proofs.FieldLaws.{crlf-size}
 use Rattle.fields.proofs.PlaceLaws.{size-append}
 use Rattle.types.specs.declared.Form.{Form}
@@ -88,7 +88,7 @@ module _ (form : Form) (s : Bool) where
   all-right (field t ls ∷ fs) h w = both (right-again form s t ls (h .0) (w .0)) (all-right fs (h .1) (w .1))
 
   -- 1: each field takes at most 300 bytes
-  all-short : (fs : List Field) → AllHold (HeldField form s) fs → AllHold (ReadyField form s) fs → sizeOf (linesOf (map (fieldAgain form s) fs)) ≤ 300 * length fs
+  all-short : (fs : List Field) → AllHold (HeldField form s) fs → AllHold (ReadyField form s) fs → linesSize (linesOf (map (fieldAgain form s) fs)) ≤ 300 * length fs
   all-short [] h w = omega arith
   all-short (field t ls ∷ fs) h w =
       let g : Field = fieldAgain form s (field t ls) in
@@ -100,7 +100,7 @@ module _ (form : Form) (s : Bool) where
       omega arith
 
 -- ---- the length of a message
-message-size : (fs : List Field) → length (message fs) ≡ 7 + sizeOf (linesOf fs)
+message-size : (fs : List Field) → length (message fs) ≡ 7 + linesSize (linesOf fs)
 unfolding message
 message-size fs = let a = length-append (withCrLf (linesOf fs)) closing in let b = crlf-size (linesOf fs) in omega arith
 
@@ -127,9 +127,9 @@ module _ (form : Form) (m : List ℕ) (e : verdictOf form m ≡ Fine) (s : List 
   sign-is : signOf (fields (messageFor s)) ≡ signOf (fields m)
   sign-is = ap signOf (built-fields s c) ∙ built-sign s c ∙ g
 
-  size-is : length (messageFor s) ≡ 7 + sizeOf (linesOf (map (fieldAgain form (signOf (fields m))) (fields m)))
+  size-is : length (messageFor s) ≡ 7 + linesSize (linesOf (map (fieldAgain form (signOf (fields m))) (fields m)))
   unfolding messageFor
-  size-is = message-size (fieldsOf s) ∙ ap (λ (fs : List Field). 7 + sizeOf (linesOf fs)) (sym (built-fields s c) ∙ fields-are)
+  size-is = message-size (fieldsOf s) ∙ ap (λ (fs : List Field). 7 + linesSize (linesOf fs)) (sym (built-fields s c) ∙ fields-are)
 
   rule1-again : rule1 (messageFor s) ≡ Fine
   unfolding rule1

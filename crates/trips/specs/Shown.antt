@@ -29,10 +29,10 @@ pub data LineByLine : Shape → Type 0 where
   agent : LineByLine Agent
 
 -- the part of a line: a copied line itself; of a name what it reads as
-abbrev pub PartOf : Bool → Part → List ℕ → Type 0
-PartOf s (copy l) p = p ≡ l
-PartOf s (name l) p = reading s l ≡ said p
-PartOf s (taxName l) p = reading s l ≡ said p
+abbrev pub ReadPart : Bool → Part → List ℕ → Type 0
+ReadPart s (copy l) p = p ≡ l
+ReadPart s (name l) p = reading s l ≡ said p
+ReadPart s (taxName l) p = reading s l ≡ said p
 
 -- details: their lines, the marks left out, are together the code and a text that reads as the sheet's
 pub record ShownDetails (s : Bool) (into : DetailsField) (ls : List (List ℕ)) (vo text : List ℕ) : Type 0 where
@@ -45,7 +45,7 @@ pub record ShownDetails (s : Bool) (into : DetailsField) (ls : List (List ℕ)) 
 
 -- the lines of a field, and the parts of its record
 pub data Shows (s : Bool) : Shape → List (List ℕ) → List (List ℕ) → Type 0 where
-  each : {sh : Shape} {ls ps : List (List ℕ)} → LineByLine sh → OneByOne (PartOf s) (cast sh ls) ps → Shows s sh ls ps
+  each : {sh : Shape} {ls ps : List (List ℕ)} → LineByLine sh → OneByOne (ReadPart s) (cast sh ls) ps → Shows s sh ls ps
   details : {ls : List (List ℕ)} {vo text : List ℕ} → ShownDetails s In70 ls vo text → Shows s Details ls (vo ∷ text ∷ [])
   note103 : {r : List ℕ} → Shows s Note103 (rppLine r ∷ []) (r ∷ [])
   note202 : {ls : List (List ℕ)} {vo text : List ℕ} → ShownDetails s In72 ls vo text → Shows s Note202 ls ([] ∷ vo ∷ text ∷ [])

@@ -20,7 +20,7 @@ use Rattle.types.specs.declared.Form.the-variants.{Other, Mt103, Mt202}
 use Rattle.types.specs.Form.{Place, must, may, formOf, typeOf, places103, places202, placesOf}
 use Rattle.types.specs.Walk.{among, isOf, find, skips, wrong, rule18}
 use Rattle.fields.specs.Shapes.{unpack}
-use Rattle.types.specs.Tables.{most, tagsOf, tagTable, mustTable, TablesOf, tablePlaces, tablePlacesFrom, findFrom, stepIn, missing, StepFor}
+use Rattle.types.specs.Tables.{most, placeTags, tagTable, mustTable, TablesOf, tablePlaces, tablePlacesFrom, findFrom, stepIn, missing, StepFor}
 use Rattle.types.specs.declared.Step.{Step}
 use Rattle.base.proofs.ByteLaws.{same-is}
 use Rattle.fields.proofs.PackLaws.{unpack-pack}
@@ -51,7 +51,7 @@ tables form = each-form TablesAgree refl refl refl form
 -- ---- a tag stands at one place, computed for each form
 abbrev aloneFrom : List Place → ℕ → List Place → Bool
 aloneFrom ps i [] = true
-aloneFrom ps i (q ∷ qs) = all (λ t. eqb (find ps t) i) (tagsOf q) && aloneFrom ps (suc i) qs
+aloneFrom ps i (q ∷ qs) = all (λ t. eqb (find ps t) i) (placeTags q) && aloneFrom ps (suc i) qs
 
 abbrev Alone : List Place → Type 0
 Alone ps = T (aloneFrom ps 0 ps)
@@ -60,7 +60,7 @@ all-alone : (form : Form) → Alone (placesOf form)
 unfolding places103 places202 find same
 all-alone form = each-form Alone tt tt tt form
 
-of-place : (t : List ℕ) (p : Place) → isOf t p ≡ among t (tagsOf p)
+of-place : (t : List ℕ) (p : Place) → isOf t p ≡ among t (placeTags p)
 of-place t (must ts) = refl
 of-place t (may ts) = refl
 
@@ -76,9 +76,9 @@ one-of ps i t (u ∷ us) h e = go (same t u) refl e (one-of ps i t us (and-right
 alone-from : (ps : List Place) (t : List ℕ) (i : ℕ) (qs : List Place) → T (aloneFrom ps i qs) → (k : ℕ) → k < length qs → isOf t (placeAt qs k) ≡ true → find ps t ≡ i + k
 alone-from ps t i [] h k l e = absurd (omega arith)
 alone-from ps t i (q ∷ qs) h zero l e =
-    one-of ps i t (tagsOf q) (and-left (all (λ u. eqb (find ps u) i) (tagsOf q)) (aloneFrom ps (suc i) qs) h) (sym (of-place t q) ∙ e) ∙ omega arith
+    one-of ps i t (placeTags q) (and-left (all (λ u. eqb (find ps u) i) (placeTags q)) (aloneFrom ps (suc i) qs) h) (sym (of-place t q) ∙ e) ∙ omega arith
 alone-from ps t i (q ∷ qs) h (suc k) l e =
-    alone-from ps t (suc i) qs (and-right (all (λ u. eqb (find ps u) i) (tagsOf q)) (aloneFrom ps (suc i) qs) h) k (omega arith) e ∙ omega arith
+    alone-from ps t (suc i) qs (and-right (all (λ u. eqb (find ps u) i) (placeTags q)) (aloneFrom ps (suc i) qs) h) k (omega arith) e ∙ omega arith
 
 find-alone : (ps : List Place) → Alone ps → (t : List ℕ) (k : ℕ) → k < length ps → isOf t (placeAt ps k) ≡ true → find ps t ≡ k
 find-alone ps h t k l e = alone-from ps t 0 ps h k l e ∙ zero-add k

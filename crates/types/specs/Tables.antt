@@ -27,13 +27,13 @@ pair [] = 0 ∷ 0 ∷ []
 pair (t ∷ []) = pack t ∷ pack t ∷ []
 pair (t ∷ u ∷ us) = pack t ∷ pack u ∷ []
 
-abbrev pub tagsOf : Place → List (List ℕ)
-tagsOf (must ts) = ts
-tagsOf (may ts) = ts
+abbrev pub placeTags : Place → List (List ℕ)
+placeTags (must ts) = ts
+placeTags (may ts) = ts
 
 abbrev pub pairs : List Place → List ℕ
 pairs [] = []
-pairs (p ∷ ps) = pair (tagsOf p) ++ pairs ps
+pairs (p ∷ ps) = pair (placeTags p) ++ pairs ps
 
 unfoldable pub tagTable : List Place → List ℕ
 tagTable ps = padded (most + most) 0 (pairs ps)

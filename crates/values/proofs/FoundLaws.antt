@@ -16,7 +16,7 @@ use Rattle.base.specs.Bytes.{begins, empty, same}
 use Rattle.base.specs.Quoted.{bytes}
 use Rattle.base.specs.Says.{Says, Not}
 use Rattle.base.proofs.SaysLaws.{says-not, says-same, says-so}
-use Rattle.fields.specs.Places.{sizeOf}
+use Rattle.fields.specs.Places.{linesSize}
 use Rattle.contents.specs.declared.Content.{Content}
 use Rattle.contents.specs.declared.Content.the-variants as holds
 use Rattle.contents.specs.declared.lines.Party.{Party}
@@ -27,7 +27,7 @@ use Rattle.contents.specs.declared.whole.Bank.the-variants as bank
 use Rattle.contents.specs.Words.{Text, Line}
 use Rattle.contents.specs.Fields.{Then, Any, In72, Right}
 use Rattle.contents.specs.Parts.{paidDate, paidCurrency}
-use Rattle.contents.specs.Answers.{cut, RppWith, BesideSaid, AccountFirst, CustomerSaid, NoAccount, PayerSaid, IsA, BicSaid, NameSaid, isHeld, isBank, LineOf}
+use Rattle.contents.specs.Answers.{cut, RppWith, BesideSaid, AccountFirst, CustomerSaid, NoAccount, PayerSaid, IsA, BicSaid, NameSaid, isHeld, isBank, SingleLine}
 use Rattle.contents.proofs.LineTests.{begins-says}
 use Rattle.contents.proofs.RightLaws.{customer-is, payer-is, bic-is, name-is}
 use Rattle.values.specs.Day.{realDay}
@@ -187,7 +187,7 @@ module _ (content : Content) (ls : List Line) where
 account-good : (content : Content) (ls : List Line) (twelve : Bool) → ((t : Text) → valuesOf t content ls ≡ customerTaxes t ls) → (h : Held) → AccountFirst twelve ls h → Good content ls (heldFound h)
 unfolding customerTaxes
 account-good content [] twelve e h b = absurd b
-account-good content (l ∷ ls) twelve e h b = beside-good content (l ∷ ls) ls (sizeOf (l ∷ [])) (length l + 2) twelve e h (b .1)
+account-good content (l ∷ ls) twelve e h b = beside-good content (l ∷ ls) ls (linesSize (l ∷ [])) (length l + 2) twelve e h (b .1)
 
 held-has : (h : Held) → isHas (heldFound h) ≡ isHeld h
 held-has held.Wrong = refl
@@ -273,15 +273,15 @@ module _ (sign : Bool) (ls : List Line) (b : Bank) where
 
 -- ---- a content of one line
 module _ (content : Content) (o : OneLine content) (sign : Bool) (s : Text) where
-  pub is-line : linesIn s ≡ s ∷ [] → LineOf content s → Right content sign (linesIn s)
+  pub is-line : linesIn s ≡ s ∷ [] → SingleLine content s → Right content sign (linesIn s)
   is-line e p = o sign (linesIn s) .1 (rw e p)
 
-  pub not-line : linesIn s ≡ s ∷ [] → Not (LineOf content s) → Not (Right content sign (linesIn s))
+  pub not-line : linesIn s ≡ s ∷ [] → Not (SingleLine content s) → Not (Right content sign (linesIn s))
   not-line e n x = n (rw e at (o sign (linesIn s) .0 x))
 
 -- by the content's name
-pub line-asks : (k : Content) (s : Text) {content : Content} {r : Bool} → content ≡ k → NoValues k → OneLine k → Says (LineOf k s) r → NoValues content × OneLine content × Says (LineOf content s) r
-line-asks k s {r = r} e n o h = subst (λ (x : Content). NoValues x × OneLine x × Says (LineOf x s) r) (sym e) (n, o, h)
+pub line-asks : (k : Content) (s : Text) {content : Content} {r : Bool} → content ≡ k → NoValues k → OneLine k → Says (SingleLine k s) r → NoValues content × OneLine content × Says (SingleLine content s) r
+line-asks k s {r = r} e n o h = subst (λ (x : Content). NoValues x × OneLine x × Says (SingleLine x s) r) (sym e) (n, o, h)
 
 pub plain-asks : (k : Content) (sign : Bool) (ls : List Line) {content : Content} {r : Bool} → content ≡ k → NoValues k → Says (Right k sign ls) r → NoValues content × Says (Right content sign ls) r
 plain-asks k sign ls {r = r} e n h = subst (λ (x : Content). NoValues x × Says (Right x sign ls) r) (sym e) (n, h)

@@ -10,7 +10,7 @@ use lib.ListN.{length, take, drop, length-append, length-take, length-drop}
 use lib.Seq.{drop-drop, take-take}
 use borrow.Author.Tests.{eq-eqb, ne-eqb, eqb-true, eqb-false}
 use Rattle.base.specs.Choice.{pick}
-use Rattle.base.specs.Bytes.{upTo, empty, same}
+use Rattle.base.specs.Bytes.{countUpTo, empty, same}
 use Rattle.base.specs.Quoted.{bytes}
 use Rattle.base.specs.Says.{Not}
 use Rattle.base.proofs.ByteLaws.{is-empty, is-filled, drop-take}
@@ -36,18 +36,18 @@ swap false x y = refl
 
 -- ---- the first line of a content stands at its front
 module _ (c : Text) (l : Line) (ms : List Line) (q : linesIn c ≡ l ∷ ms) where
-  first-is : l ≡ take (0 + upTo 13 c) c
+  first-is : l ≡ take (0 + countUpTo 13 c) c
   first-is =
-      let f = front-0 c (0 + upTo 13 c) refl in
-      let e : l ∷ ms ≡ take (0 + upTo 13 c) c ∷ f .0 = sym q ∙ f .1 in
+      let f = front-0 c (0 + countUpTo 13 c) refl in
+      let e : l ∷ ms ≡ take (0 + countUpTo 13 c) c ∷ f .0 = sym q ∙ f .1 in
       cc
 
   first-long : length l ≤ length c
-  first-long = omega (arith, ap length first-is, taken-0 c (0 + upTo 13 c) refl, within-0 c (0 + upTo 13 c) refl)
+  first-long = omega (arith, ap length first-is, taken-0 c (0 + countUpTo 13 c) refl, within-0 c (0 + countUpTo 13 c) refl)
 
   first-cut : (i n : ℕ) → i + n ≤ length l → cut i n l ≡ cut i n c
   first-cut i n h =
-      let e : ℕ = 0 + upTo 13 c in
+      let e : ℕ = 0 + countUpTo 13 c in
       let z : length l ≡ e = ap length first-is ∙ sym (taken-0 c e refl) in
       ap (cut i n) first-is ∙ ap (take n) (drop-take i e c) ∙ take-take n (e - i) (drop i c) (omega arith)
 

@@ -19,7 +19,7 @@ use Rattle.contents.specs.declared.Content.{Content}
 use Rattle.contents.specs.Words.{Text, Line}
 use Rattle.contents.specs.Tags.{heldBy}
 use Rattle.values.specs.Values.{Kind, tag, Value, at, placeOf, kindOf, moved, valuesOf, valuesIn}
-use Rattle.values.specs.Judged.{firstBad, has, tagged, hasKpp, kppIn, is56, is57, is26T, is77B, taxWhole, rule11, rule13}
+use Rattle.values.specs.Judged.{firstBad, has, hasTag, hasKpp, kppIn, is56, is57, is26T, is77B, taxWhole, rule11, rule13}
 use Rattle.values.specs.Answers.{faultOf, answered}
 use Rattle.values.proofs.JudgedLaws.{first-append, has-append}
 use Rattle.values.proofs.ValueLaws.{EveryKind, every-value}
@@ -46,8 +46,8 @@ fault-none bad [] e = refl
 fault-none bad (v ∷ vs) e = ap (λ (b : Bool). pick b (suc (placeOf v)) (faultOf bad vs)) (e .0) ∙ fault-none bad vs (e .1)
 
 -- ---- no content has a tag, and its tax lines are in its own field
-no-tag : (ts : List Text) (t : Text) (content : Content) (ls : List Line) → EveryKind (λ k. tagged ts k ≡ false) (valuesOf t content ls)
-no-tag ts t content ls = every-value (λ k. tagged ts k ≡ false) t (λ s. refl) (λ s. refl) (λ b a. refl) (λ i k. refl) content ls
+no-tag : (ts : List Text) (t : Text) (content : Content) (ls : List Line) → EveryKind (λ k. hasTag ts k ≡ false) (valuesOf t content ls)
+no-tag ts t content ls = every-value (λ k. hasTag ts k ≡ false) t (λ s. refl) (λ s. refl) (λ b a. refl) (λ i k. refl) content ls
 
 pub kpp-in : (u t : Text) (content : Content) (ls : List Line) → has (kppIn u) (valuesOf t content ls) ≡ (same t u && has hasKpp (valuesOf t content ls))
 kpp-in u t content ls =
@@ -97,14 +97,14 @@ module _ (form : Form) (o : ℕ) (t : Text) (ls : List Line) (fs : List Field) w
   first-field number bad h = ap (λ (b : Bool). pick b (Broken number o) (firstBad number bad (map (moved (startOf o (field t ls))) here ++ rest))) (h t) ∙ behind-tag number bad
 
   -- the first field with one of these tags
-  pub first-tag : (number : ℕ) (ts : List Text) → firstBad number (tagged ts) all ≡ pick (among t ts) (Broken number o) (firstBad number (tagged ts) rest)
+  pub first-tag : (number : ℕ) (ts : List Text) → firstBad number (hasTag ts) all ≡ pick (among t ts) (Broken number o) (firstBad number (hasTag ts) rest)
   unfolding firstBad
   first-tag number ts =
       ap (pick (among t ts) (Broken number o))
-      (behind-tag number (tagged ts) ∙ ap (λ (k : ℕ). then (answered number (startOf o (field t ls)) k) (firstBad number (tagged ts) rest)) (fault-none (tagged ts) here (no-tag ts t (heldBy form t) ls)))
+      (behind-tag number (hasTag ts) ∙ ap (λ (k : ℕ). then (answered number (startOf o (field t ls)) k) (firstBad number (hasTag ts) rest)) (fault-none (hasTag ts) here (no-tag ts t (heldBy form t) ls)))
 
-  pub has-tag : (ts : List Text) → has (tagged ts) all ≡ (among t ts || has (tagged ts) rest)
-  has-tag ts = ap (λ (b : Bool). among t ts || b) (has-behind (tagged ts) ∙ ap (λ (b : Bool). b || has (tagged ts) rest) (has-none (tagged ts) here (no-tag ts t (heldBy form t) ls)))
+  pub has-tag : (ts : List Text) → has (hasTag ts) all ≡ (among t ts || has (hasTag ts) rest)
+  has-tag ts = ap (λ (b : Bool). among t ts || b) (has-behind (hasTag ts) ∙ ap (λ (b : Bool). b || has (hasTag ts) rest) (has-none (hasTag ts) here (no-tag ts t (heldBy form t) ls)))
 
   -- a KPP in the field with this tag
   pub has-kpp : (u : Text) → has (kppIn u) all ≡ ((same t u && has hasKpp here) || has (kppIn u) rest)

@@ -10,7 +10,7 @@ use Rattle.base.specs.Choice.{pick}
 use Rattle.base.specs.Bytes.{begins}
 use Rattle.base.specs.Examples.{AllHold}
 use Rattle.fields.specs.Field.{Field, field}
-use Rattle.fields.specs.Places.{sizeOf, startOf, nextOf}
+use Rattle.fields.specs.Places.{linesSize, startOf, nextOf}
 use Rattle.fields.specs.ByLines.{joined}
 use Rattle.fields.proofs.PlaceLaws.{joined-length}
 use Rattle.types.specs.declared.Form.{Form}
@@ -120,7 +120,7 @@ customer-order : (t : Text) (ls : List Line) → Ordered 0 (customerTaxes t ls) 
 unfolding customerTaxes taxes
 customer-order t [] = nothing 0
 customer-order t (l ∷ []) = nothing (length l)
-customer-order t (l ∷ k ∷ ls) = taxes-order t (sizeOf (l ∷ [])) (length (joined (l ∷ k ∷ ls))) (k ∷ ls) (omega (arith, length-append l (13 ∷ 10 ∷ joined (k ∷ ls))))
+customer-order t (l ∷ k ∷ ls) = taxes-order t (linesSize (l ∷ [])) (length (joined (l ∷ k ∷ ls))) (k ∷ ls) (omega (arith, length-append l (13 ∷ 10 ∷ joined (k ∷ ls))))
 
 payer-order : (t : Text) (ls : List Line) → Ordered 0 (payerTaxes t ls) (length (joined ls))
 unfolding payerTaxes
@@ -197,7 +197,7 @@ module _ (P : Kind → Type 0) where
   every-customer : (t : Text) → ((i k : Text) → P (tax t i k)) → (ls : List Line) → EveryKind P (customerTaxes t ls)
   unfolding customerTaxes
   every-customer t x [] = tt
-  every-customer t x (l ∷ ls) = every-tax t x (sizeOf (l ∷ [])) ls
+  every-customer t x (l ∷ ls) = every-tax t x (linesSize (l ∷ [])) ls
 
   every-payer : (t : Text) → ((i k : Text) → P (tax t i k)) → (ls : List Line) → EveryKind P (payerTaxes t ls)
   unfolding payerTaxes

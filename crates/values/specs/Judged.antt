@@ -54,12 +54,12 @@ bikDiffers (currency c) = false
 bikDiffers (tax t inn kpp) = false
 
 -- a field with one of these tags
-abbrev pub tagged : List (List ℕ) → Kind → Bool
-tagged ts (tag t) = among t ts
-tagged ts (date s) = false
-tagged ts (currency c) = false
-tagged ts (party bik account) = false
-tagged ts (tax t inn kpp) = false
+abbrev pub hasTag : List (List ℕ) → Kind → Bool
+hasTag ts (tag t) = among t ts
+hasTag ts (date s) = false
+hasTag ts (currency c) = false
+hasTag ts (party bik account) = false
+hasTag ts (tax t inn kpp) = false
 
 -- a tax line with a KPP
 abbrev pub hasKpp : Kind → Bool
@@ -85,16 +85,16 @@ abbrev pub tags57 : List (List ℕ)
 tags57 = bytes "57A" ∷ bytes "57D" ∷ []
 
 abbrev pub is56 : Kind → Bool
-is56 = tagged tags56
+is56 = hasTag tags56
 
 abbrev pub is57 : Kind → Bool
-is57 = tagged tags57
+is57 = hasTag tags57
 
 abbrev pub is26T : Kind → Bool
-is26T = tagged (bytes "26T" ∷ [])
+is26T = hasTag (bytes "26T" ∷ [])
 
 abbrev pub is77B : Kind → Bool
-is77B = tagged (bytes "77B" ∷ [])
+is77B = hasTag (bytes "77B" ∷ [])
 
 -- 11: a 56, and no 57
 abbrev pub without57 : List Value → Kind → Bool

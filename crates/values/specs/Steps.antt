@@ -13,7 +13,7 @@ use Rattle.contents.specs.declared.whole.Bank.{Bank}
 use Rattle.contents.specs.declared.whole.Bank.the-variants as bank
 use Rattle.contents.specs.Words.{Text, Line}
 use Rattle.contents.specs.Fields.{One, Then, Any, Right}
-use Rattle.contents.specs.Answers.{IsA, LineOf}
+use Rattle.contents.specs.Answers.{IsA, SingleLine}
 use Rattle.values.specs.Day.{year, month, day}
 use Rattle.values.specs.Values.{ofFirst, parties, valuesOf}
 use Rattle.values.specs.Judged.{bikDiffers}
@@ -66,4 +66,4 @@ NoValues content = (t : Text) (ls : List Line) → valuesOf t content ls ≡ []
 
 -- a content of one line
 abbrev pub OneLine : Content → Type 0
-OneLine content = (sign : Bool) (ls : List Line) → (Right content sign ls → One (LineOf content) ls) × (One (LineOf content) ls → Right content sign ls)
+OneLine content = (sign : Bool) (ls : List Line) → (Right content sign ls → One (SingleLine content) ls) × (One (SingleLine content) ls → Right content sign ls)

@@ -7,7 +7,7 @@ use Rattle.types.specs.declared.Form.{Form}
 use Rattle.base.specs.Choice.{pick}
 use Rattle.base.specs.Bytes.{begins}
 use Rattle.fields.specs.Field.{Field, field}
-use Rattle.fields.specs.Places.{sizeOf, startOf, nextOf}
+use Rattle.fields.specs.Places.{linesSize, startOf, nextOf}
 use Rattle.contents.specs.declared.Content.{Content}
 use Rattle.contents.specs.declared.Content.the-variants as holds
 use Rattle.contents.specs.Words.{Text, Line}
@@ -76,7 +76,7 @@ taxes t n (l ∷ ls) = pick (looksTax l) (at n (tax t (taxInn l) (taxKpp l)) ∷
 -- beside an account, which is the first line
 unfoldable pub customerTaxes : Text → List Line → List Value
 customerTaxes t [] = []
-customerTaxes t (l ∷ ls) = taxes t (sizeOf (l ∷ [])) ls
+customerTaxes t (l ∷ ls) = taxes t (linesSize (l ∷ [])) ls
 
 -- 50K: there is an account exactly if the first line begins with /
 unfoldable pub payerTaxes : Text → List Line → List Value

@@ -6,7 +6,7 @@ use mathlib.Core.List.{List, [], _∷_, _++_, append-assoc}
 use native.Mathlib.Omega.{arith}
 use lib.ListN.{length, take, drop}
 use Rattle.base.specs.Choice.{pick}
-use Rattle.base.specs.Bytes.{empty, upTo}
+use Rattle.base.specs.Bytes.{empty, countUpTo}
 use Rattle.base.specs.Quoted.{bytes}
 use Rattle.base.specs.Rules.{then}
 use Rattle.base.specs.Calls.{textOf, placed}
@@ -44,7 +44,7 @@ pub empty-part : (p : List ℕ) → length p ≡ 0 → p ≡ []
 empty-part [] e = refl
 empty-part (x ∷ p) e = absurd (omega arith)
 
-module _ (s : Bool) (l : List ℕ) (i e : ℕ) (q : e ≡ i + upTo 9 (drop i l)) (d : rppAndDetailed (piecesAt 9 l i) ≡ true) where
+module _ (s : Bool) (l : List ℕ) (i e : ℕ) (q : e ≡ i + countUpTo 9 (drop i l)) (d : rppAndDetailed (piecesAt 9 l i) ≡ true) where
   inside : i ≤ length l
   inside = some-within rppAndDetailed l i refl d
 

@@ -6,7 +6,7 @@ use mathlib.Core.List.{List, [], _∷_, _++_, map, append-assoc}
 use native.Mathlib.Omega.{arith}
 use lib.ListN.{length, take, drop}
 use Rattle.base.specs.Choice.{pick}
-use Rattle.base.specs.Bytes.{begins, upTo}
+use Rattle.base.specs.Bytes.{begins, countUpTo}
 use Rattle.base.specs.Rules.{then}
 use Rattle.base.specs.Calls.{Answer, said, stuck, textOf}
 use Rattle.base.specs.declared.Verdict.{Verdict}
@@ -78,7 +78,7 @@ said-line s (taxName p) o e = refl
 abbrev pub PartsLeft : Verdict → List ℕ → List ℕ → ℕ → Bool → Role → List ℕ → ℕ → List ℕ → ℕ → Type 0
 PartsLeft v t out at s role l i now n = Onward v false t out at (unsaid s i (castBy role (piecesAt 9 l i))) false (withCrLf (map (lineFor s) (castBy role (piecesAt 9 l i)))) now n
 
-module _ (s : Bool) (role : Role) (l : List ℕ) (i e : ℕ) (h : i ≤ length l) (q : e ≡ i + upTo 9 (drop i l)) where
+module _ (s : Bool) (role : Role) (l : List ℕ) (i e : ℕ) (h : i ≤ length l) (q : e ≡ i + countUpTo 9 (drop i l)) where
   abbrev part : List ℕ
   part = take (e - i) (drop i l)
 

@@ -10,7 +10,7 @@ use lib.ListN.{length, take, drop, length-append}
 use lib.Seq.{take-append-seam}
 use borrow.Author.Tests.{eqb-true}
 use Rattle.base.specs.Choice.{all}
-use Rattle.base.specs.Bytes.{digit, xset, upTo}
+use Rattle.base.specs.Bytes.{digit, xset, countUpTo}
 use Rattle.base.specs.Rules.{then}
 use Rattle.base.specs.Calls.{Answer, said, textOf, placed, Puts}
 use Rattle.base.specs.declared.Verdict.{Verdict}
@@ -30,7 +30,7 @@ use Rattle.records.specs.Rule19.{isDigits, sole, detailed}
 use Rattle.records.proofs.PieceLaws.{pieces-at, past-end, end-within, piece-length, at-from, last-at, some-piece}
 use Rattle.details.specs.Lines.{together, Later, none, line, Division, lines}
 use Rattle.details.specs.Breaking.{Fit, fits, unfit}
-use Rattle.details.specs.Layouts.{Layout, layout, divided, DivisionIn, laterBytes, linesOf, linesFor, laidFor, sizeFor, Lays}
+use Rattle.details.specs.Layouts.{Layout, layout, divided, DivisionIn, laterBytes, fitLines, linesFor, laidFor, sizeFor, Lays}
 use Rattle.details.specs.Layouts as layouts
 use Rattle.details.specs.declared.DetailsField.{DetailsField}
 use Rattle.details.specs.declared.DetailsField.the-variants.{In70, In72, BehindRpp}
@@ -91,11 +91,11 @@ module _ (p : DetailsField) (least : ℕ) (text : List ℕ) (n : ℕ) (e : size.
 
   pub laid-few : n ≤ 248
   unfolding laidFor
-  laid-few = let k : length (layouts.laid (layout p) (fit .ls)) ≡ n = ap (λ (a : Fit (List (List ℕ))). length (layouts.laid (layout p) (linesOf a))) (sym (fit .is)) ∙ sym (fit .long) in omega (arith, field-laid p (fit .division))
+  laid-few = let k : length (layouts.laid (layout p) (fit .ls)) ≡ n = ap (λ (a : Fit (List (List ℕ))). length (layouts.laid (layout p) (fitLines a))) (sym (fit .is)) ∙ sym (fit .long) in omega (arith, field-laid p (fit .division))
 
   laid-whole : laidFor p least text ++ 13 ∷ 10 ∷ [] ≡ withCrLf (linesFor p least text)
   unfolding linesFor
-  laid-whole = ap (λ (t : List ℕ). t ++ 13 ∷ 10 ∷ []) (laid-lines p least text) ∙ sym (go (linesOf (divided (layout p) least text)) (ap linesOf (fit .is)))
+  laid-whole = ap (λ (t : List ℕ). t ++ 13 ∷ 10 ∷ []) (laid-lines p least text) ∙ sym (go (fitLines (divided (layout p) least text)) (ap fitLines (fit .is)))
     where
       by : {ok : ℕ → Bool} {ws : List ℕ} {ls : List (List ℕ)} → Division ok least text ws ls → withCrLf (layouts.marked (layout p) ls) ≡ joined (layouts.marked (layout p) ls) ++ 13 ∷ 10 ∷ []
       by (lines {l = l} {ls = ls} a b h m e) = crlf-joined (layout p .mark ++ l) (map (λ (k : List ℕ). layout p .next ++ k) ls)
@@ -116,7 +116,7 @@ pub unfit-lines : (p : DetailsField) (least : ℕ) (text : List ℕ) → sizeFor
 unfolding sizeFor linesFor
 unfit-lines p least text e = go (divided (layout p) least text) e
   where
-    go : (d : Fit (List (List ℕ))) → layouts.sizeOf (layout p) d ≡ size.Unfit → layouts.marked (layout p) (linesOf d) ≡ []
+    go : (d : Fit (List (List ℕ))) → layouts.fitSize (layout p) d ≡ size.Unfit → layouts.marked (layout p) (fitLines d) ≡ []
     go (fits ls) e = absurd (bytes-not e)
     go unfit e = refl
 
@@ -137,7 +137,7 @@ pub sole-part : (l : List ℕ) (i : ℕ) → i ≤ length l → sole (piecesAt 9
 sole-part l i h g = go (decLt e (length l))
   where
     e : ℕ
-    e = i + upTo 9 (drop i l)
+    e = i + countUpTo 9 (drop i l)
 
     one : (p : List ℕ) (ps : List (List ℕ)) → sole (p ∷ ps) ≡ true → ps ≡ []
     one p [] z = refl
@@ -178,7 +178,7 @@ detailed-at l i d =
     }
   where
     v : ℕ
-    v = i + upTo 9 (drop i l)
+    v = i + countUpTo 9 (drop i l)
 
     h : i ≤ length l
     h = some-within detailed l i refl d

@@ -12,7 +12,7 @@ use Rattle.roles.proofs.Shape.{the-type}
 use Rattle.roles.proofs.PartLaws.{each-lined}
 use lib.ListN.{length, take, drop, length-append}
 use Rattle.base.specs.Choice.{pick}
-use Rattle.base.specs.Bytes.{begins, empty, upTo}
+use Rattle.base.specs.Bytes.{begins, empty, countUpTo}
 use Rattle.base.specs.Rules.{then}
 use Rattle.base.specs.Calls.{Answer, said, stuck, Puts}
 use Rattle.base.specs.declared.Verdict.{Verdict}
@@ -30,10 +30,10 @@ use Rattle.roles.specs.Speech.{codeSize}
 use Rattle.roles.specs.declared.Shape.{Shape}
 use Rattle.roles.specs.declared.Shape.the-variants.{Details, Note103, Note202}
 use Rattle.records.specs.Record.{Record, line, recordOf}
-use Rattle.records.specs.Places.{nextOf}
-use Rattle.records.specs.Found.{piecesAt, tagNumber, badLine}
+use Rattle.records.specs.Places.{nextRecord}
+use Rattle.records.specs.Found.{piecesAt, tagNumber, badSheetLine}
 use Rattle.records.specs.Rule19.{sole, detailed, rppAndDetailed, sound, good}
-use Rattle.records.specs.Sentences.{Right, plain, agent, payer, payee, details, note103, note202}
+use Rattle.records.specs.Sentences.{RightParts, plain, agent, payer, payee, details, note103, note202}
 use Rattle.records.proofs.PieceLaws.{end-within, piece-length}
 use Rattle.records.proofs.PlaceLaws.{front-at, front-end}
 use Rattle.records.proofs.FoundLaws.{record-at, tag-size}
@@ -122,11 +122,11 @@ some-details p least text e = go (sizeFor p least text) refl e
     by : {ok : ℕ → Bool} {ws : List ℕ} {ls : List (List ℕ)} → Division ok least text ws ls → Some (marked (layout p) ls)
     by (lines {l = l} {ls = ls} a b h m e) = record { one = layout p .mark ++ l; more = map (λ (k : List ℕ). layout p .next ++ k) ls; is = refl }
 
-    go : (z : Size) → sizeFor p least text ≡ z → isUnfit z ≡ false → Some (marked (layout p) (layouts.linesOf (divided (layout p) least text)))
+    go : (z : Size) → sizeFor p least text ≡ z → isUnfit z ≡ false → Some (marked (layout p) (layouts.fitLines (divided (layout p) least text)))
     go size.Unfit f g = absurd (true≢false g)
-    go (size.Bytes n) f g = let w = fitted p least text n f in subst (λ (a : Fit (List (List ℕ))). Some (marked (layout p) (layouts.linesOf a))) (sym (w .is)) (by (w .division))
+    go (size.Bytes n) f g = let w = fitted p least text n f in subst (λ (a : Fit (List (List ℕ))). Some (marked (layout p) (layouts.fitLines a))) (sym (w .is)) (by (w .division))
 
-content-some : (s : Bool) (sh : Shape) (ps : List (List ℕ)) → Right s sh ps → crowded s sh ps ≡ false → Some (contentLines s sh ps)
+content-some : (s : Bool) (sh : Shape) (ps : List (List ℕ)) → RightParts s sh ps → crowded s sh ps ≡ false → Some (contentLines s sh ps)
 unfolding crowded contentLines cast
 content-some s _ _ (plain p ps e g) c = record { one = p; more = map (lineFor s) (map copy ps); is = refl }
 content-some s _ _ (agent p ps e g) c = record { one = p; more = map (lineFor s) (map name ps); is = refl }
@@ -153,7 +153,7 @@ pub tag-behind : (t : List ℕ) {out after : List ℕ} {at r : ℕ} → Puts (58
 tag-behind t p = omega (arith, p .answers, length-append t (58 ∷ []))
 
 -- ---- a record by the end of its tag
-module _ (form : Form) (s : Bool) (l : List ℕ) (t : ℕ) (q : t ≡ 0 + upTo 9 (drop 0 l)) (g : good form s (recordOf l) ≡ true) where
+module _ (form : Form) (s : Bool) (l : List ℕ) (t : ℕ) (q : t ≡ 0 + countUpTo 9 (drop 0 l)) (g : good form s (recordOf l) ≡ true) where
   abbrev ps : List (List ℕ)
   ps = piecesAt 9 l (t + 1)
 
@@ -179,7 +179,7 @@ module _ (form : Form) (s : Bool) (l : List ℕ) (t : ℕ) (q : t ≡ 0 + upTo 9
   record-put {sh} {out} {mid} {after} {at} {n} {r} e f a =
       let a1 = subst (λ (x : Shape). Adds (unsaid s (t + 1) (castParts x ps)) (crowded s x ps) (withCrLf (contentLines s x ps)) mid n r after) e a in
       let z : t + 1 ≡ length tag + 1 = ap (λ (j : ℕ). j + 1) (tag-size l t q) in
-      let w : Right s (shapeOf form tag) ps = sound-right s (shapeOf form tag) ps (right (shaped tag) _ good-at) in
+      let w : RightParts s (shapeOf form tag) ps = sound-right s (shapeOf form tag) ps (right (shaped tag) _ good-at) in
       subst (λ (x : Record). Adds (recordStops form s x) (recordCrowded form s x) (withCrLf (lined (fieldFor form s x))) out at r after) (sym (record-at l t q))
       (adds-by (ap (λ (j : ℕ). unsaid s j (castParts (shapeOf form tag) ps)) z) refl
       (adds-alike (unsaid s (t + 1) (castParts (shapeOf form tag) ps)) (crowded s (shapeOf form tag) ps) {t = (58 ∷ tag ++ 58 ∷ []) ++ withCrLf (contentLines s (shapeOf form tag) ps)} (λ _ c. lined-some tag (contentLines s (shapeOf form tag) ps) (content-some s (shapeOf form tag) ps w c))
@@ -205,11 +205,11 @@ moved-unsaid s o k (c ∷ cs) =
     moved-then o (stoppedAt k (saidPart s c)) (unsaid s (k + length (lineOf c) + 1) cs)
     ∙ ap₂ then (moved-stopped o k c s) (moved-unsaid s o (k + length (lineOf c) + 1) cs ∙ ap (λ (j : ℕ). unsaid s j cs) z)
 
-pub rule15-cons : (form : Form) (s : Bool) (o : ℕ) (r : Record) (rs : List Record) → then (movedBy o (recordStops form s r)) (rule15 form s (nextOf o r) rs) ≡ rule15 form s o (r ∷ rs)
+pub rule15-cons : (form : Form) (s : Bool) (o : ℕ) (r : Record) (rs : List Record) → then (movedBy o (recordStops form s r)) (rule15 form s (nextRecord o r) rs) ≡ rule15 form s o (r ∷ rs)
 unfolding rule15
 rule15-cons form s o (field t ps) rs =
     let z : o + (length t + 1) ≡ o + length t + 1 = omega arith in
-    ap (λ (v : Verdict). then v (rule15 form s (nextOf o (field t ps)) rs)) (moved-unsaid s o (length t + 1) (castParts (shapeOf form t) ps) ∙ ap (λ (j : ℕ). unsaid s j (castParts (shapeOf form t) ps)) z)
+    ap (λ (v : Verdict). then v (rule15 form s (nextRecord o (field t ps)) rs)) (moved-unsaid s o (length t + 1) (castParts (shapeOf form t) ps) ∙ ap (λ (j : ℕ). unsaid s j (castParts (shapeOf form t) ps)) z)
 
 crowded-cons : (form : Form) (s : Bool) (r : Record) (rs : List Record) → (recordCrowded form s r || someCrowded form s rs) ≡ someCrowded form s (r ∷ rs)
 crowded-cons form s (field t ps) rs = refl
@@ -223,7 +223,7 @@ body-cons form s r rs =
     sym (append-assoc (withCrLf (lined (fieldFor form s r))) (withCrLf (linesOf (spread form s rs))) closing)
     ∙ ap (λ (x : List ℕ). x ++ closing) (sym (crlf-append (lined (fieldFor form s r)) (linesOf (spread form s rs))))
 
-module _ (form : Form) (g : Bool) (s : List ℕ) (i e : ℕ) (h : i ≤ length s) (q : e ≡ i + upTo 10 (drop i s)) (l : i < length s) (b : badLine form g i (piecesAt 10 s i) ≡ Fine) where
+module _ (form : Form) (g : Bool) (s : List ℕ) (i e : ℕ) (h : i ≤ length s) (q : e ≡ i + countUpTo 10 (drop i s)) (l : i < length s) (b : badSheetLine form g i (piecesAt 10 s i) ≡ Fine) where
   abbrev this : List ℕ
   this = take (e - i) (drop i s)
 
@@ -247,13 +247,13 @@ module _ (form : Form) (g : Bool) (s : List ℕ) (i e : ℕ) (h : i ≤ length s
       go true k = k
       go false k = absurd (fine-broken 19 i (sym b ∙ sym (bad-hit s i e h q form g further k)))
 
-  pub good-on : badLine form g (e + 1) (piecesAt 10 s (e + 1)) ≡ Fine
+  pub good-on : badSheetLine form g (e + 1) (piecesAt 10 s (e + 1)) ≡ Fine
   good-on = sym (bad-miss s i e h q form g further good-here) ∙ b
 
   list : recordsAt s i ≡ recordOf this ∷ rest
   list = front-at s i e h q ended
 
-  next-at : nextOf i (recordOf this) ≡ e + 1
+  next-at : nextRecord i (recordOf this) ≡ e + 1
   next-at = let n : length (line (recordOf this)) ≡ e - i = ap length (line-record this) ∙ piece-length s i e (omega arith) (end-within 10 s i e h q) in omega arith
 
   abbrev Left : Bool → List Record → List ℕ → ℕ → Step → List ℕ → Type 0

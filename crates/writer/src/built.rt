@@ -8,7 +8,7 @@ ghost use Rattle.base.specs.Calls.{Puts};
 ghost use Rattle.base.specs.declared.Verdict.the-variants.{Fine};
 ghost use Rattle.fields.specs.Field.{withCrLf, lined, message};
 ghost use Rattle.records.specs.Record.{recordOf};
-ghost use Rattle.records.specs.Found.{piecesAt, badLine};
+ghost use Rattle.records.specs.Found.{piecesAt, badSheetLine};
 ghost use Rattle.records.specs.Rule19.{good, sound};
 ghost use Rattle.writer.specs.Spread.{castParts, contentLines, fieldFor, spread};
 ghost use Rattle.writer.specs.Sheet.{unsaid, crowded, rule15, someCrowded};
@@ -65,7 +65,7 @@ fn put_record(form: Form, sign: bool, l: &[u8], out: &mut [u8], at: usize) -> St
 
 // The message of a sheet that 19 lets pass: the records behind the first, which has six bytes.
 pub(crate) fn put_message(s: &[u8], form: Form, sign: bool, out: &mut [u8]) -> Step
-    requires { ⌜ (length (now s) ≤ 10000) × (7 ≤ length (now s)) × (badLine form sign 7 (piecesAt 10 (now s) 7) ≡ Fine) ⌝ }
+    requires { ⌜ (length (now s) ≤ 10000) × (7 ≤ length (now s)) × (badSheetLine form sign 7 (piecesAt 10 (now s) 7) ≡ Fine) ⌝ }
     ensures { λ r. ⌜ Adds (rule15 form sign 7 (recordsAt (now (s .entry)) 7)) (someCrowded form sign (recordsAt (now (s .entry)) 7)) (message (spread form sign (recordsAt (now (s .entry)) 7))) (now (out .entry)) 0 r (now (out .exit)) ⌝ }
 {
     put(out, 0, b"{4:\r\n");

@@ -22,7 +22,7 @@ use Rattle.roles.specs.declared.Shape.{Shape}
 use Rattle.roles.proofs.CastLaws as roles
 use Rattle.roles.proofs.CastLaws.{Lines, cast-turned}
 use Rattle.records.specs.Rule19.{isDigits}
-use Rattle.records.specs.Sentences.{Right}
+use Rattle.records.specs.Sentences.{RightParts}
 use Rattle.records.proofs.SoundLaws.{calm, cast-calm}
 use Rattle.details.specs.Lines.{together}
 use Rattle.details.specs.Layouts.{layout, linesFor}
@@ -75,12 +75,12 @@ module _ (s : Bool) where
   spelt-lines : Lines (spelt s) (lineFor s)
   spelt-lines = record { copied = λ p. refl; named = λ p. refl; tax-placed = λ p. refl }
 
-calm-if : (s : Bool) (sh : Shape) (ps : List (List ℕ)) → Right s sh ps → s ≡ true → all calm (cast sh ps) ≡ true
+calm-if : (s : Bool) (sh : Shape) (ps : List (List ℕ)) → RightParts s sh ps → s ≡ true → all calm (cast sh ps) ≡ true
 calm-if true sh ps r q = cast-calm sh ps r
 calm-if false sh ps r q = absurd (false≢true q)
 
 -- the lines of a right record are cast as its parts
-pub cast-again : (s : Bool) (sh : Shape) (ps : List (List ℕ)) → Right s sh ps → all (speaks s) (cast sh ps) ≡ true
+pub cast-again : (s : Bool) (sh : Shape) (ps : List (List ℕ)) → RightParts s sh ps → all (speaks s) (cast sh ps) ≡ true
     → cast sh (map (lineFor s) (cast sh ps)) ≡ map (turned s) (cast sh ps)
 cast-again s sh ps r e = cast-turned (spelt s) (lineFor s) (spelt-lines s) sh ps (all-steady s (cast sh ps) e (cast-untaxed sh ps) (calm-if s sh ps r))
 

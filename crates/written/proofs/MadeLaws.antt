@@ -18,10 +18,10 @@ use Rattle.roles.specs.declared.Shape.{Shape}
 use Rattle.roles.specs.declared.Shape.the-variants.{Plain, Payer, Payee, Agent, Note202}
 use Rattle.records.specs.Record.{Record, records}
 use Rattle.records.specs.Rule19.{sheetForm, sheetSign}
-use Rattle.records.specs.Sentences.{Right}
+use Rattle.records.specs.Sentences.{RightParts}
 use Rattle.records.specs.Sentences as sentences
 use Rattle.details.specs.Lines.{together, Division, lines}
-use Rattle.details.specs.Layouts.{layout, marked, linesOf, linesFor, sizeFor}
+use Rattle.details.specs.Layouts.{layout, marked, fitLines, linesFor, sizeFor}
 use Rattle.details.specs.declared.DetailsField.{DetailsField}
 use Rattle.details.specs.declared.DetailsField.the-variants.{In70, In72, BehindRpp}
 use Rattle.details.specs.declared.Size.{Size}
@@ -30,18 +30,18 @@ use Rattle.details.proofs.DivisionTheorems.{Fitted, fitted}
 use Rattle.alphabets.proofs.Theorems.{shortest-iff}
 use Rattle.writer.specs.Spread.{castParts, lineFor, codeAndText, rppLine, contentLines, fieldFor, spread}
 use Rattle.writer.specs.Sheet.{isUnfit, crowded, fieldsOf, messageFor, sheetRules}
-use Rattle.written.specs.Sentences.{OneByOne, Line, WrittenDetails, Content, plain, payer, payee, agent, details, note103, note202, behindRpp, Made}
+use Rattle.written.specs.Sentences.{OneByOne, PartLine, WrittenDetails, Content, plain, payer, payee, agent, details, note103, note202, behindRpp, Made}
 use Rattle.written.proofs.SpeltLaws.{said-is}
 use Rattle.written.proofs.ReadyLaws.{speaks, Ready}
 use Rattle.written.proofs.BuiltLaws.{AllPass, records-pass, built-fields}
 
 module _ (s : Bool) where
-  one-line : (x : Part) → speaks s x ≡ true → Line s x (lineFor s x)
+  one-line : (x : Part) → speaks s x ≡ true → PartLine s x (lineFor s x)
   one-line (copy p) e = refl
   one-line (name p) e = shortest-iff s p (textOf (writing s p)) .0 (said-is (writing s p) e)
   one-line (taxName p) e = shortest-iff s p (textOf (writing s p)) .0 (said-is (writing s p) e)
 
-  line-by-line : (xs : List Part) → all (speaks s) xs ≡ true → OneByOne (Line s) xs (map (lineFor s) xs)
+  line-by-line : (xs : List Part) → all (speaks s) xs ≡ true → OneByOne (PartLine s) xs (map (lineFor s) xs)
   line-by-line [] e = tt
   line-by-line (x ∷ xs) e = (one-line x (left (speaks s x) _ e), line-by-line xs (right (speaks s x) _ e))
 
@@ -61,7 +61,7 @@ module _ (s : Bool) where
             spelt = textOf (writing s text);
             shortest = shortest-iff s text (textOf (writing s text)) .0 (said-is (writing s text) e);
             rows = w .ls;
-            marks = ap (λ (a : _). marked (layout place) (linesOf a)) (w .is);
+            marks = ap (λ (a : _). marked (layout place) (fitLines a)) (w .is);
             joined = rows-join (w .division);
             division = w .division;
             fullest = w .fullest;
@@ -79,7 +79,7 @@ module _ (s : Bool) where
   unfolding contentLines crowded
   content-made sh ps w = go (w .is-right) (w .says) (w .fits)
     where
-      go : {sh : Shape} {ps : List (List ℕ)} → Right s sh ps → all (speaks s) (castParts sh ps) ≡ true → crowded s sh ps ≡ false → Content s sh ps (contentLines s sh ps)
+      go : {sh : Shape} {ps : List (List ℕ)} → RightParts s sh ps → all (speaks s) (castParts sh ps) ≡ true → crowded s sh ps ≡ false → Content s sh ps (contentLines s sh ps)
       go (sentences.plain p ps e g) a u = plain (line-by-line (cast Plain (p ∷ ps)) a)
       go (sentences.agent p ps e g) a u = agent (line-by-line (cast Agent (p ∷ ps)) a)
       go (sentences.payer p ps e g n) a u = payer (line-by-line (cast Payer (p ∷ ps)) a)

@@ -27,11 +27,11 @@ use Rattle.roles.specs.declared.Shape.{Shape}
 use Rattle.roles.specs.declared.Shape.the-variants.{Plain, Payer, Payee, Agent}
 use Rattle.roles.proofs.BreachLaws.{same-lines}
 use Rattle.records.specs.Record.{Record}
-use Rattle.records.specs.Places.{nextOf}
-use Rattle.records.specs.Sentences.{Right, plain, agent, payer, payee, details, note103, note202}
+use Rattle.records.specs.Places.{nextRecord}
+use Rattle.records.specs.Sentences.{RightParts, plain, agent, payer, payee, details, note103, note202}
 use Rattle.details.specs.Lines.{together, Later, none, line, Division, lines}
 use Rattle.details.specs.Breaking.{opens}
-use Rattle.details.specs.Layouts.{layout, marked, linesOf, linesFor, sizeFor}
+use Rattle.details.specs.Layouts.{layout, marked, fitLines, linesFor, sizeFor}
 use Rattle.details.specs.declared.DetailsField.{DetailsField}
 use Rattle.details.specs.declared.DetailsField.the-variants.{In70, In72, BehindRpp}
 use Rattle.details.specs.declared.Size.{Size}
@@ -75,14 +75,14 @@ module _ (s : Bool) where
     fine-speaking o [] e = refl
     fine-speaking o (field t ps ∷ rs) e =
         let f = then-clean (unsaid s (o + length t + 1) (castParts (shapeOf form t) ps)) _ e in
-        both (said-all (o + length t + 1) (castParts (shapeOf form t) ps) (f .0)) (fine-speaking (nextOf o (field t ps)) rs (f .1))
+        both (said-all (o + length t + 1) (castParts (shapeOf form t) ps) (f .0)) (fine-speaking (nextRecord o (field t ps)) rs (f .1))
 
     speaking-fine : (o : ℕ) (rs : List Record) → all (speaking form s) rs ≡ true → rule15 form s o rs ≡ Fine
     unfolding rule15
     speaking-fine o [] e = refl
     speaking-fine o (field t ps ∷ rs) e =
-        ap (λ (v : Verdict). then v (rule15 form s (nextOf o (field t ps)) rs)) (all-said (o + length t + 1) (castParts (shapeOf form t) ps) (left (speaking form s (field t ps)) _ e))
-        ∙ speaking-fine (nextOf o (field t ps)) rs (right (speaking form s (field t ps)) _ e)
+        ap (λ (v : Verdict). then v (rule15 form s (nextRecord o (field t ps)) rs)) (all-said (o + length t + 1) (castParts (shapeOf form t) ps) (left (speaking form s (field t ps)) _ e))
+        ∙ speaking-fine (nextRecord o (field t ps)) rs (right (speaking form s (field t ps)) _ e)
 
     pub rule15-fine : (o : ℕ) (rs : List Record) → (rule15 form s o rs ≡ Fine) ↔ (all (speaking form s) rs ≡ true)
     rule15-fine o rs = (fine-speaking o rs, speaking-fine o rs)
@@ -126,12 +126,12 @@ laid p least text e = go (sizeFor p least text) refl e
         record { front = l; behind = ls; is = i; code = q; later = rw (← w) m; joins = j }
 
     go : (z : Size) → sizeFor p least text ≡ z → isUnfit z ≡ false → Laid p least text
-    go (Bytes n) f e = let w : Fitted p least text n = fitted p least text n f in by (ap (λ (a : _). marked (layout p) (linesOf a)) (w .is)) refl (w .division)
+    go (Bytes n) f e = let w : Fitted p least text n = fitted p least text n f in by (ap (λ (a : _). marked (layout p) (fitLines a)) (w .is)) refl (w .division)
     go Unfit f e = absurd (true≢false e)
 
 -- ---- a record that 19, 15 and 16 let pass
 pub record Ready (s : Bool) (sh : Shape) (ps : List (List ℕ)) : Type 0 where
-  pub is-right : Right s sh ps
+  pub is-right : RightParts s sh ps
   pub says : all (speaks s) (castParts sh ps) ≡ true
   pub fits : crowded s sh ps ≡ false
 
@@ -255,7 +255,7 @@ pub ready-fair : (s : Bool) (sh : Shape) (ps : List (List ℕ)) → Ready s sh p
 unfolding contentLines crowded cast
 ready-fair s sh ps w = go (w .is-right) (w .says) (w .fits)
   where
-    go : {sh : Shape} {ps : List (List ℕ)} → Right s sh ps → all (speaks s) (castParts sh ps) ≡ true → crowded s sh ps ≡ false → Fair (contentLines s sh ps)
+    go : {sh : Shape} {ps : List (List ℕ)} → RightParts s sh ps → all (speaks s) (castParts sh ps) ≡ true → crowded s sh ps ≡ false → Fair (contentLines s sh ps)
     go (plain p ps e g) a u = parts-fair s (cast Plain (p ∷ ps)) p ps (same-lines Plain (p ∷ ps)) g a
     go (agent p ps e g) a u = parts-fair s (cast Agent (p ∷ ps)) p ps (same-lines Agent (p ∷ ps)) g a
     go (payer p ps e g n) a u = parts-fair s (cast Payer (p ∷ ps)) p ps (same-lines Payer (p ∷ ps)) g a

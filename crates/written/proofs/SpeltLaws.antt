@@ -24,7 +24,7 @@ use Rattle.alphabets.proofs.Shortest.{Came, turned, signed, came}
 use Rattle.alphabets.proofs.Theorems.{Written, written, plain-only, plain-iff, reads-back}
 use Rattle.fields.specs.Shapes.{goesOn}
 use Rattle.contents.specs.Tests.{looksTax, starts}
-use Rattle.roles.specs.Rule14.{hidden, isInn}
+use Rattle.roles.specs.Rule14.{hidden, isCyrillicInn}
 
 -- ---- an answer that is a text
 abbrev pub isSaid : Answer → Bool
@@ -192,17 +192,17 @@ digit-not : (x : ℕ) → digit x ≡ true → eqb x 39 ≡ false
 unfolding digit
 digit-not x e = ne-eqb x 39 (λ q. absurd (false≢true (rw q at e)))
 
-inn-by : (x : ℕ) (d : List ℕ) (a : Answer) → digit x ≡ true → after 200 (after 205 (after 205 (after x a))) ≡ said d → isInn d ≡ true
-unfolding isInn digit same
+inn-by : (x : ℕ) (d : List ℕ) (a : Answer) → digit x ≡ true → after 200 (after 205 (after 205 (after x a))) ≡ said d → isCyrillicInn d ≡ true
+unfolding isCyrillicInn digit same
 inn-by zero d a e r = absurd (false≢true e)
 inn-by (suc x) d (stuck k) e r = absurd (not-said (suc (suc (suc (suc k)))) d r)
-inn-by (suc x) d (said t) e r = let q : 200 ∷ 205 ∷ 205 ∷ suc x ∷ t ≡ d = cc in ap isInn (sym q) ∙ e
+inn-by (suc x) d (said t) e r = let q : 200 ∷ 205 ∷ 205 ∷ suc x ∷ t ≡ d = cc in ap isCyrillicInn (sym q) ∙ e
 
-inn-reads : (x : ℕ) (r d : List ℕ) → digit x ≡ true → reads false (73 ∷ 78 ∷ 78 ∷ x ∷ r) ≡ said d → isInn d ≡ true
+inn-reads : (x : ℕ) (r d : List ℕ) → digit x ≡ true → reads false (73 ∷ 78 ∷ 78 ∷ x ∷ r) ≡ said d → isCyrillicInn d ≡ true
 unfolding reads
 inn-reads x r d e q = inn-by x d (reads false r) e (rw (inn-characters .0, inn-characters .1, digit-not x e, digit-character x e) at q)
 
-tax-reads : (b d : List ℕ) → looksTax b ≡ true → reads false b ≡ said d → isInn d ≡ true
+tax-reads : (b d : List ℕ) → looksTax b ≡ true → reads false b ≡ said d → isCyrillicInn d ≡ true
 unfolding looksTax digit same
 tax-reads [] d e r = absurd (false≢true e)
 tax-reads (x ∷ []) d e r = absurd (false≢true (right (starts (bytes "INN") (x ∷ [])) _ e))
@@ -217,7 +217,7 @@ tax-reads (x ∷ y ∷ z ∷ w ∷ b) d e r =
     let u : z ≡ 78 = eqb-true z 78 (left (eqb z 78) _ h) in
     inn-reads w b d (right (starts (bytes "INN") (x ∷ y ∷ z ∷ w ∷ b)) _ e) (rw (p, q, u) at r)
 
-pub spelt-tax : (d t : List ℕ) → writing true d ≡ said t → isInn d ≡ false → looksTax t ≡ false
+pub spelt-tax : (d t : List ℕ) → writing true d ≡ said t → isCyrillicInn d ≡ false → looksTax t ≡ false
 spelt-tax d t e n = go (looksTax t) refl
   where
     go : (b : Bool) → looksTax t ≡ b → looksTax t ≡ false

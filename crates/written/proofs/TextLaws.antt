@@ -23,14 +23,14 @@ use Rattle.contents.specs.Tests.{looksTax}
 use Rattle.roles.specs.Role.{shapeOf, Part, copy, name, taxName, lineOf, cast}
 use Rattle.roles.specs.Speech.{Manner, asName, asTaxName, asDetails, Speech, speech, saidAt, nameSpeeches, noteSpeeches, codeSize, speeches}
 use Rattle.roles.specs.Speech as speech
-use Rattle.roles.specs.Rule14.{mute, isInn, taxLike, clauses, breaks, spoken, rule14}
+use Rattle.roles.specs.Rule14.{mute, isCyrillicInn, taxLike, clauses, breaks14, speechesOf, rule14}
 use Rattle.roles.specs.Sentences.{Heard}
 use Rattle.roles.specs.declared.Shape.{Shape}
 use Rattle.roles.specs.declared.Shape.the-variants.{Payer, Payee, Agent}
 use Rattle.roles.proofs.BreachLaws.{same-lines, rule14-fine}
 use Rattle.records.specs.Record.{Record, records}
 use Rattle.records.specs.Rule19.{isDigits, sheetForm, sheetSign}
-use Rattle.records.specs.Sentences.{Right, plain, agent, payer, payee, details, note103, note202}
+use Rattle.records.specs.Sentences.{RightParts, plain, agent, payer, payee, details, note103, note202}
 use Rattle.records.proofs.SoundLaws.{calm, cast-calm}
 use Rattle.details.specs.Layouts.{linesFor, sizeFor}
 use Rattle.details.specs.declared.DetailsField.{DetailsField}
@@ -47,18 +47,18 @@ use Rattle.written.proofs.BuiltLaws.{AllPass, records-pass, built-sign}
 back : (p : List ℕ) → speaks true (name p) ≡ true → reading true (textOf (writing true p)) ≡ said p
 back p e = reads-back true p (textOf (writing true p)) (said-is (writing true p) e)
 
-by-reading : (m : Manner) (b d : List ℕ) → reading true b ≡ said d → clauses m (empty d) b d ≡ false → breaks m b ≡ false
-unfolding breaks
+by-reading : (m : Manner) (b d : List ℕ) → reading true b ≡ said d → clauses m (empty d) b d ≡ false → breaks14 m b ≡ false
+unfolding breaks14
 by-reading m b d r e = ap (λ (a : Answer). clauses m (mute a) b (textOf a)) r ∙ e
 
-details-heard : (p : List ℕ) → speaks true (name p) ≡ true → empty p ≡ false → breaks asDetails (textOf (writing true p)) ≡ false
+details-heard : (p : List ℕ) → speaks true (name p) ≡ true → empty p ≡ false → breaks14 asDetails (textOf (writing true p)) ≡ false
 details-heard p e n = by-reading asDetails (textOf (writing true p)) p (back p e) n
 
-name-heard : (p : List ℕ) → speaks true (name p) ≡ true → empty p ≡ false → breaks asName (textOf (writing true p)) ≡ false
+name-heard : (p : List ℕ) → speaks true (name p) ≡ true → empty p ≡ false → breaks14 asName (textOf (writing true p)) ≡ false
 name-heard p e n =
     by-reading asName (textOf (writing true p)) p (back p e) (ap₂ _||_ n (spelt-open p (textOf (writing true p)) (said-is (writing true p) e)))
 
-tax-heard : (p : List ℕ) → speaks true (name p) ≡ true → empty p ≡ false → looksTax p ≡ false → isInn p ≡ false → breaks asTaxName (textOf (writing true p)) ≡ false
+tax-heard : (p : List ℕ) → speaks true (name p) ≡ true → empty p ≡ false → looksTax p ≡ false → isCyrillicInn p ≡ false → breaks14 asTaxName (textOf (writing true p)) ≡ false
 unfolding taxLike
 tax-heard p e n t i =
     by-reading asTaxName (textOf (writing true p)) p (back p e)
@@ -71,7 +71,7 @@ some p = not (empty p)
 part-heard : (o : ℕ) (x : Part) → speaks true x ≡ true → some (lineOf x) ≡ true → untaxed x ≡ true → calm x ≡ true → Heard (saidAt o (turned true x))
 part-heard o (copy p) e n t c = tt
 part-heard o (name p) e n t c = (name-heard p e (isnt (empty p) n), tt)
-part-heard o (taxName p) e n t c = (tax-heard p e (isnt (empty p) n) (isnt (looksTax p) t) (isnt (isInn p) c), tt)
+part-heard o (taxName p) e n t c = (tax-heard p e (isnt (empty p) n) (isnt (looksTax p) t) (isnt (isCyrillicInn p) c), tt)
 
 heard-both : (xs ys : List Speech) → Heard xs → Heard ys → Heard (xs ++ ys)
 heard-both [] ys h k = k
@@ -88,7 +88,7 @@ names-heard o (x ∷ xs) e n t c =
 on-some : (ps : List (List ℕ)) → all goesOn ps ≡ true → all some ps ≡ true
 on-some ps g = all-imp goesOn some (λ p h. left (some p) _ h) ps g
 
-parts-heard : (o : ℕ) (sh : Shape) (p : List ℕ) (ps : List (List ℕ)) → Right true sh (p ∷ ps) → empty p ≡ false → all goesOn ps ≡ true → all (speaks true) (cast sh (p ∷ ps)) ≡ true
+parts-heard : (o : ℕ) (sh : Shape) (p : List ℕ) (ps : List (List ℕ)) → RightParts true sh (p ∷ ps) → empty p ≡ false → all goesOn ps ≡ true → all (speaks true) (cast sh (p ∷ ps)) ≡ true
     → Heard (nameSpeeches o (cast sh (map (lineFor true) (cast sh (p ∷ ps)))))
 parts-heard o sh p ps r n g e =
     let xs : List Part = cast sh (p ∷ ps) in
@@ -128,7 +128,7 @@ ready-heard : (o : ℕ) (sh : Shape) (ps : List (List ℕ)) → Ready true sh ps
 unfolding speeches contentLines crowded
 ready-heard o sh ps w = go (w .is-right) (w .says) (w .fits)
   where
-    go : {sh : Shape} {ps : List (List ℕ)} → Right true sh ps → all (speaks true) (castParts sh ps) ≡ true → crowded true sh ps ≡ false
+    go : {sh : Shape} {ps : List (List ℕ)} → RightParts true sh ps → all (speaks true) (castParts sh ps) ≡ true → crowded true sh ps ≡ false
         → Heard (speeches true sh o (contentLines true sh ps))
     go (plain p ps e g) a u = tt
     go (agent p ps e g) a u = parts-heard o Agent p ps (agent p ps e g) e g a
@@ -140,15 +140,15 @@ ready-heard o sh ps w = go (w .is-right) (w .says) (w .fits)
     go (note202 r v t d e) a u =
         note-heard (empty r) o r v t d e (left (speaks true (name t)) _ (right (speaks true (copy v)) _ (right (speaks true (copy r)) _ a))) u
 
-records-heard : (form : Form) (o : ℕ) (rs : List Record) → AllPass form true rs → Heard (spoken form o (map (fieldFor form true) rs))
-unfolding spoken
+records-heard : (form : Form) (o : ℕ) (rs : List Record) → AllPass form true rs → Heard (speechesOf form o (map (fieldFor form true) rs))
+unfolding speechesOf
 records-heard form o [] w = tt
 records-heard form o (field t ps ∷ rs) w =
     let ls : List (List ℕ) = contentLines true (shapeOf form t) ps in
-    heard-both (speeches true (shapeOf form t) (startOf o (field t ls)) ls) (spoken form (fields.nextOf o (field t ls)) (map (fieldFor form true) rs))
+    heard-both (speeches true (shapeOf form t) (startOf o (field t ls)) ls) (speechesOf form (fields.nextOf o (field t ls)) (map (fieldFor form true) rs))
     (ready-heard (startOf o (field t ls)) (shapeOf form t) ps (w .0 .1)) (records-heard form (fields.nextOf o (field t ls)) rs (w .1))
 
-signed-heard : (form : Form) (g : Bool) (rs : List Record) → g ≡ true → AllPass form g rs → Heard (spoken form 5 (map (fieldFor form g) rs))
+signed-heard : (form : Form) (g : Bool) (rs : List Record) → g ≡ true → AllPass form g rs → Heard (speechesOf form 5 (map (fieldFor form g) rs))
 signed-heard form true rs q w = records-heard form 5 rs w
 signed-heard form false rs q w = absurd (false≢true q)
 

@@ -27,7 +27,7 @@ use Rattle.types.specs.Walk.{rule18}
 use Rattle.judge.specs.Message.{verdictOf}
 use Rattle.records.specs.Record.{records}
 use Rattle.records.specs.Rule19.{sheetForm, sheetSign, rule19}
-use Rattle.records.specs.Sentences.{BadAt}
+use Rattle.records.specs.Sentences.{BadSheetAt}
 use Rattle.records.proofs.RuleLaws.{rule19-bad, bad-rule19}
 use Rattle.writer.specs.Sheet.{rule15, rule16, messageFor, sheetRules, atStart, ownRule, writeRules, MessageTo}
 use Rattle.writer.proofs.RuleLaws.{sheet-holds, rules-sheet, write-by, write-rules}
@@ -123,7 +123,7 @@ module _ (s out : List ℕ) where
 module _ (s out : List ℕ) (p : ℕ) where
   abbrev pub Tells : ℕ → Type 0
   Tells n =
-      pick (eqb n 19) (BadAt s p)
+      pick (eqb n 19) (BadSheetAt s p)
       (pick (eqb n 18) ((p ≡ 0) × NoType (sheetForm s))
       (pick (eqb n 15) (StuckAt (sheetForm s) (sheetSign s) 0 (records s) p)
       (pick (eqb n 16) ((p ≡ 0) × CrowdedIn (sheetForm s) (sheetSign s) (tail (records s)))
@@ -186,7 +186,7 @@ module _ (s out : List ℕ) (r : Outcome) (after : List ℕ) (g : MessageTo s ou
 
   module _ (p : ℕ) where
     -- 19 exactly if a rule of the sheet is broken, at the first bad record
-    pub exact-19 : length s ≤ limit → (r ≡ Refused 19 p) ↔ BadAt s p
+    pub exact-19 : length s ≤ limit → (r ≡ Refused 19 p) ↔ BadSheetAt s p
     exact-19 h = (
       (λ e. because 19 p e),
       (λ b. given 19 p (rw (not-long limit s h, bad-rule19 s p b))),

@@ -3,7 +3,7 @@ use mathlib.Core.Path.{refl, ap, _∙_}
 use mathlib.Core.Bool.{true}
 use Rattle.base.proofs.Flags.{pick-yes, pick-no}
 use Rattle.contents.specs.Tests.{looksTax}
-use Rattle.roles.specs.Rule14.{isInn}
+use Rattle.roles.specs.Rule14.{isCyrillicInn}
 use Rattle.roles.proofs.ClauseLaws.{tax-is}
 use borrow.Author.Needs.{needs}
 use Rattle.roles.proofs.clauses.breaks_tax.Statement.{statement}
@@ -36,7 +36,7 @@ is-inn-requires c κs = search needs
 
 returns-3 : tie.Need-returns-3
 returns-3 c = let w = c .before .before .before in let f = w .before .before in let n = f .before .before in let a = n .before .before .args in
-    pick-no true (n .breaks-named .ensures) (f .before .if1 .left) (pick-no true (w .looks-tax .ensures ∙ ap looksTax (f .first-characters .ensures)) (c .before .before .if2 .left) (c .is-inn .ensures ∙ ap isInn (f .first-characters .ensures))) ∙ tax-is (a .back .now) (a .name .now)
+    pick-no true (n .breaks-named .ensures) (f .before .if1 .left) (pick-no true (w .looks-tax .ensures ∙ ap looksTax (f .first-characters .ensures)) (c .before .before .if2 .left) (c .is-inn .ensures ∙ ap isCyrillicInn (f .first-characters .ensures))) ∙ tax-is (a .back .now) (a .name .now)
 
 pub breaks-tax-spec : {M : Type 1} → statement M
 breaks-tax-spec =
