@@ -19,7 +19,7 @@ use Rattle.fields.specs.Places.{linesSize, startOf, nextOf}
 use Rattle.fields.proofs.PlaceLaws.{size-append}
 use Rattle.types.specs.declared.Form.{Form}
 use Rattle.types.specs.declared.Form.the-variants.{Other, Mt103, Mt202}
-use Rattle.types.specs.Form.{Place, must, placesOf, places103, places202}
+use Rattle.types.specs.Form.{Place, mandatory, placesOf, places103, places202}
 use Rattle.types.specs.Walk.{find, walked}
 use Rattle.types.specs.Sign.{firstLine, signOf}
 use Rattle.types.proofs.WalkLaws.{seated, walked-accepted}
@@ -145,11 +145,11 @@ rule8-broken form m p =
     )
 
 -- ---- the sign of a message whose walk is accepted: its first field is 20
-starts-20 : (t : List ℕ) (ps : List Place) → Seated (must (bytes "20" ∷ []) ∷ ps) 0 (find (must (bytes "20" ∷ []) ∷ ps) t) → same t (bytes "20") ≡ true
+starts-20 : (t : List ℕ) (ps : List Place) → Seated (mandatory (bytes "20" ∷ []) ∷ ps) 0 (find (mandatory (bytes "20" ∷ []) ∷ ps) t) → same t (bytes "20") ≡ true
 unfolding find
 starts-20 t ps s = go (same t (bytes "20")) s
   where
-    go : (b : Bool) → Seated (must (bytes "20" ∷ []) ∷ ps) 0 (pick (b || false) 0 (suc (find ps t))) → b ≡ true
+    go : (b : Bool) → Seated (mandatory (bytes "20" ∷ []) ∷ ps) 0 (pick (b || false) 0 (suc (find ps t))) → b ≡ true
     go true s = refl
     go false s = absurd (s .free (record { at = 0; low = omega arith; high = omega arith; mandatory = refl }))
 

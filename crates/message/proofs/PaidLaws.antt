@@ -24,7 +24,7 @@ use Rattle.fields.proofs.PlaceLaws.{next-standing, content-part, fields-stand}
 use Rattle.types.specs.declared.Form.{Form}
 use Rattle.types.specs.declared.Form.the-variants.{Other, Mt103, Mt202}
 use Rattle.types.specs.Form.{Place, placesOf, places103, places202}
-use Rattle.types.specs.Walk.{find, optional, rule18}
+use Rattle.types.specs.Walk.{find, isOptional, rule18}
 use Rattle.types.specs.Sign.{signOf}
 use Rattle.types.proofs.WalkLaws.{seated, walked-accepted}
 use Rattle.types.specs.Sentences.{placeAt, Seated, Accepted, Present}
@@ -58,7 +58,7 @@ use Rattle.judge.proofs.RuleLaws.{accepted-rules}
 use Rattle.judge.proofs.VerdictTheorems.{frame-clean, contents-right, days-right, roubles-only}
 
 -- ---- a mandatory place is present
-must-present : (ps : List Place) (next : ℕ) (fs : List Field) (i : ℕ) → Accepted ps next fs → next ≤ i → i < length ps → optional (placeAt ps i) ≡ false → Present ps fs i
+must-present : (ps : List Place) (next : ℕ) (fs : List Field) (i : ℕ) → Accepted ps next fs → next ≤ i → i < length ps → isOptional (placeAt ps i) ≡ false → Present ps fs i
 must-present ps next [] i a l h o = absurd (a .whole (record { at = i; low = l; high = h; mandatory = o }))
 must-present ps next (f ∷ fs) i a l h o =
     go (seated ps next (tagOf f) (a .fine .0)) (decLt i (find ps (tagOf f))) (decLt (find ps (tagOf f)) i)
@@ -157,7 +157,7 @@ shown m ps q o (field t (l ∷ ls) ∷ fs) form sign w r d u h =
 -- ---- the place of 32A is mandatory, and its tag alone stands there
 record Sits (ps : List Place) (q : ℕ) : Type 0 where
   below : q < length ps
-  mandatory : optional (placeAt ps q) ≡ false
+  mandatory : isOptional (placeAt ps q) ≡ false
   alone : (t : List ℕ) → find ps t ≡ q → same t (bytes "32A") ≡ true
 
 third : (a b c d : Bool) (n : ℕ) → pick (a || false) 0 (suc (pick (b || false) 0 (suc (pick (c || false) 0 (suc (pick (d || false) 0 (suc n))))))) ≡ 3 → d ≡ true

@@ -176,7 +176,7 @@ shown-details {p} {s} w h = record {
   rows = (code s (w .vo) ++ w .text) ∷ w .texts;
   marks = w .is;
   number = w .five;
-  joined = append-assoc (code s (w .vo)) (w .text) (together (w .texts));
+  spells = append-assoc (code s (w .vo)) (w .text) (together (w .texts));
   reads = h .reads;
 }
 

@@ -54,7 +54,7 @@ rows-back v (l ∷ ls) = ap₂ (λ (y : List ℕ) (ys : List (List ℕ)). y ∷ 
 pub details-one : {s : Bool} {p : DetailsField} {ls : List (List ℕ)} {vo text vo′ text′ : List ℕ} → ShownDetails s p ls vo text → ShownDetails s p ls vo′ text′ → (vo ≡ vo′) × (text ≡ text′)
 details-one {s} {p} {ls} {vo} {text} {vo′} {text′} a b =
     let r : a .rows ≡ b .rows = sym (rows-back (layout p) (a .rows)) ∙ ap (unmarked (layout p)) (sym (a .marks) ∙ b .marks) ∙ rows-back (layout p) (b .rows) in
-    let j : code s vo ++ a .spelt ≡ code s vo′ ++ b .spelt = sym (a .joined) ∙ ap together r ∙ b .joined in
+    let j : code s vo ++ a .spelt ≡ code s vo′ ++ b .spelt = sym (a .spells) ∙ ap together r ∙ b .spells in
     let v : vo ≡ vo′ = sym (code-digits s vo (a .spelt) (a .number)) ∙ ap (codeDigits s) j ∙ code-digits s vo′ (b .spelt) (b .number) in
     let w : a .spelt ≡ b .spelt =
     sym (drop-append-seam (code s vo) (a .spelt)) ∙ ap (drop (length (code s vo))) (j ∙ ap (λ (x : List ℕ). code s x ++ b .spelt) (sym v)) ∙ drop-append-seam (code s vo) (b .spelt) in

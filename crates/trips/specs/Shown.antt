@@ -40,7 +40,7 @@ pub record ShownDetails (s : Bool) (into : DetailsField) (ls : List (List ℕ)) 
   pub rows : List (List ℕ)
   pub marks : ls ≡ marked (layout into) rows
   pub number : isDigits 5 vo ≡ true
-  pub joined : together rows ≡ code s vo ++ spelt
+  pub spells : together rows ≡ code s vo ++ spelt
   pub reads : reading s spelt ≡ said text
 
 -- the lines of a field, and the parts of its record

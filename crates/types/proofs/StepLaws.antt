@@ -13,8 +13,8 @@ use lib.Seq.{drop-cons}
 use borrow.Author.Tests.{eq-eqb, ne-eqb, eqb-true, eqb-false}
 use Rattle.base.specs.Choice.{pick, all}
 use Rattle.base.specs.Bytes.{same}
-use Rattle.types.specs.Form.{Place, may}
-use Rattle.types.specs.Walk.{among, isOf, optional, find, skips, wrong}
+use Rattle.types.specs.Form.{Place, optional}
+use Rattle.types.specs.Walk.{among, isOf, isOptional, find, skips, wrong}
 use Rattle.fields.specs.Shapes.{unpack}
 use Rattle.types.specs.Tables.{most, placeBy, unpair, tablePlace, tablePlacesFrom, tablePlaces, findFrom, sought, stepIn, missing}
 use Rattle.types.specs.declared.Step.{Step}
@@ -27,7 +27,7 @@ table-tags : (t : List ℕ) (m : Bool) (ts : List (List ℕ)) → isOf t (placeB
 table-tags t true ts = refl
 table-tags t false ts = refl
 
-pub table-optional : (m : Bool) (ts : List (List ℕ)) → optional (placeBy m ts) ≡ not m
+pub table-optional : (m : Bool) (ts : List (List ℕ)) → isOptional (placeBy m ts) ≡ not m
 table-optional true ts = refl
 table-optional false ts = refl
 
@@ -74,7 +74,7 @@ table-find tags musts t i zero = refl
 table-find tags musts t i (suc n) =
     ap₂ (λ (b : Bool) (k : ℕ). pick b 0 (suc k)) (table-tags t (getD musts i false) (unpair (getD tags (i + i) 0) (getD tags (i + i + 1) 0))) (table-find tags musts t (suc i) n)
 
-free : (tags : List ℕ) (musts : List Bool) (i n p q : ℕ) → all optional (drop p (take q (tablePlacesFrom tags musts i n))) ≡ all optional (drop p (take q (tablePlacesFrom [] musts i n)))
+free : (tags : List ℕ) (musts : List Bool) (i n p q : ℕ) → all isOptional (drop p (take q (tablePlacesFrom tags musts i n))) ≡ all isOptional (drop p (take q (tablePlacesFrom [] musts i n)))
 unfolding tablePlacesFrom
 free tags musts i n p zero = refl
 free tags musts i zero p (suc q) = refl
@@ -95,11 +95,11 @@ table-wrong tags musts n next q =
 module _ (ps : List Place) (t : List ℕ) (i : ℕ) where
   pub find-met : i < length ps → isOf t (placeAt ps i) ≡ true → find (drop i ps) t ≡ 0
   unfolding find
-  find-met h e = rw (drop-cons ps i (may []), e)
+  find-met h e = rw (drop-cons ps i (optional []), e)
 
   pub find-on : i < length ps → isOf t (placeAt ps i) ≡ false → find (drop i ps) t ≡ suc (find (drop (i + 1) ps) t)
   unfolding find
-  find-on h e = rw (add-one, drop-cons ps i (may []), e)
+  find-on h e = rw (add-one, drop-cons ps i (optional []), e)
 
   pub find-end : length ps ≤ i → find (drop i ps) t ≡ 0
   unfolding find
@@ -107,15 +107,15 @@ module _ (ps : List Place) (t : List ℕ) (i : ℕ) where
 
 -- ---- a loop to the first mandatory place
 module _ (ps : List Place) (i q : ℕ) where
-  pub skips-met : i < q → optional (placeAt ps i) ≡ false → skips ps i q ≡ true
+  pub skips-met : i < q → isOptional (placeAt ps i) ≡ false → skips ps i q ≡ true
   skips-met h e = skips-iff ps i q .1 (record { at = i; low = omega arith; high = h; mandatory = e })
 
-  pub skips-on : i < q → optional (placeAt ps i) ≡ true → skips ps i q ≡ skips ps (i + 1) q
+  pub skips-on : i < q → isOptional (placeAt ps i) ≡ true → skips ps i q ≡ skips ps (i + 1) q
   skips-on h e = go (skips ps (i + 1) q) refl
     where
       later : (s : Skipped ps i q) → Dec (i < s .at) → Skipped ps (i + 1) q
       later s (yes l) = record { at = s .at; low = omega arith; high = s .high; mandatory = s .mandatory }
-      later s (no l) = let z : i ≡ s .at = omega (arith, s .low) in absurd (true≢false (sym e ∙ ap (λ (k : ℕ). optional (placeAt ps k)) z ∙ s .mandatory))
+      later s (no l) = let z : i ≡ s .at = omega (arith, s .low) in absurd (true≢false (sym e ∙ ap (λ (k : ℕ). isOptional (placeAt ps k)) z ∙ s .mandatory))
 
       go : (b : Bool) → skips ps (i + 1) q ≡ b → skips ps i q ≡ b
       go true f =
@@ -145,17 +145,17 @@ module _ (ps : List Place) (next : ℕ) (t : List ℕ) where
   wrong-there w = rw (ne-eqb (wrong ps next (findFrom ps next t)) 0 w)
 
   module _ (q : ℕ) (s : Seeking ps next t q) where
-    pub seek-on : q < length ps → isOf t (placeAt ps q) ≡ false → optional (placeAt ps q) ≡ true → Seeking ps next t (q + 1)
+    pub seek-on : q < length ps → isOf t (placeAt ps q) ≡ false → isOptional (placeAt ps q) ≡ true → Seeking ps next t (q + 1)
     seek-on h e o = record { low = omega (arith, s .low); on = s .on ∙ omega (arith, find-on ps t q h e); free-to = not-skips ps next (q + 1) (λ k. go k (decLt (k .at) q)) }
       where
         go : (k : Skipped ps next (q + 1)) → Dec (k .at < q) → ⊥
         go k (yes l) = skips-not ps next q (s .free-to) (record { at = k .at; low = k .low; high = l; mandatory = k .mandatory })
-        go k (no l) = let z : q ≡ k .at = omega (arith, k .high) in true≢false (sym o ∙ ap (λ (j : ℕ). optional (placeAt ps j)) z ∙ k .mandatory)
+        go k (no l) = let z : q ≡ k .at = omega (arith, k .high) in true≢false (sym o ∙ ap (λ (j : ℕ). isOptional (placeAt ps j)) z ∙ k .mandatory)
 
     pub seek-met : q < length ps → isOf t (placeAt ps q) ≡ true → sought ps next t ≡ q
     seek-met h e = right-there q (s .on ∙ ap (λ (k : ℕ). q + k) (find-met ps t q h e) ∙ add-zero q) (wrong-0 ps next q h (s .low) (s .free-to))
 
-    pub seek-stop : q < length ps → isOf t (placeAt ps q) ≡ false → optional (placeAt ps q) ≡ false → sought ps next t ≡ length ps
+    pub seek-stop : q < length ps → isOf t (placeAt ps q) ≡ false → isOptional (placeAt ps q) ≡ false → sought ps next t ≡ length ps
     seek-stop h e o =
         let f = find-on ps t q h e in
         wrong-there (λ w. wrong-seated ps next (findFrom ps next t) w .free (record { at = q; low = s .low; high = omega (arith, s .on); mandatory = o }))
@@ -191,8 +191,8 @@ module _ (tags : List ℕ) (musts : List Bool) (n q : ℕ) (h : q < n) where
   row-tag t m e =
       ap (isOf t) (table-at tags musts n q h) ∙ table-tags t (getD musts q false) _ ∙ sym (table-tags t (getD m q false) _) ∙ e
 
-  row-must : {b : Bool} → getD musts q false ≡ b → optional (placeAt (tablePlacesFrom tags musts 0 n) q) ≡ not b
-  row-must e = ap optional (table-at tags musts n q h) ∙ table-optional (getD musts q false) _ ∙ ap not e
+  row-must : {b : Bool} → getD musts q false ≡ b → isOptional (placeAt (tablePlacesFrom tags musts 0 n) q) ≡ not b
+  row-must e = ap isOptional (table-at tags musts n q h) ∙ table-optional (getD musts q false) _ ∙ ap not e
 
 -- place_in
 pub record Looking (tags : List ℕ) (n : ℕ) (t : List ℕ) (q : ℕ) : Type 0 where

@@ -17,10 +17,10 @@ use Rattle.base.proofs.RuleLaws.{fine-broken}
 use Rattle.base.proofs.Table.{and-left, and-right, is-true}
 use Rattle.types.specs.declared.Form.{Form}
 use Rattle.types.specs.declared.Form.the-variants.{Other, Mt103, Mt202}
-use Rattle.types.specs.Form.{Place, must, may, formOf, typeOf, places103, places202, placesOf}
+use Rattle.types.specs.Form.{Place, mandatory, optional, formOf, typeOf, places103, places202, placesOf}
 use Rattle.types.specs.Walk.{among, isOf, find, skips, wrong, rule18}
 use Rattle.fields.specs.Shapes.{unpack}
-use Rattle.types.specs.Tables.{most, placeTags, tagTable, mustTable, TablesOf, tablePlaces, tablePlacesFrom, findFrom, stepIn, missing, StepFor}
+use Rattle.types.specs.Tables.{most, placeTags, tagTable, mandatoryTable, TablesOf, tablePlaces, tablePlacesFrom, findFrom, stepIn, missing, StepFor}
 use Rattle.types.specs.declared.Step.{Step}
 use Rattle.base.proofs.ByteLaws.{same-is}
 use Rattle.fields.proofs.PackLaws.{unpack-pack}
@@ -42,10 +42,10 @@ form-type Mt202 = refl
 
 -- ---- the tables, computed for each form
 abbrev TablesAgree : List Place → Type 0
-TablesAgree ps = tablePlaces (tagTable ps) (mustTable ps) (length ps) ≡ ps
+TablesAgree ps = tablePlaces (tagTable ps) (mandatoryTable ps) (length ps) ≡ ps
 
-tables : (form : Form) → tablePlaces (tagTable (placesOf form)) (mustTable (placesOf form)) (length (placesOf form)) ≡ placesOf form
-unfolding places103 places202 tagTable mustTable tablePlacesFrom
+tables : (form : Form) → tablePlaces (tagTable (placesOf form)) (mandatoryTable (placesOf form)) (length (placesOf form)) ≡ placesOf form
+unfolding places103 places202 tagTable mandatoryTable tablePlacesFrom
 tables form = each-form TablesAgree refl refl refl form
 
 -- ---- a tag stands at one place, computed for each form
@@ -61,8 +61,8 @@ unfolding places103 places202 find same
 all-alone form = each-form Alone tt tt tt form
 
 of-place : (t : List ℕ) (p : Place) → isOf t p ≡ among t (placeTags p)
-of-place t (must ts) = refl
-of-place t (may ts) = refl
+of-place t (mandatory ts) = refl
+of-place t (optional ts) = refl
 
 one-of : (ps : List Place) (i : ℕ) (t : List ℕ) (us : List (List ℕ)) → T (all (λ u. eqb (find ps u) i) us) → among t us ≡ true → find ps t ≡ i
 one-of ps i t [] h e = absurd (false≢true e)
@@ -87,7 +87,7 @@ find-alone ps h t k l e = alone-from ps t 0 ps h k l e ∙ zero-add k
 found : (ps : List Place) → Alone ps → (next : ℕ) (t : List ℕ) → findFrom ps next t < length ps → find ps t ≡ findFrom ps next t
 found ps h next t l =
     let s : Stands (drop next ps) t (find (drop next ps) t) = find-stands (drop next ps) t (omega (arith, length-drop next ps)) in
-    find-alone ps h t (findFrom ps next t) l (ap (isOf t) (sym (getD-drop next ps (find (drop next ps) t) (may []))) ∙ s .has)
+    find-alone ps h t (findFrom ps next t) l (ap (isOf t) (sym (getD-drop next ps (find (drop next ps) t) (optional []))) ∙ s .has)
 
 step-alone : (ps : List Place) → Alone ps → (next : ℕ) (t : List ℕ) → stepIn ps next t ≡ record { place = find ps t; wrong = wrong ps next (find ps t) }
 unfolding stepIn

@@ -15,7 +15,7 @@ use Rattle.fields.specs.Field.{Field, fields, tagOf}
 use Rattle.fields.specs.Places.{nextOf}
 use Rattle.types.specs.declared.Form.{Form}
 use Rattle.types.specs.Form.{Place, placesOf}
-use Rattle.types.specs.Walk.{isOf, optional, find, skips, wrong, walk, walked}
+use Rattle.types.specs.Walk.{isOf, isOptional, find, skips, wrong, walk, walked}
 use Rattle.types.specs.Sentences.{placeAt, Stands, Unknown, Skipped, Judged, unknown, notLater, skipping, right, Seated, AllRight, nextPlace, after, Accepted, Refused, atField, atEnd}
 
 -- ---- a tag's place
@@ -60,26 +60,26 @@ unknown-find [] t u = refl
 unknown-find (p ∷ ps) t u = ap (λ (b : Bool). pick b 0 (suc (find ps t))) (u 0) ∙ ap suc (unknown-find ps t (λ i. u (suc i)))
 
 -- ---- a mandatory place between two others
-skip-met : (ps : List Place) (next q : ℕ) → all optional (drop next (take q ps)) ≡ false → Skipped ps next q
+skip-met : (ps : List Place) (next q : ℕ) → all isOptional (drop next (take q ps)) ≡ false → Skipped ps next q
 skip-met ps zero zero e = absurd (true≢false e)
 skip-met ps (suc next) zero e = absurd (true≢false e)
 skip-met [] zero (suc q) e = absurd (true≢false e)
 skip-met [] (suc next) (suc q) e = absurd (true≢false e)
-skip-met (p ∷ ps) zero (suc q) e = go (optional p) refl e (skip-met ps zero q)
+skip-met (p ∷ ps) zero (suc q) e = go (isOptional p) refl e (skip-met ps zero q)
   where
-    go : (b : Bool) → optional p ≡ b → (b && all optional (take q ps)) ≡ false → (all optional (take q ps) ≡ false → Skipped ps zero q) → Skipped (p ∷ ps) zero (suc q)
+    go : (b : Bool) → isOptional p ≡ b → (b && all isOptional (take q ps)) ≡ false → (all isOptional (take q ps) ≡ false → Skipped ps zero q) → Skipped (p ∷ ps) zero (suc q)
     go true o e r = let s = r e in record { at = suc (s .at); low = omega arith; high = omega (arith, s .high); mandatory = s .mandatory }
     go false o e r = record { at = zero; low = omega arith; high = omega arith; mandatory = o }
 skip-met (p ∷ ps) (suc next) (suc q) e =
     let s = skip-met ps next q e in record { at = suc (s .at); low = omega (arith, s .low); high = omega (arith, s .high); mandatory = s .mandatory }
 
-skip-seen : (ps : List Place) (next q i : ℕ) → next ≤ i → i < q → optional (placeAt ps i) ≡ false → all optional (drop next (take q ps)) ≡ false
+skip-seen : (ps : List Place) (next q i : ℕ) → next ≤ i → i < q → isOptional (placeAt ps i) ≡ false → all isOptional (drop next (take q ps)) ≡ false
 skip-seen ps next zero i l h e = absurd (omega arith)
 skip-seen [] next (suc q) i l h e = absurd (true≢false e)
-skip-seen (p ∷ ps) zero (suc q) zero l h e = ap (λ (b : Bool). b && all optional (take q ps)) e
-skip-seen (p ∷ ps) zero (suc q) (suc i) l h e = go (optional p) (skip-seen ps zero q i (omega arith) (omega arith) e)
+skip-seen (p ∷ ps) zero (suc q) zero l h e = ap (λ (b : Bool). b && all isOptional (take q ps)) e
+skip-seen (p ∷ ps) zero (suc q) (suc i) l h e = go (isOptional p) (skip-seen ps zero q i (omega arith) (omega arith) e)
   where
-    go : (b : Bool) → all optional (take q ps) ≡ false → (b && all optional (take q ps)) ≡ false
+    go : (b : Bool) → all isOptional (take q ps) ≡ false → (b && all isOptional (take q ps)) ≡ false
     go true r = r
     go false r = refl
 skip-seen (p ∷ ps) (suc next) (suc q) zero l h e = absurd (omega arith)
@@ -87,7 +87,7 @@ skip-seen (p ∷ ps) (suc next) (suc q) (suc i) l h e = skip-seen ps next q i (o
 
 pub skips-iff : (ps : List Place) (next q : ℕ) → (skips ps next q ≡ true) ↔ Skipped ps next q
 skips-iff ps next q = (
-  λ e. skip-met ps next q (not-true (all optional (drop next (take q ps))) e),
+  λ e. skip-met ps next q (not-true (all isOptional (drop next (take q ps))) e),
   λ s. ap not (skip-seen ps next q (s .at) (s .low) (s .high) (s .mandatory)),
 )
 

@@ -17,8 +17,8 @@ use Rattle.base.specs.Choice.{pick}
 use Rattle.base.specs.declared.Verdict.the-variants.{Fine}
 use Rattle.fields.specs.Field.{Field, fields, tagOf}
 use Rattle.types.specs.declared.Form.{Form}
-use Rattle.types.specs.Form.{Place, may, placesOf}
-use Rattle.types.specs.Walk.{optional, find, walk, walked, word, present}
+use Rattle.types.specs.Form.{Place, optional, placesOf}
+use Rattle.types.specs.Walk.{isOptional, find, walk, walked, word, present}
 use Rattle.base.specs.Bits.{bit}
 use Rattle.types.proofs.WalkLaws.{seated, accepted-iff}
 use Rattle.base.proofs.BitLaws.{ones-0, ones-under, under, lower, bit-0, bit-under}
@@ -86,21 +86,21 @@ pub present-iff : (ps : List Place) (fs : List Field) (i : ℕ) → (present ps 
 present-iff ps fs i = (present-to ps fs i, λ p. present-from ps fs i (p .number) (p .within) (p .place))
 
 -- a mandatory place is one of the type's
-mandatory-within : (ps : List Place) (i : ℕ) → optional (placeAt ps i) ≡ false → i < length ps
+mandatory-within : (ps : List Place) (i : ℕ) → isOptional (placeAt ps i) ≡ false → i < length ps
 mandatory-within ps i e = go (decLt i (length ps))
   where
     go : Dec (i < length ps) → i < length ps
     go (yes h) = h
-    go (no h) = absurd (true≢false (sym (ap optional (List·getD-eq-default ps (may []) {n = i} (omega arith))) ∙ e))
+    go (no h) = absurd (true≢false (sym (ap isOptional (List·getD-eq-default ps (optional []) {n = i} (omega arith))) ∙ e))
 
 -- every mandatory place is present
-pub needed : (ps : List Place) (next : ℕ) (fs : List Field) → Accepted ps next fs → (i : ℕ) → next ≤ i → optional (placeAt ps i) ≡ false → present ps fs i ≡ true
+pub needed : (ps : List Place) (next : ℕ) (fs : List Field) → Accepted ps next fs → (i : ℕ) → next ≤ i → isOptional (placeAt ps i) ≡ false → present ps fs i ≡ true
 unfolding present
 needed ps next [] a i h e = absurd (a .whole (record { at = i; low = h; high = mandatory-within ps i e; mandatory = e }))
 needed ps next (f ∷ fs) a i h e =
     go (decLt i (find ps (tagOf f))) (decLt (find ps (tagOf f)) i) (needed ps (suc (find ps (tagOf f))) fs (record { fine = a .fine .1; whole = a .whole }) i)
   where
-    go : Dec (i < find ps (tagOf f)) → Dec (find ps (tagOf f) < i) → (suc (find ps (tagOf f)) ≤ i → optional (placeAt ps i) ≡ false → present ps fs i ≡ true)
+    go : Dec (i < find ps (tagOf f)) → Dec (find ps (tagOf f) < i) → (suc (find ps (tagOf f)) ≤ i → isOptional (placeAt ps i) ≡ false → present ps fs i ≡ true)
         → (eqb (find ps (tagOf f)) i || present ps fs i) ≡ true
     go (yes l) b r = absurd (seated ps next (tagOf f) (a .fine .0) .free (record { at = i; low = h; high = l; mandatory = e }))
     go (no l) (yes g) r = ap (λ (b : Bool). eqb (find ps (tagOf f)) i || b) (r g e) ∙ or-true (eqb (find ps (tagOf f)) i)

@@ -9,13 +9,13 @@ use lib.ListN.{length, getD}
 use Rattle.base.specs.Bits.{bit}
 use Rattle.fields.specs.Field.{Field, field, tagOf}
 use Rattle.fields.specs.Places.{nextOf}
-use Rattle.types.specs.Form.{Place, may}
-use Rattle.types.specs.Walk.{isOf, optional, find, word}
+use Rattle.types.specs.Form.{Place, optional}
+use Rattle.types.specs.Walk.{isOf, isOptional, find, word}
 
 -- ---- a field's fault
 -- the place at i; behind the last there is nothing that a message must have
 abbrev pub placeAt : List Place → ℕ → Place
-placeAt ps i = getD ps i (may [])
+placeAt ps i = getD ps i (optional [])
 
 -- q is the first place with the tag
 pub record Stands (ps : List Place) (t : List ℕ) (q : ℕ) : Type 0 where
@@ -32,7 +32,7 @@ pub record Skipped (ps : List Place) (next q : ℕ) : Type 0 where
   pub at : ℕ
   pub low : next ≤ at
   pub high : at < q
-  pub mandatory : optional (placeAt ps at) ≡ false
+  pub mandatory : isOptional (placeAt ps at) ≡ false
 
 -- what is wrong with a field of tag t, where the field before it stands just before place next
 pub data Judged (ps : List Place) (next : ℕ) (t : List ℕ) : ℕ → Type 0 where
@@ -107,7 +107,7 @@ pub record Sound (ps : List Place) (fs : List Field) : Type 0 where
   pub few-fields : length fs ≤ length ps
   pub later : (j k : ℕ) → j < k → k < length fs → placeOfField ps fs j < placeOfField ps fs k
   pub own : (i : ℕ) (a b : Present ps fs i) → a .number ≡ b .number
-  pub all-needed : (i : ℕ) → optional (placeAt ps i) ≡ false → Present ps fs i
+  pub all-needed : (i : ℕ) → isOptional (placeAt ps i) ≡ false → Present ps fs i
   pub as-many : ones (word ps fs) ≡ length fs
   pub below : word ps fs < 2 ^ length ps
   pub bits : (i : ℕ) → (bit (word ps fs) i ≡ 1) ↔ Present ps fs i

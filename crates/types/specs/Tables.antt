@@ -7,8 +7,8 @@ use lib.Dec.{eqb}
 use lib.ListN.{length, drop, getD, replicate}
 use Rattle.base.specs.Choice.{pick}
 use Rattle.types.specs.declared.Form.{Form}
-use Rattle.types.specs.Form.{Place, must, may, placesOf}
-use Rattle.types.specs.Walk.{optional, find, skips, wrong}
+use Rattle.types.specs.Form.{Place, mandatory, optional, placesOf}
+use Rattle.types.specs.Walk.{isOptional, find, skips, wrong}
 use Rattle.fields.specs.Shapes.{shaped, pack, unpack}
 use Rattle.types.specs.declared.Step.{Step}
 
@@ -28,8 +28,8 @@ pair (t ∷ []) = pack t ∷ pack t ∷ []
 pair (t ∷ u ∷ us) = pack t ∷ pack u ∷ []
 
 abbrev pub placeTags : Place → List (List ℕ)
-placeTags (must ts) = ts
-placeTags (may ts) = ts
+placeTags (mandatory ts) = ts
+placeTags (optional ts) = ts
 
 abbrev pub pairs : List Place → List ℕ
 pairs [] = []
@@ -38,19 +38,19 @@ pairs (p ∷ ps) = pair (placeTags p) ++ pairs ps
 unfoldable pub tagTable : List Place → List ℕ
 tagTable ps = padded (most + most) 0 (pairs ps)
 
-unfoldable pub mustTable : List Place → List Bool
-mustTable ps = padded most false (map (λ p. not (optional p)) ps)
+unfoldable pub mandatoryTable : List Place → List Bool
+mandatoryTable ps = padded most false (map (λ p. not (isOptional p)) ps)
 
 -- the tables that are lent are this type's
 pub record TablesOf (form : Form) (tags : List ℕ) (musts : List Bool) (count : ℕ) : Type 0 where
   pub tags-are : tags ≡ tagTable (placesOf form)
-  pub musts-are : musts ≡ mustTable (placesOf form)
+  pub musts-are : musts ≡ mandatoryTable (placesOf form)
   pub count-is : count ≡ length (placesOf form)
 
 -- ---- from tables to the places that they stand for
 abbrev pub placeBy : Bool → List (List ℕ) → Place
-placeBy true ts = must ts
-placeBy false ts = may ts
+placeBy true ts = mandatory ts
+placeBy false ts = optional ts
 
 abbrev pub unpair : ℕ → ℕ → List (List ℕ)
 unpair x y = pick (eqb x y) (unpack x ∷ []) (unpack x ∷ unpack y ∷ [])

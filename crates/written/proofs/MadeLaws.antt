@@ -62,7 +62,7 @@ module _ (s : Bool) where
             shortest = shortest-iff s text (textOf (writing s text)) .0 (said-is (writing s text) e);
             rows = w .ls;
             marks = ap (λ (a : _). marked (layout place) (fitLines a)) (w .is);
-            joined = rows-join (w .division);
+            spells = rows-join (w .division);
             division = w .division;
             fullest = w .fullest;
           }

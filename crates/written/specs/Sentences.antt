@@ -57,7 +57,7 @@ pub record WrittenDetails (s : Bool) (into : DetailsField) (vo text : List ℕ) 
   pub shortest : Shortest s text spelt
   pub rows : List (List ℕ)
   pub marks : ls ≡ marked (layout into) rows
-  pub joined : together rows ≡ code s vo ++ spelt
+  pub spells : together rows ≡ code s vo ++ spelt
   pub division : DivisionIn (layout into) (codeSize s) (code s vo ++ spelt) rows
   pub fullest : Most (opens (layout into .barred)) (layout into .widths) rows
 
