@@ -16,9 +16,9 @@ use Rattle.roles.specs.Rule14.{hidden, isCyrillicInn, taxLike}
 use Rattle.roles.specs.Found.{muteIn, breaks14In}
 
 -- ---- the clauses one after another
-pub named-is : (t b : List ℕ) → pick (muteIn (pieceIn t false b)) true (pick (begins 39 b) (isIn (byte (charactersFrom t 4 false b 0) 0) (47 ∷ 58 ∷ 45 ∷ [])) false) ≡ breaks14In t asName b
+pub name-is : (t b : List ℕ) → pick (muteIn (pieceIn t false b)) true (pick (begins 39 b) (isIn (byte (charactersFrom t 4 false b 0) 0) (47 ∷ 58 ∷ 45 ∷ [])) false) ≡ breaks14In t asName b
 unfolding breaks14In hidden
-named-is t b = go (muteIn (pieceIn t false b)) (begins 39 b)
+name-is t b = go (muteIn (pieceIn t false b)) (begins 39 b)
   where
     k : Bool
     k = isIn (byte (charactersFrom t 4 false b 0) 0) (47 ∷ 58 ∷ 45 ∷ [])

@@ -50,7 +50,7 @@ fn is_mute(back: &[u8; 256], text: &[u8]) -> bool
     }
 }
 
-pub(crate) fn breaks_named(back: &[u8; 256], name: &[u8]) -> bool
+pub(crate) fn breaks_name(back: &[u8; 256], name: &[u8]) -> bool
     ensures { λ r. ⌜ r ≡ breaks14In (now (back .entry)) asName (now (name .entry)) ⌝ }
 {
     if is_mute(back, name) {
@@ -77,7 +77,7 @@ pub fn is_inn(d: &[u8]) -> bool
 fn breaks_tax(back: &[u8; 256], name: &[u8]) -> bool
     ensures { λ r. ⌜ r ≡ breaks14In (now (back .entry)) asTaxName (now (name .entry)) ⌝ }
 {
-    if breaks_named(back, name) {
+    if breaks_name(back, name) {
         return true;
     }
     let f = first_characters(back, name);
@@ -92,7 +92,7 @@ pub(crate) fn breaks_line(back: &[u8; 256], tax: bool, line: &[u8]) -> bool
     ensures { λ r. ⌜ r ≡ lineBreaks (now (back .entry)) tax (now (line .entry)) ⌝ }
 {
     if !tax {
-        return breaks_named(back, line);
+        return breaks_name(back, line);
     }
     if looks_tax(line) {
         return false;

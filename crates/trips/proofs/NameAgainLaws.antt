@@ -119,9 +119,9 @@ module _ (s : Bool) where
   lines-pass holds.Regulatory ls v k r = plain-pass holds.Regulatory ls r
 
 -- ---- 8, of a field written again
-pub named-again : (form : Form) (s : Bool) (t : List ℕ) (ls : List (List ℕ)) → LineByLine (shapeOf form t) → Held form s t ls → rightField form s (fieldAgain form s (field t ls)) ≡ true
+pub names-again : (form : Form) (s : Bool) (t : List ℕ) (ls : List (List ℕ)) → LineByLine (shapeOf form t) → Held form s t ls → rightField form s (fieldAgain form s (field t ls)) ≡ true
 unfolding shapeOf
-named-again form s t ls v h =
+names-again form s t ls v h =
     let c : Content = heldBy form t in
     field-says form s (fieldAgain form s (field t ls)) .1
     (subst (Right c s) (sym (held-lines form s t ls v h)) (lines-pass s c ls v (held-kept form s t ls v h) (field-says form s (field t ls) .0 (h .right))))

@@ -19,7 +19,7 @@ use Rattle.trips.specs.Shown as shown
 use Rattle.trips.specs.Shown.{LineByLine}
 use Rattle.trips.proofs.Held.{Held, DetailsOrRpp}
 use Rattle.trips.proofs.Held as held
-use Rattle.trips.proofs.NameAgainLaws.{named-again}
+use Rattle.trips.proofs.NameAgainLaws.{names-again}
 use Rattle.trips.proofs.DetailAgainLaws.{details-again}
 
 pub right-again : (form : Form) (s : Bool) (t : List ℕ) (ls : List (List ℕ)) → Held form s t ls → Ready s (shapeOf form t) (contentParts s (shapeOf form t) ls)
@@ -34,7 +34,7 @@ right-again form s t ls h w = field-says form s (field t (contentLines s (shapeO
     Again = Right (heldBy form t) s (contentLines s (shapeOf form t) (contentParts s (shapeOf form t) ls))
 
     by-names : LineByLine (shapeOf form t) → Again
-    by-names v = field-says form s (field t (contentLines s (shapeOf form t) (contentParts s (shapeOf form t) ls))) .0 (named-again form s t ls v h)
+    by-names v = field-says form s (field t (contentLines s (shapeOf form t) (contentParts s (shapeOf form t) ls))) .0 (names-again form s t ls v h)
 
     by-details : DetailsOrRpp (shapeOf form t) → Again
     by-details v = details-again (heldBy form t) s ls v was w
