@@ -2,8 +2,6 @@
 use Prim.Native.Nat.{ℕ, _+_, _*_, _-_}
 use mathlib.Core.Bool.{Bool, false, not, _&&_}
 use mathlib.Core.List.{List, [], _∷_}
-use lib.Dec.{eqb}
-use lib.ListN.{length}
 use Rattle.base.specs.Choice.{pick, all}
 use Rattle.base.specs.Bytes.{byte, digit, begins, empty, same}
 use Rattle.base.specs.Quoted.{bytes}
@@ -17,6 +15,7 @@ use Rattle.types.specs.declared.Form.the-variants.{Other}
 use Rattle.types.specs.Form.{formOf}
 use Rattle.types.specs.Walk.{rule18}
 use Rattle.types.specs.Sign.{firstLine, signOf}
+use Rattle.contents.specs.Tests.{just}
 use Rattle.roles.specs.Role.{shapeOf}
 use Rattle.roles.specs.Rule14.{isCyrillicInn}
 use Rattle.roles.specs.declared.Shape.{Shape}
@@ -28,7 +27,7 @@ use Rattle.records.specs.declared.Judged.{Judged}
 -- ---- parts
 -- n digits
 unfoldable pub isDigits : ℕ → List ℕ → Bool
-isDigits n p = eqb (length p) n && all digit p
+isDigits n p = just digit n p
 
 -- S3: at least one part, none empty, none from the second on beginning with : or -
 unfoldable pub general : List (List ℕ) → Bool
