@@ -20,7 +20,7 @@ use Rattle.alphabets.specs.Grid.{grid, Kind, unwritable, russian, latin,
 use Rattle.alphabets.specs.Best.{latinFirst, latinNext, best, Spot, nowhere, at, further, bad, orStuck, writes}
 use Rattle.alphabets.specs.Runs.{run, through}
 use Rattle.alphabets.specs.Parts.{extentOf}
-use Rattle.alphabets.specs.Steps.{sized, onward, gridValue, gridTable, group, LatinRun}
+use Rattle.alphabets.specs.Steps.{sized, extentOn, gridValue, gridTable, group, LatinRun}
 use Rattle.alphabets.specs.declared.parts.Extent.{Extent}
 use Rattle.alphabets.specs.declared.parts.Extent.the-variants.{Takes, Halts, Long}
 use Rattle.alphabets.proofs.GridLaws.{big-kind}
@@ -98,23 +98,23 @@ pub is-russian : (x : ℕ) → (getD gridTable x 0 ≡ 0 → ⊥) → (getD grid
 is-russian x n m e = shaped x .is ∙ rw (ne-eqb (getD gridTable x 0) 0 n, ne-eqb (getD gridTable x 0) 1 m, ne-eqb (getD gridTable x 0) x e)
 
 -- ---- sizes, one behind another
-onward-onward : (i n j m : ℕ) (z : Extent) → onward i n (onward j m z) ≡ onward (i + j) (n + m) z
+onward-onward : (i n j m : ℕ) (z : Extent) → extentOn i n (extentOn j m z) ≡ extentOn (i + j) (n + m) z
 onward-onward i n j m (Takes k) = let e : n + (m + k) ≡ n + m + k = omega arith in ap Takes e
 onward-onward i n j m (Halts k) = let e : i + (j + k) ≡ i + j + k = omega arith in ap Halts e
 onward-onward i n j m Long = refl
 
-onward-none : (z : Extent) → z ≡ onward 0 0 z
+onward-none : (z : Extent) → z ≡ extentOn 0 0 z
 onward-none (Takes k) = let e : k ≡ 0 + k = omega arith in ap Takes e
 onward-none (Halts k) = let e : k ≡ 0 + k = omega arith in ap Halts e
 onward-none Long = refl
 
 -- ---- one character: how it is written, and the size
 -- a unit for the character, and an apostrophe alone
-size-unit : (p : Spot) (y : ℕ) (t : List ℕ) → extentOf (orStuck (further p) (y ∷ t)) ≡ onward 1 1 (extentOf (orStuck p t))
+size-unit : (p : Spot) (y : ℕ) (t : List ℕ) → extentOf (orStuck (further p) (y ∷ t)) ≡ extentOn 1 1 (extentOf (orStuck p t))
 size-unit nowhere y t = let e : suc (length t) ≡ 1 + length t = omega arith in ap Takes e
 size-unit (at k) y t = let e : suc k ≡ 1 + k = omega arith in ap Halts e
 
-size-mark : (p : Spot) (t : List ℕ) → extentOf (orStuck p (39 ∷ t)) ≡ onward 0 1 (extentOf (orStuck p t))
+size-mark : (p : Spot) (t : List ℕ) → extentOf (orStuck p (39 ∷ t)) ≡ extentOn 0 1 (extentOf (orStuck p t))
 size-mark nowhere t = let e : suc (length t) ≡ 1 + length t = omega arith in ap Takes e
 size-mark (at k) t = let e : k ≡ 0 + k = omega arith in ap Halts e
 
@@ -144,7 +144,7 @@ shown x xs h = go (eqb (getD gridTable x 0) x) refl
         let k : kind x ≡ russian = is-russian x no-0 no-1 (eqb-false (getD gridTable x 0) x e) in
         record { text = rw k (first (getD grid x 0) (rw k at (shaped x .spelt h))); fine = rw k }
 
-size-russian : (x : ℕ) (xs : List ℕ) → 1 < getD gridTable x 0 → sized false (x ∷ xs) ≡ onward 1 1 (sized false xs)
+size-russian : (x : ℕ) (xs : List ℕ) → 1 < getD gridTable x 0 → sized false (x ∷ xs) ≡ extentOn 1 1 (sized false xs)
 size-russian x xs h = let w : Shown x xs = shown x xs h in rw (w .text, w .fine) (size-unit (bad xs) (getD gridTable x 0) (best false xs))
 
 size-unwritable : (s : Bool) (x : ℕ) (xs : List ℕ) → kind x ≡ unwritable → sized s (x ∷ xs) ≡ Halts 0
@@ -156,30 +156,30 @@ opened : (x : ℕ) (xs : List ℕ) → kind x ≡ latin → best false (x ∷ xs
 unfolding best
 opened x xs e = rw e
 
-size-opened : (x : ℕ) (xs : List ℕ) → kind x ≡ latin → sized false (x ∷ xs) ≡ onward 0 1 (sized true (x ∷ xs))
+size-opened : (x : ℕ) (xs : List ℕ) → kind x ≡ latin → sized false (x ∷ xs) ≡ extentOn 0 1 (sized true (x ∷ xs))
 size-opened x xs e = rw (opened x xs e) (size-mark (bad (x ∷ xs)) (best true (x ∷ xs)))
 
-size-latin : (x : ℕ) (xs : List ℕ) → kind x ≡ latin → sized true (x ∷ xs) ≡ onward 1 1 (sized true xs)
+size-latin : (x : ℕ) (xs : List ℕ) → kind x ≡ latin → sized true (x ∷ xs) ≡ extentOn 1 1 (sized true xs)
 unfolding best bad
 size-latin x xs e = rw e (size-unit (bad xs) x (best true xs))
 
 -- and left where no Latin character is next
-size-leave : (d : List ℕ) → latinNext d ≡ false → sized true d ≡ onward 0 1 (sized false d)
+size-leave : (d : List ℕ) → latinNext d ≡ false → sized true d ≡ extentOn 0 1 (sized false d)
 size-leave d n = rw (leave d n) (size-mark (bad d) (best false d))
 
 -- wherever the apostrophe goes, a shared character takes one unit
-size-common : (x : ℕ) (xs : List ℕ) → kind x ≡ common → sized true (x ∷ xs) ≡ onward 1 1 (sized true xs)
+size-common : (x : ℕ) (xs : List ℕ) → kind x ≡ common → sized true (x ∷ xs) ≡ extentOn 1 1 (sized true xs)
 unfolding best bad
 size-common x xs e = go (latinNext xs) refl
   where
-    go : (q : Bool) → latinNext xs ≡ q → sized true (x ∷ xs) ≡ onward 1 1 (sized true xs)
+    go : (q : Bool) → latinNext xs ≡ q → sized true (x ∷ xs) ≡ extentOn 1 1 (sized true xs)
     go true n = rw (e, n) (size-unit (bad xs) x (best true xs))
     go false n =
-        rw (e, n) (size-mark (further (bad xs)) (x ∷ best false xs) ∙ ap (onward 0 1) (size-unit (bad xs) x (best false xs)) ∙ onward-onward 0 1 1 1 (sized false xs))
-        ∙ sym (ap (onward 1 1) (size-leave xs n) ∙ onward-onward 1 1 0 1 (sized false xs))
+        rw (e, n) (size-mark (further (bad xs)) (x ∷ best false xs) ∙ ap (extentOn 0 1) (size-unit (bad xs) x (best false xs)) ∙ onward-onward 0 1 1 1 (sized false xs))
+        ∙ sym (ap (extentOn 1 1) (size-leave xs n) ∙ onward-onward 1 1 0 1 (sized false xs))
 
 -- ---- the Russian run
-run-size : (d : List ℕ) → sized false d ≡ onward (run gridTable 1 d) (run gridTable 1 d) (sized false (drop (run gridTable 1 d) d))
+run-size : (d : List ℕ) → sized false d ≡ extentOn (run gridTable 1 d) (run gridTable 1 d) (sized false (drop (run gridTable 1 d) d))
 unfolding run
 run-size [] = onward-none (sized false [])
 run-size (x ∷ xs) = go (ltb 1 (getD gridTable x 0)) refl (run-size xs)
@@ -187,12 +187,12 @@ run-size (x ∷ xs) = go (ltb 1 (getD gridTable x 0)) refl (run-size xs)
     r : ℕ
     r = run gridTable 1 xs
 
-    go : (q : Bool) → ltb 1 (getD gridTable x 0) ≡ q → sized false xs ≡ onward r r (sized false (drop r xs))
-        → sized false (x ∷ xs) ≡ onward (pick q (suc r) 0) (pick q (suc r) 0) (sized false (drop (pick q (suc r) 0) (x ∷ xs)))
+    go : (q : Bool) → ltb 1 (getD gridTable x 0) ≡ q → sized false xs ≡ extentOn r r (sized false (drop r xs))
+        → sized false (x ∷ xs) ≡ extentOn (pick q (suc r) 0) (pick q (suc r) 0) (sized false (drop (pick q (suc r) 0) (x ∷ xs)))
     go false e ih = onward-none (sized false (x ∷ xs))
     go true e ih =
         let n : 1 + r ≡ suc r = omega arith in
-        size-russian x xs (ltb-true 1 (getD gridTable x 0) e) ∙ ap (onward 1 1) ih ∙ onward-onward 1 1 r r (sized false (drop r xs)) ∙ ap (λ (k : ℕ). onward k k (sized false (drop r xs))) n
+        size-russian x xs (ltb-true 1 (getD gridTable x 0) e) ∙ ap (extentOn 1 1) ih ∙ onward-onward 1 1 r r (sized false (drop r xs)) ∙ ap (λ (k : ℕ). extentOn k k (sized false (drop r xs))) n
 
 run-text : (d : List ℕ) → best false d ≡ through gridTable false d ++ best false (drop (run gridTable 1 d) d)
 unfolding run through
@@ -330,30 +330,30 @@ module _ (d : List ℕ) (from last i : ℕ) (v : Grouping d from last i) where
       omega (arith, v .whole)
 
 -- ---- the loop along the characters that the Latin side takes
-pub latin-run-start : (d : List ℕ) (from : ℕ) → sized true (drop from d) ≡ onward (from - from) (from - from) (sized true (drop from d))
+pub latin-run-start : (d : List ℕ) (from : ℕ) → sized true (drop from d) ≡ extentOn (from - from) (from - from) (sized true (drop from d))
 latin-run-start d from = let z : from - from ≡ 0 = omega arith in rw z (onward-none (sized true (drop from d)))
 
-module _ (d : List ℕ) (from i : ℕ) (low : from ≤ i) (h : i < length d) (v : sized true (drop from d) ≡ onward (i - from) (i - from) (sized true (drop i d))) where
-  one-more : sized true (getD d i 0 ∷ drop (i + 1) d) ≡ onward 1 1 (sized true (drop (i + 1) d)) → sized true (drop from d) ≡ onward (i + 1 - from) (i + 1 - from) (sized true (drop (i + 1) d))
+module _ (d : List ℕ) (from i : ℕ) (low : from ≤ i) (h : i < length d) (v : sized true (drop from d) ≡ extentOn (i - from) (i - from) (sized true (drop i d))) where
+  one-more : sized true (getD d i 0 ∷ drop (i + 1) d) ≡ extentOn 1 1 (sized true (drop (i + 1) d)) → sized true (drop from d) ≡ extentOn (i + 1 - from) (i + 1 - from) (sized true (drop (i + 1) d))
   one-more e =
       let z : i - from + 1 ≡ i + 1 - from = omega arith in
       v
-      ∙ ap (λ (b : List ℕ). onward (i - from) (i - from) (sized true b)) (cut d i h)
-      ∙ ap (onward (i - from) (i - from)) e
+      ∙ ap (λ (b : List ℕ). extentOn (i - from) (i - from) (sized true b)) (cut d i h)
+      ∙ ap (extentOn (i - from) (i - from)) e
       ∙ onward-onward (i - from) (i - from) 1 1 (sized true (drop (i + 1) d))
-      ∙ ap (λ (k : ℕ). onward k k (sized true (drop (i + 1) d))) z
+      ∙ ap (λ (k : ℕ). extentOn k k (sized true (drop (i + 1) d))) z
 
-  pub latin-run-latin : kind (getD d i 0) ≡ latin → sized true (drop from d) ≡ onward (i + 1 - from) (i + 1 - from) (sized true (drop (i + 1) d))
+  pub latin-run-latin : kind (getD d i 0) ≡ latin → sized true (drop from d) ≡ extentOn (i + 1 - from) (i + 1 - from) (sized true (drop (i + 1) d))
   latin-run-latin k = one-more (size-latin (getD d i 0) (drop (i + 1) d) k)
 
-  pub latin-run-common : kind (getD d i 0) ≡ common → sized true (drop from d) ≡ onward (i + 1 - from) (i + 1 - from) (sized true (drop (i + 1) d))
+  pub latin-run-common : kind (getD d i 0) ≡ common → sized true (drop from d) ≡ extentOn (i + 1 - from) (i + 1 - from) (sized true (drop (i + 1) d))
   latin-run-common k = one-more (size-common (getD d i 0) (drop (i + 1) d) k)
 
 -- ---- the loop that measures: i characters are taken, marks apostrophes written, and the Russian side is next
 pub record Weighing (desk : List ℕ) (marks i : ℕ) : Type 0 where
   pub long : i ≤ length desk
   pub few : marks ≤ 2 * i
-  pub whole : extentOf (writes desk) ≡ onward i (i + marks) (sized false (drop i desk))
+  pub whole : extentOf (writes desk) ≡ extentOn i (i + marks) (sized false (drop i desk))
 
 pub weighing-start : (desk : List ℕ) → Weighing desk 0 0
 unfolding writes
@@ -363,7 +363,7 @@ pub weighing-end : (desk : List ℕ) (marks i : ℕ) → Weighing desk marks i �
 unfolding best bad
 weighing-end desk marks i v h =
     let z : i + marks + 0 ≡ i + marks = omega arith in
-    sym (v .whole ∙ ap (λ (b : List ℕ). onward i (i + marks) (sized false b)) (drop-of-length-le desk h) ∙ ap Takes z)
+    sym (v .whole ∙ ap (λ (b : List ℕ). extentOn i (i + marks) (sized false b)) (drop-of-length-le desk h) ∙ ap Takes z)
 
 module _ (desk : List ℕ) (marks i k : ℕ) (v : Weighing desk marks i) (r : k ≡ i + run gridTable 1 (drop i desk)) (w : Ended gridTable 1 desk k) where
   -- the Russian run
@@ -378,18 +378,18 @@ module _ (desk : List ℕ) (marks i k : ℕ) (v : Weighing desk marks i) (r : k 
         few = omega (arith, v .few);
         whole =
             v .whole
-            ∙ ap (onward i (i + marks)) (run-size (drop i desk))
-            ∙ ap (λ (b : List ℕ). onward i (i + marks) (onward n n (sized false b))) (drop-drop n i desk ∙ ap (λ (m : ℕ). drop m desk) a)
+            ∙ ap (extentOn i (i + marks)) (run-size (drop i desk))
+            ∙ ap (λ (b : List ℕ). extentOn i (i + marks) (extentOn n n (sized false b))) (drop-drop n i desk ∙ ap (λ (m : ℕ). drop m desk) a)
             ∙ onward-onward i (i + marks) n n z
-            ∙ ap (λ (m : ℕ). onward m (i + marks + n) z) a
-            ∙ ap (λ (m : ℕ). onward k m z) b;
+            ∙ ap (λ (m : ℕ). extentOn m (i + marks + n) z) a
+            ∙ ap (λ (m : ℕ). extentOn k m z) b;
       }
 
 module _ (desk : List ℕ) (marks k : ℕ) (v : Weighing desk marks k) (h : k < length desk) where
   pub weighed-bad : kind (getD desk k 0) ≡ unwritable → Halts k ≡ extentOf (writes desk)
   weighed-bad e =
       let z : k + 0 ≡ k = omega arith in
-      sym (v .whole ∙ ap (λ (b : List ℕ). onward k (k + marks) (sized false b)) (cut desk k h) ∙ ap (onward k (k + marks)) (size-unwritable false (getD desk k 0) (drop (k + 1) desk) e) ∙ ap Halts z)
+      sym (v .whole ∙ ap (λ (b : List ℕ). extentOn k (k + marks) (sized false b)) (cut desk k h) ∙ ap (extentOn k (k + marks)) (size-unwritable false (getD desk k 0) (drop (k + 1) desk) e) ∙ ap Halts z)
 
   -- a Latin letter, and the characters that the Latin side takes behind it: two apostrophes
   pub weighing-latin : (r : ℕ) → kind (getD desk k 0) ≡ latin → LatinRun desk (k + 1) r → Weighing desk (marks + 2) r
@@ -405,17 +405,17 @@ module _ (desk : List ℕ) (marks k : ℕ) (v : Weighing desk marks k) (h : k < 
         few = omega (arith, v .few, w .low);
         whole =
             v .whole
-            ∙ ap (λ (b : List ℕ). onward k (k + marks) (sized false b)) (cut desk k h)
-            ∙ ap (onward k (k + marks)) (size-opened x xs e)
+            ∙ ap (λ (b : List ℕ). extentOn k (k + marks) (sized false b)) (cut desk k h)
+            ∙ ap (extentOn k (k + marks)) (size-opened x xs e)
             ∙ onward-onward k (k + marks) 0 1 (sized true (x ∷ xs))
-            ∙ ap (onward (k + 0) (k + marks + 1)) (size-latin x xs e)
+            ∙ ap (extentOn (k + 0) (k + marks + 1)) (size-latin x xs e)
             ∙ onward-onward (k + 0) (k + marks + 1) 1 1 (sized true xs)
-            ∙ ap (onward (k + 0 + 1) (k + marks + 1 + 1)) (w .sizes)
+            ∙ ap (extentOn (k + 0 + 1) (k + marks + 1 + 1)) (w .sizes)
             ∙ onward-onward (k + 0 + 1) (k + marks + 1 + 1) n n (sized true (drop r desk))
-            ∙ ap (onward (k + 0 + 1 + n) (k + marks + 1 + 1 + n)) (size-leave (drop r desk) (w .ends))
+            ∙ ap (extentOn (k + 0 + 1 + n) (k + marks + 1 + 1 + n)) (size-leave (drop r desk) (w .ends))
             ∙ onward-onward (k + 0 + 1 + n) (k + marks + 1 + 1 + n) 0 1 z
-            ∙ ap (λ (m : ℕ). onward m (k + marks + 1 + 1 + n + 1) z) a
-            ∙ ap (λ (m : ℕ). onward r m z) b;
+            ∙ ap (λ (m : ℕ). extentOn m (k + marks + 1 + 1 + n + 1) z) a
+            ∙ ap (λ (m : ℕ). extentOn r m z) b;
       }
 
 -- what was measured

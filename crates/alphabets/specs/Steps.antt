@@ -37,10 +37,10 @@ gridTable = values gridValue 0 256
 abbrev pub sized : Bool → List ℕ → Extent
 sized s d = extentOf (orStuck (bad d) (best s d))
 
-abbrev pub onward : ℕ → ℕ → Extent → Extent
-onward i n (Takes m) = Takes (n + m)
-onward i n (Halts k) = Halts (i + k)
-onward i n Long = Long
+abbrev pub extentOn : ℕ → ℕ → Extent → Extent
+extentOn i n (Takes m) = Takes (n + m)
+extentOn i n (Halts k) = Halts (i + k)
+extentOn i n Long = Long
 
 -- how many characters at the front stand on the Latin side once it is opened
 unfoldable pub group : List ℕ → ℕ
@@ -51,5 +51,5 @@ group (x ∷ xs) = pick (latinNext (x ∷ xs)) (suc (group xs)) 0
 pub record LatinRun (d : List ℕ) (from r : ℕ) : Type 0 where
   pub low : from ≤ r
   pub high : r ≤ length d
-  pub sizes : sized true (drop from d) ≡ onward (r - from) (r - from) (sized true (drop r d))
+  pub sizes : sized true (drop from d) ≡ extentOn (r - from) (r - from) (sized true (drop r d))
   pub ends : latinNext (drop r d) ≡ false

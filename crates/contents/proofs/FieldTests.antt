@@ -16,7 +16,7 @@ use Rattle.contents.specs.declared.Content.the-variants as holds
 use Rattle.contents.specs.Words.{Text, Line, Size, Digits, join}
 use Rattle.contents.specs.Lines.{Name, codeOpening, codeClosing}
 use Rattle.contents.specs.Fields.{One, Then, Any, Several, Names, Beside, Customer, Payer, Details, Right}
-use Rattle.contents.specs.Tests.{sized, piece, sizes, isName, one, after, any, several, beside, customer, payer, codeParts, codeTest, laterTest, isDetails, right}
+use Rattle.contents.specs.Tests.{sized, piece, sizes, isName, one, firstThen, any, several, beside, customer, payer, codeParts, codeTest, laterTest, isDetails, right}
 use Rattle.contents.proofs.CutLaws.{cut-whole, cut-once}
 use Rattle.contents.proofs.LineTests.{size-says, just-says, starts-says, begins-says, reference-says, purpose-says, payment-says, own-says, account-says, looks-says, party-says, bic-says, tax-says, rpp-says}
 
@@ -27,7 +27,7 @@ module _ (P : Line → Type 0) (p : Line → Bool) (h : (l : Line) → Says (P l
   one-says (l ∷ []) = h l
   one-says (l ∷ k ∷ ls) = says-not (λ x. x)
 
-  pub then-says : (Q : List Line → Type 0) (q : List Line → Bool) → ((ls : List Line) → Says (Q ls) (q ls)) → (ls : List Line) → Says (Then P Q ls) (after p q ls)
+  pub then-says : (Q : List Line → Type 0) (q : List Line → Bool) → ((ls : List Line) → Says (Q ls) (q ls)) → (ls : List Line) → Says (Then P Q ls) (firstThen p q ls)
   then-says Q q g [] = says-not (λ x. x)
   then-says Q q g (l ∷ ls) = says-and (h l) (g ls)
 

@@ -149,9 +149,9 @@ one p [] = false
 one p (l ∷ []) = p l
 one p (l ∷ k ∷ ls) = false
 
-abbrev pub after : (Line → Bool) → (List Line → Bool) → List Line → Bool
-after p q [] = false
-after p q (l ∷ ls) = p l && q ls
+abbrev pub firstThen : (Line → Bool) → (List Line → Bool) → List Line → Bool
+firstThen p q [] = false
+firstThen p q (l ∷ ls) = p l && q ls
 
 abbrev pub any : List Line → Bool
 any ls = true
@@ -160,13 +160,13 @@ abbrev pub several : (Line → Bool) → ℕ → List Line → Bool
 several p n ls = leb 1 (length ls) && (leb (length ls) n && all p ls)
 
 abbrev pub beside : Bool → List Line → Bool
-beside twelve ls = after (isTax twelve) (several isName 3) ls || (not (after looksTax any ls) && several isName 4 ls)
+beside twelve ls = firstThen (isTax twelve) (several isName 3) ls || (not (firstThen looksTax any ls) && several isName 4 ls)
 
 abbrev pub customer : Bool → List Line → Bool
-customer twelve ls = after isAccount (beside twelve) ls
+customer twelve ls = firstThen isAccount (beside twelve) ls
 
 abbrev pub payer : List Line → Bool
-payer ls = customer true ls || (not (after (begins 47) any ls) && beside true ls)
+payer ls = customer true ls || (not (firstThen (begins 47) any ls) && beside true ls)
 
 -- the mark, what opens the VO code, its digits, what closes it, the text on its line
 abbrev pub codeParts : Text → Bool → Line → List Text
@@ -198,14 +198,14 @@ right holds.Operation sign ls = one (λ l. same l (bytes "CRED")) ls
 right holds.Purpose sign ls = one isPurpose ls
 right holds.Payment sign ls = one isPayment ls
 right holds.Payer sign ls = payer ls
-right holds.BankByBic sign ls = one isBic ls || after isParty (one isBic) ls
-right holds.BankByName sign ls = after isParty (several isName 4) ls
+right holds.BankByBic sign ls = one isBic ls || firstThen isParty (one isBic) ls
+right holds.BankByName sign ls = firstThen isParty (several isName 4) ls
 right holds.OwnAccount sign ls = one isOwnAccount ls
-right holds.AccountAndBic sign ls = after isAccount (one isBic) ls
+right holds.AccountAndBic sign ls = firstThen isAccount (one isBic) ls
 right holds.BeneficiaryBank sign ls = customer false ls
 right holds.Beneficiary sign ls = customer true ls
 right holds.Details sign ls = isDetails [] [] 35 35 4 sign ls
 right holds.Charges sign ls = one (λ l. same l (bytes "OUR")) ls
 right holds.Document sign ls = one isRpp ls
-right holds.DocumentAndDetails sign ls = in72 sign 6 ls || after isRpp (in72 sign 5) ls
-right holds.Regulatory sign ls = after (begins 47) any ls && several isName 3 ls
+right holds.DocumentAndDetails sign ls = in72 sign 6 ls || firstThen isRpp (in72 sign 5) ls
+right holds.Regulatory sign ls = firstThen (begins 47) any ls && several isName 3 ls

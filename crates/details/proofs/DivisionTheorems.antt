@@ -14,7 +14,7 @@ use Rattle.base.specs.Quoted.{bytes}
 use Rattle.base.proofs.CallLaws.{one-answer}
 use Rattle.fields.specs.ByLines.{joined}
 use Rattle.details.specs.Lines.{together, none, line, Division, lines, Most}
-use Rattle.details.specs.Breaking.{opens, Fit, fits, unfit, last, breaks, pieces, cutFit, broken, steady}
+use Rattle.details.specs.Breaking.{opens, Fit, fits, unfit, last, breaks, linePieces, cutFit, broken, steady}
 use Rattle.details.specs.Layouts.{Layout, layout, divided, DivisionIn, marked, laterBytes, laid, fitLines, linesFor, laidFor, fitSize, sizeFor, Lays}
 use Rattle.details.specs.declared.DetailsField.{DetailsField}
 use Rattle.details.specs.declared.DetailsField.the-variants.{In70, In72, BehindRpp}
@@ -30,11 +30,11 @@ fits-not e = let z : _≡_ {A = ℕ} 0 1 = cc in omega arith
 
 module _ (ok : ℕ → Bool) (least : ℕ) (text : List ℕ) where
   pub data Ours : List ℕ → List (List ℕ) → Type 0 where
-    ours : {w : ℕ} {ws es : List ℕ} → least - 1 < length text → Took ok text (least - 1) w ws es → Ours (w ∷ ws) (pieces text 0 es)
+    ours : {w : ℕ} {ws es : List ℕ} → least - 1 < length text → Took ok text (least - 1) w ws es → Ours (w ∷ ws) (linePieces text 0 es)
 
   ours-by : (b : Bool) {w : ℕ} {ws : List ℕ} {a : Fit (List ℕ)} {ls : List (List ℕ)} → ltb (least - 1) (length text) ≡ b → Came ok text (least - 1) w ws a
       → pick b (cutFit text a) unfit ≡ fits ls → Ours (w ∷ ws) ls
-  ours-by true {ls = ls} h (took {es} t) e = let f : ls ≡ pieces text 0 es = cc in rw f (ours (ltb-true _ _ h) t)
+  ours-by true {ls = ls} h (took {es} t) e = let f : ls ≡ linePieces text 0 es = cc in rw f (ours (ltb-true _ _ h) t)
   ours-by true h (stuck t) e = absurd (fits-not (sym e))
   ours-by false h t e = absurd (fits-not (sym e))
 
@@ -85,7 +85,7 @@ pub less-divided : (barred : List ℕ) (least : ℕ) (text less : List ℕ) {wid
 unfolding opens isIn
 less-divided barred least text less e (lines {w = w} {l = l} z p q m j) a b c =
     let d = shortened (opens barred) text less (λ x. ap (λ (bs : List ℕ). opens bs x) e) c (breaks-of (opens barred) text m l (least - 1) w (length l) refl j (omega arith) q) (omega arith) in
-    (pieces less 0 (d .0), division-of (opens barred) less (d .1))
+    (linePieces less 0 (d .0), division-of (opens barred) less (d .1))
 
 -- not for any widths: `aaa:::` in widths of 2, 1 and 4 is a, a and a:::, but once the first line has its most nothing goes on
 abbrev grown : List ℕ

@@ -14,7 +14,7 @@ use Rattle.base.specs.Choice.{pick}
 use Rattle.base.specs.Calls.{placed}
 use Rattle.base.proofs.Bools.{pick-same}
 use Rattle.base.proofs.Room.{placed-not, placed-none}
-use Rattle.details.specs.Breaking.{opens, Fit, fits, unfit, last, part, pieces, cutFit, broken}
+use Rattle.details.specs.Breaking.{opens, Fit, fits, unfit, last, part, linePieces, cutFit, broken}
 use Rattle.details.specs.Layouts.{Layout, layout, divided, laterBytes, laid, fitLines, laidFor, fitSize, sizeFor, Lays}
 use Rattle.details.specs.Steps.{layoutNumbers, Small, barredBy, breaksIn, sizeOn, sizeBy, laidBy, wholeBy, RoomFor}
 use Rattle.details.specs.declared.DetailsField.{DetailsField}
@@ -30,15 +30,15 @@ module _ (text next : List ℕ) where
   abbrev sep : List ℕ
   sep = 13 ∷ 10 ∷ next
 
-  later-laid : (e : ℕ) (es : List ℕ) → laterBytes next (pieces text e es) ≡ sep ++ laidBy sep text e es
+  later-laid : (e : ℕ) (es : List ℕ) → laterBytes next (linePieces text e es) ≡ sep ++ laidBy sep text e es
   later-laid e [] = ap (λ (l : List ℕ). sep ++ l) (append-nil (drop e text))
   later-laid e (t ∷ es) =
       ap (λ (l : List ℕ). sep ++ l) (ap (λ (l : List ℕ). part e t text ++ l) (later-laid t es) ∙ sym (append-assoc (part e t text) sep (laidBy sep text t es)))
 
-  pieces-laid : (v : Layout) (es : List ℕ) → v .next ≡ next → laid v (pieces text 0 es) ≡ v .mark ++ laidBy sep text 0 es
+  pieces-laid : (v : Layout) (es : List ℕ) → v .next ≡ next → laid v (linePieces text 0 es) ≡ v .mark ++ laidBy sep text 0 es
   pieces-laid v [] f = ap (λ (l : List ℕ). v .mark ++ l) (append-nil text)
   pieces-laid v (e ∷ es) f =
-      ap (λ (n : List ℕ). v .mark ++ (part 0 e text ++ laterBytes n (pieces text e es))) f
+      ap (λ (n : List ℕ). v .mark ++ (part 0 e text ++ laterBytes n (linePieces text e es))) f
       ∙ ap (λ (l : List ℕ). v .mark ++ l) (ap (λ (l : List ℕ). part 0 e text ++ l) (later-laid e es) ∙ sym (append-assoc (part 0 e text) sep (laidBy sep text e es)))
 
 size-laid : {ok : ℕ → Bool} {text ws es : List ℕ} {low high : ℕ} (sep : List ℕ) (from n k : ℕ) → Took ok text low high ws es → from ≤ low → low < length text → k + (length text - from) ≡ n
@@ -116,9 +116,9 @@ module _ (p : DetailsField) (least : ℕ) (text : List ℕ) where
           let l : List ℕ = laidBy (13 ∷ 10 ∷ layout p .next) text 0 es in
           let f : sizeOn (layoutNumbers p .mark + length text) (length (13 ∷ 10 ∷ layout p .next)) es ≡ layoutNumbers p .mark + length l =
           size-laid (13 ∷ 10 ∷ layout p .next) 0 (layoutNumbers p .mark + length text) (layoutNumbers p .mark) t (omega arith) h (omega arith) in
-          let g : length (laid (layout p) (pieces text 0 es)) ≡ length (layout p .mark) + length l =
+          let g : length (laid (layout p) (linePieces text 0 es)) ≡ length (layout p .mark) + length l =
           ap length (pieces-laid text (layout p .next) (layout p) es refl) ∙ length-append (layout p .mark) l in
-          let k : layoutNumbers p .mark + length l ≡ length (laid (layout p) (pieces text 0 es)) = omega (arith, mark-long p) in
+          let k : layoutNumbers p .mark + length l ≡ length (laid (layout p) (linePieces text 0 es)) = omega (arith, mark-long p) in
           ap Bytes (ap (λ (n : ℕ). sizeOn (layoutNumbers p .mark + length text) n es) (sym (next-long p)) ∙ f ∙ k)
       go (stuck t) = refl
 
@@ -139,10 +139,10 @@ module _ (p : DetailsField) (least : ℕ) (text : List ℕ) where
     where
       go : (b : Bool) (a : Fit (List ℕ)) → ltb (least - 1) (length text) ≡ b → ours ≡ a → Known n
       go true (fits es) h i =
-          let d : divided (layout p) least text ≡ fits (pieces text 0 es) = divided-yes (ltb-true _ _ h) ∙ ap (cutFit text) i in
-          let f : Bytes n ≡ Bytes (length (laid (layout p) (pieces text 0 es))) = e ∙ ap (fitSize (layout p)) d in
-          let g : laid (layout p) (pieces text 0 es) ≡ laid (layout p) (fitLines (divided (layout p) least text)) = ap (λ (a : Fit (List (List ℕ))). laid (layout p) (fitLines a)) (sym d) in
-          let m : n ≡ length (laid (layout p) (pieces text 0 es)) = cc in
+          let d : divided (layout p) least text ≡ fits (linePieces text 0 es) = divided-yes (ltb-true _ _ h) ∙ ap (cutFit text) i in
+          let f : Bytes n ≡ Bytes (length (laid (layout p) (linePieces text 0 es))) = e ∙ ap (fitSize (layout p)) d in
+          let g : laid (layout p) (linePieces text 0 es) ≡ laid (layout p) (fitLines (divided (layout p) least text)) = ap (λ (a : Fit (List (List ℕ))). laid (layout p) (fitLines a)) (sym d) in
+          let m : n ≡ length (laid (layout p) (linePieces text 0 es)) = cc in
           record {
             inside = ltb-true _ _ h;
             es = es;

@@ -23,7 +23,7 @@ use Rattle.types.specs.declared.Form.{Form}
 use Rattle.types.specs.Walk.{among}
 use Rattle.contents.specs.declared.Content.{Content}
 use Rattle.values.specs.declared.Finds.{Finds}
-use Rattle.values.specs.Values.{Kind, tag, Value, placeOf, kindOf, valuesOf, valuesIn}
+use Rattle.values.specs.Values.{ValueKind, tag, Value, placeOf, kindOf, valuesOf, valuesIn}
 use Rattle.values.specs.Judged.{firstBad, has, noDay, foreign, bikDiffers, hasTag, hasKpp, kppIn, is56, is57, is26T, is77B, tags56, tags57, rule9, rule10, rule11, rule12, rule13}
 use Rattle.values.specs.Answers.{faultOf, answered}
 use Rattle.values.specs.Steps.{finds}
@@ -31,7 +31,7 @@ use Rattle.values.proofs.JudgedLaws.{Ordered, none, next}
 use Rattle.values.proofs.ValueLaws.{values-order}
 use Rattle.values.proofs.StepLaws.{among-two, first-field, first-tag, has-tag, has-kpp, rule11-by, rule13-by}
 use Rattle.judge.specs.declared.facts.Facts.{Facts}
-use Rattle.judge.specs.Facts.{orElse, within, marked, kppAt, asVerdict, nothingYet, markedBy, withFinds, Unmarked, valuesFor, withField, factsFrom, openBank, taxRule, valueRules}
+use Rattle.judge.specs.Facts.{orElse, within, placeIf, kppAt, asVerdict, nothingYet, withTag, withFinds, Unmarked, valuesFor, withField, factsFrom, openBank, taxRule, valueRules}
 
 -- ---- places
 pub else-old : {a : ℕ} (b : ℕ) → (a ≡ 0 → ⊥) → a ≡ orElse a b
@@ -54,8 +54,8 @@ unfolding within
 fault-some {a = a} {k = zero} s e h = absurd (h refl)
 fault-some {a = a} {k = suc k} s e h = let z : s + suc k ≡ suc (s + k) = omega arith in z ∙ else-new (suc (s + k)) e
 
-pub colon-is : {a r : ℕ} (hit : Bool) (o : ℕ) → a ≡ 0 → r ≡ pick hit (o + 1) 0 → r ≡ orElse a (marked hit o)
-unfolding marked
+pub colon-is : {a r : ℕ} (hit : Bool) (o : ℕ) → a ≡ 0 → r ≡ pick hit (o + 1) 0 → r ≡ orElse a (placeIf hit o)
+unfolding placeIf
 colon-is true o e q = let z : o + 1 ≡ suc o = omega arith in q ∙ z ∙ else-new (suc o) e
 colon-is false o e q = q ∙ else-new 0 e
 
@@ -64,7 +64,7 @@ verdict-some number {p = zero} h = absurd (h refl)
 verdict-some number {p = suc p} h = let z : suc p - 1 ≡ p = omega arith in ap (Broken number) z
 
 -- a content's faults stand in it
-fault-within : (bad : Kind → Bool) {o e : ℕ} {vs : List Value} → Ordered o vs e → faultOf bad vs ≤ suc e
+fault-within : (bad : ValueKind → Bool) {o e : ℕ} {vs : List Value} → Ordered o vs e → faultOf bad vs ≤ suc e
 unfolding faultOf
 fault-within bad (none h) = omega arith
 fault-within bad {e = e} (next {v = v} {vs = vs} h r) = go (bad (kindOf v)) (fault-within bad r) (above r)
@@ -77,15 +77,15 @@ fault-within bad {e = e} (next {v = v} {vs = vs} h r) = go (bad (kindOf v)) (fau
     go true h k = omega arith
     go false h k = h
 
-pub faults-in : (bad : Kind → Bool) (t : List ℕ) (c : Content) (ls : List (List ℕ)) → faultOf bad (valuesOf t c ls) ≤ suc (length (joined ls))
+pub faults-in : (bad : ValueKind → Bool) (t : List ℕ) (c : Content) (ls : List (List ℕ)) → faultOf bad (valuesOf t c ls) ≤ suc (length (joined ls))
 faults-in bad t c ls = fault-within bad (values-order t c ls)
 
 -- ---- one field more
 pub made-marked : (f : Facts) (o : ℕ) (t : List ℕ) {b u g : ℕ} {w : Bool}
-    → b ≡ orElse (f .bank) (marked (among t tags56) o) → w ≡ (f .through || among t tags57)
-    → u ≡ orElse (f .purpose) (marked (same t (bytes "26T")) o) → g ≡ orElse (f .budget) (marked (same t (bytes "77B")) o)
-    → _≡_ {A = Facts} (record { day = f .day; currency = f .currency; bank = b; through = w; party = f .party; payer = f .payer; payee = f .payee; purpose = u; budget = g }) (markedBy f o t)
-unfolding markedBy
+    → b ≡ orElse (f .bank) (placeIf (among t tags56) o) → w ≡ (f .through || among t tags57)
+    → u ≡ orElse (f .purpose) (placeIf (same t (bytes "26T")) o) → g ≡ orElse (f .budget) (placeIf (same t (bytes "77B")) o)
+    → _≡_ {A = Facts} (record { day = f .day; currency = f .currency; bank = b; through = w; party = f .party; payer = f .payer; payee = f .payee; purpose = u; budget = g }) (withTag f o t)
+unfolding withTag
 made-marked f o t b w u g = rw (b, w, u, g)
 
 pub made-with : (f : Facts) (s : ℕ) (t : List ℕ) (x : Finds) {d m p : ℕ} {y e : Bool}
@@ -101,9 +101,9 @@ unfolding orElse
 else-none zero = refl
 else-none (suc a) = refl
 
-no-mark : (a o : ℕ) {b : Bool} → b ≡ false → a ≡ orElse a (marked b o)
-unfolding marked
-no-mark a o e = else-none a ∙ ap (λ (b : Bool). orElse a (marked b o)) (sym e)
+no-mark : (a o : ℕ) {b : Bool} → b ≡ false → a ≡ orElse a (placeIf b o)
+unfolding placeIf
+no-mark a o e = else-none a ∙ ap (λ (b : Bool). orElse a (placeIf b o)) (sym e)
 
 other : (n k : ℕ) → (n ≡ k → ⊥) → same (unpack n) (unpack k) ≡ false
 other n k h = same-unpack n k ∙ ne-eqb n k h
@@ -131,7 +131,7 @@ nothing-found f s t e = go ∙ ap (withFinds f s t) (sym e)
         (sym (ap (λ (b : Bool). f .payee || b) (and-false (same t (bytes "59"))) ∙ or-false (f .payee)))
 
 -- ---- the fields' facts, one by one: any place, and any test
-module _ (form : Form) (get : Facts → ℕ) (place : ℕ → Field → ℕ) (number : ℕ) (bad : Kind → Bool)
+module _ (form : Form) (get : Facts → ℕ) (place : ℕ → Field → ℕ) (number : ℕ) (bad : ValueKind → Bool)
     (turn : (f : Facts) (o : ℕ) (g : Field) → get (withField form f o g) ≡ orElse (get f) (place o g))
     (step : (o : ℕ) (g : Field) (gs : List Field) → firstBad number bad (valuesIn form o (g ∷ gs)) ≡ then (asVerdict number (place o g)) (firstBad number bad (valuesIn form (nextOf o g) gs))) where
   then-else : (a b : ℕ) (v : Verdict) → then (asVerdict number (orElse a b)) v ≡ then (asVerdict number a) (then (asVerdict number b) v)
@@ -148,7 +148,7 @@ module _ (form : Form) (get : Facts → ℕ) (place : ℕ → Field → ℕ) (nu
       ∙ then-else (get f) (place o g) (firstBad number bad (valuesIn form (nextOf o g) gs))
       ∙ ap (then (asVerdict number (get f))) (sym (step o g gs))
 
-module _ (form : Form) (get : Facts → Bool) (test : Field → Bool) (t : Kind → Bool)
+module _ (form : Form) (get : Facts → Bool) (test : Field → Bool) (t : ValueKind → Bool)
     (turn : (f : Facts) (o : ℕ) (g : Field) → get (withField form f o g) ≡ (get f || test g))
     (step : (o : ℕ) (g : Field) (gs : List Field) → has t (valuesIn form o (g ∷ gs)) ≡ (test g || has t (valuesIn form (nextOf o g) gs))) where
   pub test-from : (f : Facts) (o : ℕ) (gs : List Field) → get (factsFrom form f o gs) ≡ (get f || has t (valuesIn form o gs))
@@ -170,8 +170,8 @@ unfolding within
 by-fault number s zero = refl
 by-fault number s (suc k) = refl
 
-by-mark : (number : ℕ) (b : Bool) (o : ℕ) (v : Verdict) → pick b (Broken number o) v ≡ then (asVerdict number (marked b o)) v
-unfolding marked
+by-mark : (number : ℕ) (b : Bool) (o : ℕ) (v : Verdict) → pick b (Broken number o) v ≡ then (asVerdict number (placeIf b o)) v
+unfolding placeIf
 by-mark number true o v = refl
 by-mark number false o v = refl
 
@@ -183,14 +183,14 @@ module _ (form : Form) where
   abbrev verdictOn : (number : ℕ) → (Facts → ℕ) → List Field → Verdict
   verdictOn number get fs = asVerdict number (get (factsFrom form nothingYet 5 fs))
 
-  fault-step : (number : ℕ) (bad : Kind → Bool) → ((t : List ℕ) → bad (tag t) ≡ false) → (o : ℕ) (g : Field) (gs : List Field)
+  fault-step : (number : ℕ) (bad : ValueKind → Bool) → ((t : List ℕ) → bad (tag t) ≡ false) → (o : ℕ) (g : Field) (gs : List Field)
       → firstBad number bad (valuesIn form o (g ∷ gs)) ≡ then (asVerdict number (within (startOf o g) (faultOf bad (valuesFor form g)))) (firstBad number bad (valuesIn form (nextOf o g) gs))
   fault-step number bad h o (field t ls) gs =
       first-field form o t ls gs number bad h
       ∙ ap (λ (v : Verdict). then v (firstBad number bad (valuesIn form (nextOf o (field t ls)) gs))) (by-fault number (startOf o (field t ls)) (faultOf bad (valuesFor form (field t ls))))
 
   tag-step : (number : ℕ) (ts : List (List ℕ)) (o : ℕ) (g : Field) (gs : List Field)
-      → firstBad number (hasTag ts) (valuesIn form o (g ∷ gs)) ≡ then (asVerdict number (marked (among (tagOf g) ts) o)) (firstBad number (hasTag ts) (valuesIn form (nextOf o g) gs))
+      → firstBad number (hasTag ts) (valuesIn form o (g ∷ gs)) ≡ then (asVerdict number (placeIf (among (tagOf g) ts) o)) (firstBad number (hasTag ts) (valuesIn form (nextOf o g) gs))
   tag-step number ts o (field t ls) gs = first-tag form o t ls gs number ts ∙ by-mark number (among t ts) o (firstBad number (hasTag ts) (valuesIn form (nextOf o (field t ls)) gs))
 
   has-step : (ts : List (List ℕ)) (o : ℕ) (g : Field) (gs : List Field) → has (hasTag ts) (valuesIn form o (g ∷ gs)) ≡ (among (tagOf g) ts || has (hasTag ts) (valuesIn form (nextOf o g) gs))
@@ -202,44 +202,44 @@ module _ (form : Form) where
 
   module _ (fs : List Field) where
     day-verdict : verdictOn 9 (λ f. f .day) fs ≡ rule9 form fs
-    unfolding nothingYet withFinds markedBy rule9
+    unfolding nothingYet withFinds withTag rule9
     day-verdict = place-from form (λ f. f .day) (λ o g. within (startOf o g) (faultOf noDay (valuesFor form g))) 9 noDay (λ f o g. refl) (fault-step 9 noDay (λ t. refl)) nothingYet 5 fs
 
     currency-verdict : verdictOn 10 (λ f. f .currency) fs ≡ rule10 form fs
-    unfolding nothingYet withFinds markedBy rule10
+    unfolding nothingYet withFinds withTag rule10
     currency-verdict = place-from form (λ f. f .currency) (λ o g. within (startOf o g) (faultOf foreign (valuesFor form g))) 10 foreign (λ f o g. refl) (fault-step 10 foreign (λ t. refl)) nothingYet 5 fs
 
     party-verdict : verdictOn 12 (λ f. f .party) fs ≡ rule12 form fs
-    unfolding nothingYet withFinds markedBy rule12
+    unfolding nothingYet withFinds withTag rule12
     party-verdict = place-from form (λ f. f .party) (λ o g. within (startOf o g) (faultOf bikDiffers (valuesFor form g))) 12 bikDiffers (λ f o g. refl) (fault-step 12 bikDiffers (λ t. refl)) nothingYet 5 fs
 
     bank-verdict : verdictOn 11 (λ f. f .bank) fs ≡ firstBad 11 is56 (valuesIn form 5 fs)
-    unfolding nothingYet withFinds markedBy
-    bank-verdict = place-from form (λ f. f .bank) (λ o g. marked (among (tagOf g) tags56) o) 11 is56 (λ f o g. refl) (tag-step 11 tags56) nothingYet 5 fs
+    unfolding nothingYet withFinds withTag
+    bank-verdict = place-from form (λ f. f .bank) (λ o g. placeIf (among (tagOf g) tags56) o) 11 is56 (λ f o g. refl) (tag-step 11 tags56) nothingYet 5 fs
 
     purpose-verdict : verdictOn 13 (λ f. f .purpose) fs ≡ firstBad 13 is26T (valuesIn form 5 fs)
-    unfolding nothingYet withFinds markedBy
+    unfolding nothingYet withFinds withTag
     purpose-verdict =
-        place-from form (λ f. f .purpose) (λ o g. marked (among (tagOf g) (bytes "26T" ∷ [])) o) 13 is26T
-        (λ f o g. ap (λ (b : Bool). orElse (f .purpose) (marked b o)) (one-tag (tagOf g) (bytes "26T"))) (tag-step 13 (bytes "26T" ∷ [])) nothingYet 5 fs
+        place-from form (λ f. f .purpose) (λ o g. placeIf (among (tagOf g) (bytes "26T" ∷ [])) o) 13 is26T
+        (λ f o g. ap (λ (b : Bool). orElse (f .purpose) (placeIf b o)) (one-tag (tagOf g) (bytes "26T"))) (tag-step 13 (bytes "26T" ∷ [])) nothingYet 5 fs
 
     budget-verdict : verdictOn 13 (λ f. f .budget) fs ≡ firstBad 13 is77B (valuesIn form 5 fs)
-    unfolding nothingYet withFinds markedBy
+    unfolding nothingYet withFinds withTag
     budget-verdict =
-        place-from form (λ f. f .budget) (λ o g. marked (among (tagOf g) (bytes "77B" ∷ [])) o) 13 is77B
-        (λ f o g. ap (λ (b : Bool). orElse (f .budget) (marked b o)) (one-tag (tagOf g) (bytes "77B"))) (tag-step 13 (bytes "77B" ∷ [])) nothingYet 5 fs
+        place-from form (λ f. f .budget) (λ o g. placeIf (among (tagOf g) (bytes "77B" ∷ [])) o) 13 is77B
+        (λ f o g. ap (λ (b : Bool). orElse (f .budget) (placeIf b o)) (one-tag (tagOf g) (bytes "77B"))) (tag-step 13 (bytes "77B" ∷ [])) nothingYet 5 fs
 
     through-is : factsFrom form nothingYet 5 fs .through ≡ has is57 (valuesIn form 5 fs)
-    unfolding nothingYet withFinds markedBy
+    unfolding nothingYet withFinds withTag
     through-is = test-from form (λ f. f .through) (λ g. among (tagOf g) tags57) is57 (λ f o g. refl) (has-step tags57) nothingYet 5 fs
 
     payer-is : factsFrom form nothingYet 5 fs .payer ≡ has (kppIn (bytes "50K")) (valuesIn form 5 fs)
-    unfolding nothingYet withFinds markedBy
+    unfolding nothingYet withFinds withTag
     payer-is =
         test-from form (λ f. f .payer) (λ g. kppAt (has hasKpp (valuesFor form g)) (tagOf g) (bytes "50K")) (kppIn (bytes "50K")) (λ f o g. refl) (kpp-step (bytes "50K")) nothingYet 5 fs
 
     payee-is : factsFrom form nothingYet 5 fs .payee ≡ has (kppIn (bytes "59")) (valuesIn form 5 fs)
-    unfolding nothingYet withFinds markedBy
+    unfolding nothingYet withFinds withTag
     payee-is =
         test-from form (λ f. f .payee) (λ g. kppAt (has hasKpp (valuesFor form g)) (tagOf g) (bytes "59")) (kppIn (bytes "59")) (λ f o g. refl) (kpp-step (bytes "59")) nothingYet 5 fs
 
@@ -248,7 +248,7 @@ data Marks (number : ℕ) : Bool → Verdict → Type 0 where
   none-there : Marks number false Fine
   one-there : (p : ℕ) → Marks number true (Broken number p)
 
-marks : (number : ℕ) (t : Kind → Bool) (vs : List Value) → Marks number (has t vs) (firstBad number t vs)
+marks : (number : ℕ) (t : ValueKind → Bool) (vs : List Value) → Marks number (has t vs) (firstBad number t vs)
 unfolding firstBad
 marks number t [] = none-there
 marks number t (v ∷ vs) = go (t (kindOf v)) (marks number t vs)

@@ -28,7 +28,7 @@ use Rattle.contents.specs.Tests as tests
 use Rattle.contents.specs.Rule8.{firstWrong, rightField}
 use Rattle.contents.proofs.FieldTests.{right-says}
 use Rattle.values.specs.declared.Finds.{Finds}
-use Rattle.values.specs.Values.{Kind, Value, valuesOf}
+use Rattle.values.specs.Values.{ValueKind, Value, valuesOf}
 use Rattle.values.specs.Judged.{has, noDay, foreign, bikDiffers, hasKpp}
 use Rattle.values.specs.Answers.{faultOf, nothing, Finding, FoundIn}
 use Rattle.values.specs.declared.Found.{Found}
@@ -43,7 +43,7 @@ use Rattle.roles.proofs.BackTableLaws.{field-found, spoken-next}
 use Rattle.judge.specs.declared.parts.Part.{Part}
 use Rattle.judge.specs.declared.facts.Facts.{Facts}
 use Rattle.judge.specs.Parts.{Settled, Here}
-use Rattle.judge.specs.Facts.{markedBy, withFinds, valuesFor, findsIn, withField, factsFrom}
+use Rattle.judge.specs.Facts.{withTag, withFinds, valuesFor, findsIn, withField, factsFrom}
 use Rattle.judge.proofs.FactLaws.{faults-in}
 use Rattle.judge.proofs.PartLaws.{fieldOf, at-field, next-field}
 
@@ -98,7 +98,7 @@ module _ {m spots : List ℕ} {k : ℕ} {p : Part} (h : Here m spots k p) where
             e ∙ ap (λ (vs : List Value). finds (faultOf noDay vs) (faultOf foreign vs) (faultOf bikDiffers vs) (has hasKpp vs)) values-are
 
         -- they stand in the message
-        inside : (bad : Kind → Bool) → p .start + faultOf bad (valuesFor form (fieldOf h)) ≤ length m + 1
+        inside : (bad : ValueKind → Bool) → p .start + faultOf bad (valuesFor form (fieldOf h)) ≤ length m + 1
         inside bad =
             omega (arith, faults-in bad (h .tag) (heldBy form (h .tag)) (h .line ∷ h .more), ap length (h .content-is), length-take (p .end - p .start) (drop (p .start) m), h .low, h .high)
 
@@ -148,10 +148,10 @@ place-small {m} {spots} s form k n q h e =
 
 -- ---- 9 to 13: one field more
 pub field-on : {m spots : List ℕ} {k : ℕ} {p : Part} (h : Here m spots k p) (form : Form) (f : Facts) {e g : Facts} {x : Finds} → x ≡ findsIn form (fieldOf h)
-    → e ≡ markedBy f (p .colon) (unpack (p .tag)) → g ≡ withFinds e (p .start) (unpack (p .tag)) x
+    → e ≡ withTag f (p .colon) (unpack (p .tag)) → g ≡ withFinds e (p .start) (unpack (p .tag)) x
     → factsFrom form f (byte spots k) (drop k (fields m)) ≡ factsFrom form g (byte spots (k + 1)) (drop (k + 1) (fields m))
 unfolding factsFrom
 field-on {m} {spots} {k} {p} h form f {e} {g} {x} i a b =
     let same : withField form f (p .colon) (fieldOf h) ≡ g =
-    sym (b ∙ ap (λ (y : Facts). withFinds y (p .start) (unpack (p .tag)) x) a ∙ ap₂ (λ (t : List ℕ) (s : ℕ). withFinds (markedBy f (p .colon) t) s t x) (h .tag-is) (h .start-is) ∙ ap (withFinds (markedBy f (p .colon) (h .tag)) (startOf (p .colon) (fieldOf h)) (h .tag)) i) in
+    sym (b ∙ ap (λ (y : Facts). withFinds y (p .start) (unpack (p .tag)) x) a ∙ ap₂ (λ (t : List ℕ) (s : ℕ). withFinds (withTag f (p .colon) t) s t x) (h .tag-is) (h .start-is) ∙ ap (withFinds (withTag f (p .colon) (h .tag)) (startOf (p .colon) (fieldOf h)) (h .tag)) i) in
     at-field h (factsFrom form f) ∙ ap (λ (y : Facts). factsFrom form y (nextOf (p .colon) (fieldOf h)) (drop (k + 1) (fields m))) same ∙ next-field h (factsFrom form g)

@@ -18,12 +18,12 @@ use Rattle.fields.proofs.FieldLaws.{fields-lineable, fields-dash}
 use Rattle.fields.proofs.PlaceLaws.{size-append}
 use Rattle.types.specs.declared.Form.{Form}
 use Rattle.types.specs.Sign.{signOf}
-use Rattle.types.specs.Sentences.{after}
+use Rattle.types.specs.Sentences.{endOfFields}
 use Rattle.frame.specs.Frame.{refusal}
 use Rattle.frame.proofs.CallLaws.{Taken, taken}
 use Rattle.frame.proofs.SmallLaws.{Small, refusal-small}
 use Rattle.contents.specs.Rule8.{firstWrong, rightField, rule8}
-use Rattle.values.specs.Values.{Kind, Value, kindOf, placeOf, valuesIn}
+use Rattle.values.specs.Values.{ValueKind, Value, kindOf, placeOf, valuesIn}
 use Rattle.values.specs.Judged.{firstBad, rule9, rule10, rule11, rule12, rule13}
 use Rattle.values.proofs.JudgedLaws.{Ordered, none, next}
 use Rattle.values.proofs.ValueLaws.{in-order}
@@ -53,7 +53,7 @@ ordered-through : {o e : ℕ} {vs : List Value} → Ordered o vs e → o ≤ e
 ordered-through (none h) = h
 ordered-through (next h r) = omega (arith, ordered-through r)
 
-bad-small : (number : ℕ) (bad : Kind → Bool) → number ≤ lastNumber → {o e : ℕ} {vs : List Value} → Ordered o vs e → Small e (firstBad number bad vs)
+bad-small : (number : ℕ) (bad : ValueKind → Bool) → number ≤ lastNumber → {o e : ℕ} {vs : List Value} → Ordered o vs e → Small e (firstBad number bad vs)
 unfolding firstBad
 bad-small number bad k (none h) = tt
 bad-small number bad k {e = e} (next {v = v} {vs = vs} h r) = go (bad (kindOf v)) (bad-small number bad k r)
@@ -62,7 +62,7 @@ bad-small number bad k {e = e} (next {v = v} {vs = vs} h r) = go (bad (kindOf v)
     go true s = (k, ordered-through r)
     go false s = s
 
-after-size : (o : ℕ) (fs : List Field) → after o fs ≡ o + linesSize (linesOf fs)
+after-size : (o : ℕ) (fs : List Field) → endOfFields o fs ≡ o + linesSize (linesOf fs)
 after-size o [] = omega arith
 after-size o (f ∷ fs) = let s = size-append (lined f) (linesOf fs) in omega (arith, after-size (nextOf o f) fs)
 
@@ -89,9 +89,9 @@ content-small form m t =
     let d : 5 + linesSize (linesOf fs) ≡ length m - 2 = fields-dash m (t .frame-fine) (t .bytes-fine) (t .lines-fine) in
     let w = t .within in
     let g = t .long in
-    let e : after 5 fs ≤ limit = omega (arith, after-size 5 fs) in
-    let value : (number : ℕ) (bad : Kind → Bool) → number ≤ lastNumber → Small limit (firstBad number bad (valuesIn form 5 fs)) =
-    λ number bad k. widened (after 5 fs) limit (firstBad number bad (valuesIn form 5 fs)) e (bad-small number bad k (in-order form 5 fs)) in
+    let e : endOfFields 5 fs ≤ limit = omega (arith, after-size 5 fs) in
+    let value : (number : ℕ) (bad : ValueKind → Bool) → number ≤ lastNumber → Small limit (firstBad number bad (valuesIn form 5 fs)) =
+    λ number bad k. widened (endOfFields 5 fs) limit (firstBad number bad (valuesIn form 5 fs)) e (bad-small number bad k (in-order form 5 fs)) in
     content-holds (Small limit) form m tt (record {
       contents = wrong-small limit (rightField form (signOf fs)) 5 fs (fields-lineable m (t .lines-fine)) (omega arith);
       days = value 9 _ (omega arith);

@@ -36,8 +36,8 @@ within s zero = zero
 within s (suc k) = suc (s + k)
 
 -- a field's own place, where a test holds of it
-unfoldable pub marked : Bool → ℕ → ℕ
-marked b o = pick b (suc o) 0
+unfoldable pub placeIf : Bool → ℕ → ℕ
+placeIf b o = pick b (suc o) 0
 
 -- a KPP, in a field with the tag that is wanted
 abbrev pub kppAt : Bool → List ℕ → List ℕ → Bool
@@ -54,18 +54,18 @@ nothingYet =
     record { day = 0; currency = 0; bank = 0; through = false; party = 0; payer = false; payee = false; purpose = 0; budget = 0 }
 
 -- a field with that tag, its colon at o
-unfoldable pub markedBy : Facts → ℕ → List ℕ → Facts
-markedBy f o t =
+unfoldable pub withTag : Facts → ℕ → List ℕ → Facts
+withTag f o t =
     record {
       day = f .day;
       currency = f .currency;
-      bank = orElse (f .bank) (marked (among t tags56) o);
+      bank = orElse (f .bank) (placeIf (among t tags56) o);
       through = f .through || among t tags57;
       party = f .party;
       payer = f .payer;
       payee = f .payee;
-      purpose = orElse (f .purpose) (marked (same t (bytes "26T")) o);
-      budget = orElse (f .budget) (marked (same t (bytes "77B")) o);
+      purpose = orElse (f .purpose) (placeIf (same t (bytes "26T")) o);
+      budget = orElse (f .budget) (placeIf (same t (bytes "77B")) o);
     }
 
 -- what is found in its content, which starts at s
@@ -85,7 +85,7 @@ withFinds f s t x =
 
 -- nothing is marked of a field with that tag
 abbrev pub Unmarked : List ℕ → Type 0
-Unmarked t = (f : Facts) (o : ℕ) → f ≡ markedBy f o t
+Unmarked t = (f : Facts) (o : ℕ) → f ≡ withTag f o t
 
 abbrev pub valuesFor : Form → Field → List Value
 valuesFor form (field t ls) = valuesOf t (heldBy form t) ls
@@ -94,7 +94,7 @@ abbrev pub findsIn : Form → Field → Finds
 findsIn form g = finds (faultOf noDay (valuesFor form g)) (faultOf foreign (valuesFor form g)) (faultOf bikDiffers (valuesFor form g)) (has hasKpp (valuesFor form g))
 
 abbrev pub withField : Form → Facts → ℕ → Field → Facts
-withField form f o g = withFinds (markedBy f o (tagOf g)) (startOf o g) (tagOf g) (findsIn form g)
+withField form f o g = withFinds (withTag f o (tagOf g)) (startOf o g) (tagOf g) (findsIn form g)
 
 unfoldable pub factsFrom : Form → Facts → ℕ → List Field → Facts
 factsFrom form f o [] = f

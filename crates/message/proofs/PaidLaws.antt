@@ -37,7 +37,7 @@ use Rattle.contents.specs.Tags.{tags103, tags202, heldBy}
 use Rattle.contents.specs.Rule8.{rightField}
 use Rattle.contents.proofs.RuleLaws.{field-says}
 use Rattle.values.specs.Values as values
-use Rattle.values.specs.Values.{Kind, tag, valuesOf, valuesIn}
+use Rattle.values.specs.Values.{ValueKind, tag, valuesOf, valuesIn}
 use Rattle.values.specs.Judged.{firstBad, noDay, foreign}
 use Rattle.values.specs.Answers.{dateOf, kopecksOf, faultOf, answered}
 use Rattle.values.specs.Day as days
@@ -106,7 +106,7 @@ no-fault number s zero e = refl
 no-fault number s (suc k) e = absurd (fine-broken number (s + k) (sym e))
 
 -- a rule that no value of a field's breaks, and none of those behind it
-rest-fine : (number : ℕ) (bad : Kind → Bool) → ((t : List ℕ) → bad (tag t) ≡ false) → (form : Form) (o : ℕ) (t : List ℕ) (ls : List (List ℕ)) (fs : List Field)
+rest-fine : (number : ℕ) (bad : ValueKind → Bool) → ((t : List ℕ) → bad (tag t) ≡ false) → (form : Form) (o : ℕ) (t : List ℕ) (ls : List (List ℕ)) (fs : List Field)
     → firstBad number bad (valuesIn form o (field t ls ∷ fs)) ≡ Fine → (faultOf bad (valuesOf t (heldBy form t) ls) ≡ 0) × (firstBad number bad (valuesIn form (nextOf o (field t ls)) fs) ≡ Fine)
 rest-fine number bad h form o t ls fs e =
     let k : ℕ = faultOf bad (valuesOf t (heldBy form t) ls) in

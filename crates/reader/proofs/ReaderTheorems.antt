@@ -16,7 +16,7 @@ use Rattle.fields.specs.Places.{listed}
 use Rattle.types.specs.declared.Form.{Form}
 use Rattle.types.specs.Form.{formOf, Place, placesOf, places103, places202}
 use Rattle.types.specs.Walk.{isOptional}
-use Rattle.types.specs.Sentences.{placeAt, placeOfField, Present, Sound}
+use Rattle.types.specs.Sentences.{placeAt, placeOfField, Present, SoundWalk}
 use Rattle.types.proofs.WordLaws.{placed}
 use Rattle.types.proofs.TableLaws.{few-places, each-form, no-places}
 use Rattle.frame.proofs.CallLaws.{taken}
@@ -57,7 +57,7 @@ opens form = each-form Opens (λ h. absurd (omega arith)) (λ h. refl) (λ h. re
 
 -- ---- an accepted message
 module _ (form : Form) (m : List ℕ) (e : verdictOf form m ≡ Fine) where
-  sound : Sound (placesOf form) (fields m)
+  sound : SoundWalk (placesOf form) (fields m)
   sound = taken form m (frame-clean form m e) .sound
 
   abbrev place : ℕ → ℕ

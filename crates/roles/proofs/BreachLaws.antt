@@ -25,7 +25,7 @@ use Rattle.roles.specs.Speech.{Manner, asName, asTaxName, asDetails, Spe
 use Rattle.types.specs.declared.Form.{Form}
 use Rattle.types.specs.Sign.{signOf}
 use Rattle.roles.specs.Rule14.{texts, mute, hidden, taxLike, clauses, breaks14, unheard, speechesOf, rule14}
-use Rattle.roles.specs.Sentences.{Breach, unreadable, wordless, nameHides, taxHides, likeTax, Heard, FirstBreach, Within, NoneBefore}
+use Rattle.roles.specs.Sentences.{Breach, unreadable, wordless, nameHides, taxHides, likeTax, Heard, FirstBreach, Rising, NoneBefore}
 use Rattle.roles.specs.declared.Shape.{Shape}
 use Rattle.roles.specs.declared.Shape.the-variants.{Plain, Payer, Payee, Agent, Details, Note103, Note202}
 
@@ -128,11 +128,11 @@ pub unheard-number : (xs : List Speech) (n p : ℕ) → unheard xs ≡ Broken n 
 unheard-number xs n p e = broken-first xs n p e .0
 
 -- ---- the least place: where the places do not fall, no text that breaks a clause stands before the first in the list
-pub later : (xs : List Speech) (a p e : ℕ) → p ≤ a → Within a e xs → NoneBefore p xs
+pub later : (xs : List Speech) (a p e : ℕ) → p ≤ a → Rising a e xs → NoneBefore p xs
 later [] a p e h w = tt
 later (speech m q b ∷ xs) a p e h w = (λ z. omega (arith, w .0), later xs q p e (omega (arith, w .0)) (w .1))
 
-pub least : (xs : List Speech) (a e n p : ℕ) → Within a e xs → unheard xs ≡ Broken n p → NoneBefore p xs
+pub least : (xs : List Speech) (a e n p : ℕ) → Rising a e xs → unheard xs ≡ Broken n p → NoneBefore p xs
 unfolding unheard
 least [] a e n p w u = tt
 least (speech m q b ∷ xs) a e n p w u = go (breaks14 m b) refl u (least xs q e n p (w .1))
@@ -141,12 +141,12 @@ least (speech m q b ∷ xs) a e n p w u = go (breaks14 m b) refl u (least xs q e
     go true h u r = let g : q ≡ p = cc in (λ z. omega arith, later xs q p e (omega arith) (w .1))
     go false h u r = (λ z. absurd (false≢true (sym h ∙ z)), r u)
 
-within-through : (xs : List Speech) (a e : ℕ) → Within a e xs → a ≤ e
+within-through : (xs : List Speech) (a e : ℕ) → Rising a e xs → a ≤ e
 within-through [] a e w = w
 within-through (speech m q b ∷ xs) a e w = omega (arith, w .0, within-through xs q e (w .1))
 
 -- and the first that breaks one does not stand behind the last place
-pub unheard-within : (xs : List Speech) (a e n p : ℕ) → Within a e xs → unheard xs ≡ Broken n p → p ≤ e
+pub unheard-within : (xs : List Speech) (a e n p : ℕ) → Rising a e xs → unheard xs ≡ Broken n p → p ≤ e
 unfolding unheard
 unheard-within [] a e n p w u = absurd (fine-broken n p u)
 unheard-within (speech m q b ∷ xs) a e n p w u = go (breaks14 m b) u (unheard-within xs q e n p (w .1))
@@ -155,25 +155,25 @@ unheard-within (speech m q b ∷ xs) a e n p w u = go (breaks14 m b) u (unheard-
     go true u r = let g : q ≡ p = cc in omega (arith, within-through xs q e (w .1))
     go false u r = r u
 
-pub within-end : (xs : List Speech) (a e f : ℕ) → Within a e xs → e ≤ f → Within a f xs
+pub within-end : (xs : List Speech) (a e f : ℕ) → Rising a e xs → e ≤ f → Rising a f xs
 within-end [] a e f w h = omega arith
 within-end (speech m q b ∷ xs) a e f w h = (w .0, within-end xs q e f (w .1) h)
 
-pub within-start : (xs : List Speech) (c a e : ℕ) → c ≤ a → Within a e xs → Within c e xs
+pub within-start : (xs : List Speech) (c a e : ℕ) → c ≤ a → Rising a e xs → Rising c e xs
 within-start [] c a e h w = omega arith
 within-start (speech m q b ∷ xs) c a e h w = (omega (arith, w .0), w .1)
 
-pub within-append : (xs ys : List Speech) (a e f : ℕ) → Within a e xs → Within e f ys → Within a f (xs ++ ys)
+pub within-append : (xs ys : List Speech) (a e f : ℕ) → Rising a e xs → Rising e f ys → Rising a f (xs ++ ys)
 within-append [] ys a e f w v = within-start ys a e f w v
 within-append (speech m q b ∷ xs) ys a e f w v = (w .0, within-append xs ys q e f (w .1) v)
 
 -- ---- the texts of a message stand in order: those of a field before the next field's content
-said-within : (o : ℕ) (p : Part) → Within o (o + length (lineOf p) + 2) (saidAt o p)
+said-within : (o : ℕ) (p : Part) → Rising o (o + length (lineOf p) + 2) (saidAt o p)
 said-within o (copy p) = omega arith
 said-within o (name p) = (omega arith, omega arith)
 said-within o (taxName p) = (omega arith, omega arith)
 
-names-within : (o : ℕ) (ps : List Part) → Within o (o + linesSize (map lineOf ps)) (nameSpeeches o ps)
+names-within : (o : ℕ) (ps : List Part) → Rising o (o + linesSize (map lineOf ps)) (nameSpeeches o ps)
 unfolding nameSpeeches
 names-within o [] = omega arith
 names-within o (p ∷ ps) =
@@ -218,10 +218,10 @@ same-lines Details ls = same-copies ls
 same-lines Note103 ls = same-copies ls
 same-lines Note202 ls = same-copies ls
 
-cast-within : (s : Shape) (o : ℕ) (ls : List (List ℕ)) → Within o (o + linesSize ls + 2) (nameSpeeches o (cast s ls))
+cast-within : (s : Shape) (o : ℕ) (ls : List (List ℕ)) → Rising o (o + linesSize ls + 2) (nameSpeeches o (cast s ls))
 cast-within s o ls = within-end (nameSpeeches o (cast s ls)) o (o + linesSize ls) (o + linesSize ls + 2) (rw (same-lines s ls) at (names-within o (cast s ls))) (omega arith)
 
-details-within : (front mark o : ℕ) (ls : List (List ℕ)) → mark ≤ 2 → Within o (o + linesSize ls + 2) (detailsSpeech front mark o ls)
+details-within : (front mark o : ℕ) (ls : List (List ℕ)) → mark ≤ 2 → Rising o (o + linesSize ls + 2) (detailsSpeech front mark o ls)
 unfolding detailsSpeech
 details-within front mark o [] h = omega arith
 details-within front mark o (l ∷ ls) h = go (ltb front (length l)) refl
@@ -230,7 +230,7 @@ details-within front mark o (l ∷ ls) h = go (ltb front (length l)) refl
     go true e = let g = ltb-true front (length l) e in (omega arith, omega arith)
     go false e = (omega arith, omega arith)
 
-pub speeches-within : (s : Bool) (shape : Shape) (o : ℕ) (ls : List (List ℕ)) → Within o (o + linesSize ls + 2) (speeches s shape o ls)
+pub speeches-within : (s : Bool) (shape : Shape) (o : ℕ) (ls : List (List ℕ)) → Rising o (o + linesSize ls + 2) (speeches s shape o ls)
 unfolding speeches noteSpeeches
 speeches-within s Plain o ls = omega arith
 speeches-within s Payer o ls = cast-within Payer o ls
@@ -241,7 +241,7 @@ speeches-within s Note103 o ls = omega arith
 speeches-within s Note202 o [] = omega arith
 speeches-within s Note202 o (l ∷ ls) = go (opensRpp l)
   where
-    go : (q : Bool) → Within o (o + linesSize (l ∷ ls) + 2) (pick q (detailsSpeech (5 + codeSize s) 2 (o + length l + 2) ls) (detailsSpeech (5 + codeSize s) 2 o (l ∷ ls)))
+    go : (q : Bool) → Rising o (o + linesSize (l ∷ ls) + 2) (pick q (detailsSpeech (5 + codeSize s) 2 (o + length l + 2) ls) (detailsSpeech (5 + codeSize s) 2 o (l ∷ ls)))
     go true =
         within-start (detailsSpeech (5 + codeSize s) 2 (o + length l + 2) ls) o (o + length l + 2) (o + linesSize (l ∷ ls) + 2) (omega arith)
         (within-end (detailsSpeech (5 + codeSize s) 2 (o + length l + 2) ls) (o + length l + 2) (o + length l + 2 + linesSize ls + 2) (o + linesSize (l ∷ ls) + 2) (details-within (5 + codeSize s) 2 (o + length l + 2) ls (omega arith)) (omega arith))
@@ -257,7 +257,7 @@ speeches-none s Details o = refl
 speeches-none s Note103 o = refl
 speeches-none s Note202 o = refl
 
-field-within : (form : Form) (o : ℕ) (f : Field) → Within (o + 2) (nextOf o f + 2) (texts form o f)
+field-within : (form : Form) (o : ℕ) (f : Field) → Rising (o + 2) (nextOf o f + 2) (texts form o f)
 field-within form o (field t []) = rw (speeches-none true (shapeOf form t) (o + 2 + length t)) (omega arith)
 field-within form o (field t (l ∷ ls)) =
     let start : ℕ = o + 2 + length t in
@@ -266,7 +266,7 @@ field-within form o (field t (l ∷ ls)) =
     within-start xs (o + 2) start (nextOf o (field t (l ∷ ls)) + 2) (omega arith)
     (within-end xs start (start + linesSize (l ∷ ls) + 2) (nextOf o (field t (l ∷ ls)) + 2) (speeches-within true (shapeOf form t) start (l ∷ ls)) (omega arith))
 
-pub spoken-within : (form : Form) (o : ℕ) (fs : List Field) → Within (o + 2) (o + linesSize (linesOf fs) + 2) (speechesOf form o fs)
+pub spoken-within : (form : Form) (o : ℕ) (fs : List Field) → Rising (o + 2) (o + linesSize (linesOf fs) + 2) (speechesOf form o fs)
 unfolding speechesOf
 spoken-within form o [] = omega arith
 spoken-within form o (f ∷ fs) =

@@ -35,9 +35,9 @@ pub record FirstBreach (xs : List Speech) (p : ℕ) : Type 0 where
   pub breach : Breach manner text
 
 -- the places do not fall, from a to e
-abbrev pub Within : ℕ → ℕ → List Speech → Type 0
-Within a e [] = a ≤ e
-Within a e (speech m p b ∷ xs) = (a ≤ p) × Within p e xs
+abbrev pub Rising : ℕ → ℕ → List Speech → Type 0
+Rising a e [] = a ≤ e
+Rising a e (speech m p b ∷ xs) = (a ≤ p) × Rising p e xs
 
 -- every text that breaks it stands at p or later
 abbrev pub NoneBefore : ℕ → List Speech → Type 0

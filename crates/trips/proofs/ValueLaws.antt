@@ -24,7 +24,7 @@ use Rattle.contents.specs.Tags.{Tag, tag as tagged, tags103, tags202, heldIn, h
 use Rattle.contents.specs.Tests.{looksTax}
 use Rattle.contents.specs.Parts.{taxInn, taxKpp}
 use Rattle.contents.proofs.RuleLaws.{field-says}
-use Rattle.values.specs.Values.{Kind, tag, tax, Value, at, placeOf, kindOf, moved, rppDates, ofFirst, taxes, customerTaxes, payerTaxes, noteDates, valuesOf, valuesIn}
+use Rattle.values.specs.Values.{ValueKind, tag, tax, Value, at, placeOf, kindOf, moved, rppDates, ofFirst, taxes, customerTaxes, payerTaxes, noteDates, valuesOf, valuesIn}
 use Rattle.values.specs.Judged.{firstBad, has, noDay, foreign, bikDiffers, kppIn, is26T, is56, is57, is77B, without57, taxWhole, taxBroken, rule9, rule10, rule11, rule12, rule13}
 use Rattle.roles.specs.Role.{shapeFor, shapeOf, copy, name, taxName, taxed, cast}
 use Rattle.roles.specs.Speech.{codeSize}
@@ -75,7 +75,7 @@ details-70 Mt202 t e =
 details-70 Other t e = absurd (false≢true (ap isDetails e))
 
 -- ---- the tax line: wherever its place begins
-abbrev taxKinds : List ℕ → List (List ℕ) → List Kind
+abbrev taxKinds : List ℕ → List (List ℕ) → List ValueKind
 taxKinds t [] = []
 taxKinds t (l ∷ ls) = pick (looksTax l) (tax t (taxInn l) (taxKpp l) ∷ []) []
 
@@ -90,7 +90,7 @@ tax-kinds t n (l ∷ ls) = go (looksTax l)
 
 -- the lines written again: the tax line is copied, and a name there is none
 module _ (s : Bool) (t : List ℕ) where
-  abbrev kinds : (List ℕ → List (List ℕ) → List Value) → List (List ℕ) → List Kind
+  abbrev kinds : (List ℕ → List (List ℕ) → List Value) → List (List ℕ) → List ValueKind
   kinds f ls = map kindOf (f t ls)
 
   one-tax : (b : Bool) (p : List ℕ) (ks ls : List (List ℕ)) → looksTax p ≡ b → KeptPart s (pick b (copy p) (taxName p))
@@ -201,7 +201,7 @@ module _ (form : Form) (s : Bool) (t : List ℕ) (ls : List (List ℕ)) (h : Hel
   plain-values : (c : Content) → shapeOf form t ≡ Plain → Again c
   plain-values c e = ap (λ (k : List (List ℕ)). map kindOf (valuesOf t c k)) (by-line Plain e plain ∙ copied s ls)
 
-  payee-values : (f : List (List ℕ) → List Kind) → shapeOf form t ≡ Payee → ((ks : List (List ℕ)) → f ks ≡ map kindOf (customerTaxes t ks)) → f (linesAgain form s t ls) ≡ f ls
+  payee-values : (f : List (List ℕ) → List ValueKind) → shapeOf form t ≡ Payee → ((ks : List (List ℕ)) → f ks ≡ map kindOf (customerTaxes t ks)) → f (linesAgain form s t ls) ≡ f ls
   payee-values f e i = ap f (by-line Payee e payee) ∙ i (map (lineAgain s) (cast Payee ls)) ∙ payee-again s t ls (each-kept Payee e payee) ∙ sym (i ls)
 
   note-values : RppAndDetails s ls → crowded s Note202 (contentParts s Note202 ls) ≡ false → ofFirst noteDates (contentLines s Note202 (contentParts s Note202 ls)) ≡ ofFirst noteDates ls
@@ -239,7 +239,7 @@ ReadyField form s (field t ls) = Ready s (shapeOf form t) (contentParts s (shape
 
 kinds-append : (n : ℕ) (vs ws : List Value) → map kindOf (map (moved n) vs ++ ws) ≡ map kindOf vs ++ map kindOf ws
 kinds-append n [] ws = refl
-kinds-append n (at p k ∷ vs) ws = ap (λ (ks : List Kind). k ∷ ks) (kinds-append n vs ws)
+kinds-append n (at p k ∷ vs) ws = ap (λ (ks : List ValueKind). k ∷ ks) (kinds-append n vs ws)
 
 -- wherever the fields begin
 pub kinds-again : (form : Form) (s : Bool) (o p : ℕ) (fs : List Field) → AllHold (HeldField form s) fs → AllHold (ReadyField form s) fs
@@ -250,21 +250,21 @@ kinds-again form s o p (field t ls ∷ fs) h w =
     let ks : List (List ℕ) = linesAgain form s t ls in
     let vs : List Value = valuesIn form (nextOf o g) (map (fieldAgain form s) fs) in
     let ws : List Value = valuesIn form (nextOf p (field t ls)) fs in
-    ap (λ (k : List Kind). tag t ∷ k)
-    (kinds-append (startOf o g) (valuesOf t (heldBy form t) ks) vs ∙ ap₂ (λ (x y : List Kind). x ++ y) (values-again form s t ls (h .0) (w .0)) (kinds-again form s (nextOf o g) (nextOf p (field t ls)) fs (h .1) (w .1))
+    ap (λ (k : List ValueKind). tag t ∷ k)
+    (kinds-append (startOf o g) (valuesOf t (heldBy form t) ks) vs ∙ ap₂ (λ (x y : List ValueKind). x ++ y) (values-again form s t ls (h .0) (w .0)) (kinds-again form s (nextOf o g) (nextOf p (field t ls)) fs (h .1) (w .1))
     ∙ sym (kinds-append (startOf p (field t ls)) (valuesOf t (heldBy form t) ls) ws))
 
 -- ---- 9 to 13 are tests of the values alone, not of their places
-has-same : (t : Kind → Bool) (vs ws : List Value) → map kindOf vs ≡ map kindOf ws → has t vs ≡ has t ws
+has-same : (t : ValueKind → Bool) (vs ws : List Value) → map kindOf vs ≡ map kindOf ws → has t vs ≡ has t ws
 has-same t [] [] e = refl
 has-same t [] (w ∷ ws) e = absurd (true≢false (ap empty e))
 has-same t (v ∷ vs) [] e = absurd (false≢true (ap empty e))
 has-same t (v ∷ vs) (w ∷ ws) e =
     let a : kindOf v ≡ kindOf w = cc in
     let b : map kindOf vs ≡ map kindOf ws = cc in
-    ap₂ (λ (k : Kind) (q : Bool). t k || q) a (has-same t vs ws b)
+    ap₂ (λ (k : ValueKind) (q : Bool). t k || q) a (has-same t vs ws b)
 
-pub fine-same : (n : ℕ) (bad worse : Kind → Bool) (vs ws : List Value) → map kindOf vs ≡ map kindOf ws → ((k : Kind) → bad k ≡ worse k) → firstBad n worse ws ≡ Fine → firstBad n bad vs ≡ Fine
+pub fine-same : (n : ℕ) (bad worse : ValueKind → Bool) (vs ws : List Value) → map kindOf vs ≡ map kindOf ws → ((k : ValueKind) → bad k ≡ worse k) → firstBad n worse ws ≡ Fine → firstBad n bad vs ≡ Fine
 unfolding firstBad
 fine-same n bad worse [] [] e h f = refl
 fine-same n bad worse [] (w ∷ ws) e h f = absurd (true≢false (ap empty e))

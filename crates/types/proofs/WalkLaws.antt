@@ -16,7 +16,7 @@ use Rattle.fields.specs.Places.{nextOf}
 use Rattle.types.specs.declared.Form.{Form}
 use Rattle.types.specs.Form.{Place, placesOf}
 use Rattle.types.specs.Walk.{isOf, isOptional, find, skips, wrong, walk, walked}
-use Rattle.types.specs.Sentences.{placeAt, Stands, Unknown, Skipped, Judged, unknown, notLater, skipping, right, Seated, AllRight, nextPlace, after, Accepted, Refused, atField, atEnd}
+use Rattle.types.specs.Sentences.{placeAt, Stands, Unknown, Skipped, Judged, unknown, notLater, skipping, right, Seated, AllRight, nextPlace, endOfFields, Accepted, Refused, atField, atEnd}
 
 -- ---- a tag's place
 -- where one place more stands in front
@@ -191,19 +191,19 @@ accepted ps next o (f ∷ fs) e = go (eqb (wrong ps next (find ps (tagOf f))) 0)
         absurd (fine-broken (wrong ps next (find ps (tagOf f))) o (sym e ∙ walk-stop ps next o f fs (eqb-false (wrong ps next (find ps (tagOf f))) 0 w)))
 
 -- the walk goes on behind right fields
-passed : (ps : List Place) (next o : ℕ) (fs gs : List Field) → AllRight ps next fs → walk ps next o (fs ++ gs) ≡ walk ps (nextPlace ps next fs) (after o fs) gs
+passed : (ps : List Place) (next o : ℕ) (fs gs : List Field) → AllRight ps next fs → walk ps next o (fs ++ gs) ≡ walk ps (nextPlace ps next fs) (endOfFields o fs) gs
 passed ps next o [] gs h = refl
 passed ps next o (f ∷ fs) gs h =
     walk-on ps next o f (fs ++ gs) (wrong-iff ps next (tagOf f) 0 .1 (h .0)) ∙ passed ps (suc (find ps (tagOf f))) (nextOf o f) fs gs (h .1)
 
-passed-all : (ps : List Place) (next o : ℕ) (fs : List Field) → AllRight ps next fs → walk ps next o fs ≡ walk ps (nextPlace ps next fs) (after o fs) []
+passed-all : (ps : List Place) (next o : ℕ) (fs : List Field) → AllRight ps next fs → walk ps next o fs ≡ walk ps (nextPlace ps next fs) (endOfFields o fs) []
 passed-all ps next o fs h = ap (walk ps next o) (sym (append-nil fs)) ∙ passed ps next o fs [] h
 
 -- accepted exactly if each field is right and no mandatory place is missing
 pub accepted-iff : (ps : List Place) (next o : ℕ) (fs : List Field) → (walk ps next o fs ≡ Fine) ↔ Accepted ps next fs
 accepted-iff ps next o fs = (
   accepted ps next o fs,
-  λ a. passed-all ps next o fs (a .fine) ∙ walk-end ps (nextPlace ps next fs) (after o fs) false (not-skips ps (nextPlace ps next fs) (length ps) (a .whole)),
+  λ a. passed-all ps next o fs (a .fine) ∙ walk-end ps (nextPlace ps next fs) (endOfFields o fs) false (not-skips ps (nextPlace ps next fs) (length ps) (a .whole)),
 )
 
 -- ---- refused
@@ -254,11 +254,11 @@ at-fault : (ps : List Place) (next o : ℕ) (fs : List Field) (n p : ℕ) → Re
 at-fault ps next o fs n p (atField r) =
     let w = judged ps (nextPlace ps next (r .before)) (tagOf (r .this)) n (r .fault) in
     ap (walk ps next o) (r .list) ∙ passed ps next o (r .before) (r .this ∷ r .rest) (r .fine)
-    ∙ walk-stop ps (nextPlace ps next (r .before)) (after o (r .before)) (r .this) (r .rest) (λ q. r .faulty (sym w ∙ q))
-    ∙ ap (λ (k : ℕ). Broken k (after o (r .before))) w ∙ ap (λ (k : ℕ). Broken n k) (sym (r .colon))
+    ∙ walk-stop ps (nextPlace ps next (r .before)) (endOfFields o (r .before)) (r .this) (r .rest) (λ q. r .faulty (sym w ∙ q))
+    ∙ ap (λ (k : ℕ). Broken k (endOfFields o (r .before))) w ∙ ap (λ (k : ℕ). Broken n k) (sym (r .colon))
 at-fault ps next o fs n p (atEnd r) =
-    passed-all ps next o fs (r .fine) ∙ walk-end ps (nextPlace ps next fs) (after o fs) true (skips-iff ps (nextPlace ps next fs) (length ps) .1 (r .missing))
-    ∙ ap (λ (k : ℕ). Broken k (after o fs)) (sym (r .number)) ∙ ap (λ (k : ℕ). Broken n k) (sym (r .dash))
+    passed-all ps next o fs (r .fine) ∙ walk-end ps (nextPlace ps next fs) (endOfFields o fs) true (skips-iff ps (nextPlace ps next fs) (length ps) .1 (r .missing))
+    ∙ ap (λ (k : ℕ). Broken k (endOfFields o fs)) (sym (r .number)) ∙ ap (λ (k : ℕ). Broken n k) (sym (r .dash))
 
 -- refused exactly by the first faulty field, or by a mandatory place that is missing at the end
 pub refused-iff : (ps : List Place) (next o : ℕ) (fs : List Field) (n p : ℕ) → (walk ps next o fs ≡ Broken n p) ↔ Refused ps next o fs n p

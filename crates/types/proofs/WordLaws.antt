@@ -22,7 +22,7 @@ use Rattle.types.specs.Walk.{isOptional, find, walk, walked, word, prese
 use Rattle.base.specs.Bits.{bit}
 use Rattle.types.proofs.WalkLaws.{seated, accepted-iff}
 use Rattle.base.proofs.BitLaws.{ones-0, ones-under, under, lower, bit-0, bit-under}
-use Rattle.types.specs.Sentences.{placeAt, AllRight, nextPlace, Accepted, placeOfField, Present, Sound}
+use Rattle.types.specs.Sentences.{placeAt, AllRight, nextPlace, Accepted, placeOfField, Present, SoundWalk}
 
 -- ---- the fields of an accepted walk
 pub few : (ps : List Place) (next : ℕ) (fs : List Field) → next ≤ length ps → AllRight ps next fs → next + length fs ≤ length ps
@@ -196,7 +196,7 @@ bit-iff ps next fs r i = (λ e. present-to ps fs i (go (present ps fs i) (sym (w
     go false e = absurd (omega arith)
 
 -- ---- a walk that is accepted from the first place on
-pub sound : (ps : List Place) (o : ℕ) (fs : List Field) → walk ps 0 o fs ≡ Fine → Sound ps fs
+pub sound : (ps : List Place) (o : ℕ) (fs : List Field) → walk ps 0 o fs ≡ Fine → SoundWalk ps fs
 sound ps o fs e =
     let a = accepted-iff ps 0 o fs .0 e in
     let r = a .fine in
@@ -210,6 +210,6 @@ sound ps o fs e =
       bits = bit-iff ps 0 fs r;
     }
 
-pub walked-sound : (form : Form) (m : List ℕ) → walked form m ≡ Fine → Sound (placesOf form) (fields m)
+pub walked-sound : (form : Form) (m : List ℕ) → walked form m ≡ Fine → SoundWalk (placesOf form) (fields m)
 unfolding walked
 walked-sound form m e = sound (placesOf form) 5 (fields m) e

@@ -57,9 +57,9 @@ abbrev pub nextPlace : List Place → ℕ → List Field → ℕ
 nextPlace ps next [] = next
 nextPlace ps next (f ∷ fs) = nextPlace ps (suc (find ps (tagOf f))) fs
 
-abbrev pub after : ℕ → List Field → ℕ
-after o [] = o
-after o (f ∷ fs) = after (nextOf o f) fs
+abbrev pub endOfFields : ℕ → List Field → ℕ
+endOfFields o [] = o
+endOfFields o (f ∷ fs) = endOfFields (nextOf o f) fs
 
 -- all fields are right, and no mandatory place is missing at the end
 pub record Accepted (ps : List Place) (next : ℕ) (fs : List Field) : Type 0 where
@@ -75,14 +75,14 @@ pub record Faulty (ps : List Place) (next o : ℕ) (fs : List Field) (n p : ℕ)
   pub fine : AllRight ps next before
   pub fault : Judged ps (nextPlace ps next before) (tagOf this) n
   pub faulty : n ≡ 0 → ⊥
-  pub colon : p ≡ after o before
+  pub colon : p ≡ endOfFields o before
 
 -- all fields are right, a mandatory place is missing at the end, and the - stands at p
 pub record Missing (ps : List Place) (next o : ℕ) (fs : List Field) (n p : ℕ) : Type 0 where
   pub fine : AllRight ps next fs
   pub missing : Skipped ps (nextPlace ps next fs) (length ps)
   pub number : n ≡ 7
-  pub dash : p ≡ after o fs
+  pub dash : p ≡ endOfFields o fs
 
 pub data Refused (ps : List Place) (next o : ℕ) (fs : List Field) (n p : ℕ) : Type 0 where
   atField : Faulty ps next o fs n p → Refused ps next o fs n p
@@ -103,7 +103,7 @@ pub record Present (ps : List Place) (fs : List Field) (i : ℕ) : Type 0 where
   pub place : placeOfField ps fs number ≡ i
 
 -- what an accepted walk has: few fields, each at a later place than the one before, every mandatory one; as many ones in the word as fields, and a bit for each place present
-pub record Sound (ps : List Place) (fs : List Field) : Type 0 where
+pub record SoundWalk (ps : List Place) (fs : List Field) : Type 0 where
   pub few-fields : length fs ≤ length ps
   pub later : (j k : ℕ) → j < k → k < length fs → placeOfField ps fs j < placeOfField ps fs k
   pub own : (i : ℕ) (a b : Present ps fs i) → a .number ≡ b .number

@@ -32,7 +32,7 @@ use Rattle.contents.proofs.LineTests.{begins-says}
 use Rattle.contents.proofs.RightLaws.{customer-is, payer-is, bic-is, name-is}
 use Rattle.values.specs.Day.{realDay}
 use Rattle.values.specs.Values as kinds
-use Rattle.values.specs.Values.{Kind, date, tax, Value, at, payment, rppDates, parties, ofFirst, taxes, customerTaxes, payerTaxes, noteDates, valuesOf}
+use Rattle.values.specs.Values.{ValueKind, date, tax, Value, at, payment, rppDates, parties, ofFirst, taxes, customerTaxes, payerTaxes, noteDates, valuesOf}
 use Rattle.values.specs.Judged.{noDay, foreign, bikDiffers, hasKpp, has}
 use Rattle.values.specs.Answers.{faultOf, Finding, FoundIn, nothing}
 use Rattle.values.specs.Steps.{finds, heldFound, bankFound, LedBy, isNothing, madeOf, OneLine, NoValues}
@@ -145,7 +145,7 @@ module _ (content : Content) (ls : List Line) where
       let vs = ofFirst rppDates ls in
       finding-of (λ t. vs) e (λ t. q) (λ t. sym (fault-none foreign vs (dates foreign (λ s. refl)))) (λ t. sym (fault-none bikDiffers vs (dates bikDiffers (λ s. refl)))) (λ t. sym (has-none hasKpp vs (dates hasKpp (λ s. refl))))
     where
-      dates : (u : Kind → Bool) → ((s : Text) → u (date s) ≡ false) → EveryKind (λ k. u k ≡ false) (ofFirst rppDates ls)
+      dates : (u : ValueKind → Bool) → ((s : Text) → u (date s) ≡ false) → EveryKind (λ k. u k ≡ false) (ofFirst rppDates ls)
       dates u h = every-first (λ k. u k ≡ false) rppDates (every-rpp (λ k. u k ≡ false) h) ls
 
   finding-party : ((t : Text) → valuesOf t content ls ≡ ofFirst parties ls) → Finding content ls (finds 0 0 (faultOf bikDiffers (ofFirst parties ls)) false)
@@ -153,7 +153,7 @@ module _ (content : Content) (ls : List Line) where
       let vs = ofFirst parties ls in
       finding-of (λ t. vs) e (λ t. sym (fault-none noDay vs (pairs noDay (λ b a. refl)))) (λ t. sym (fault-none foreign vs (pairs foreign (λ b a. refl)))) (λ t. refl) (λ t. sym (has-none hasKpp vs (pairs hasKpp (λ b a. refl))))
     where
-      pairs : (u : Kind → Bool) → ((b a : Text) → u (kinds.party b a) ≡ false) → EveryKind (λ k. u k ≡ false) (ofFirst parties ls)
+      pairs : (u : ValueKind → Bool) → ((b a : Text) → u (kinds.party b a) ≡ false) → EveryKind (λ k. u k ≡ false) (ofFirst parties ls)
       pairs u h = every-first (λ k. u k ≡ false) parties (every-party (λ k. u k ≡ false) h) ls
 
 -- ---- 32A

@@ -7,17 +7,17 @@ use mathlib.Core.Logic.{_↔_}
 use Rattle.types.specs.declared.Form.{Form}
 use Rattle.base.specs.declared.Verdict.the-variants.{Fine, Broken}
 use Rattle.fields.specs.Field.{Field}
-use Rattle.values.specs.Values.{Kind, valuesIn}
+use Rattle.values.specs.Values.{ValueKind, valuesIn}
 use Rattle.values.specs.Judged.{firstBad, noDay, foreign, bikDiffers, without57, taxBroken, rule9, rule10, rule11, rule12, rule13}
 use Rattle.values.specs.Sentences.{NoneFails, LeastAt}
 use Rattle.values.proofs.JudgedLaws.{fine-iff, broken-iff}
 use Rattle.values.proofs.ValueLaws.{in-order}
 
 -- ---- once for all
-pub judged-fine : (number : ℕ) (bad : Kind → Bool) (form : Form) (fs : List Field) → (firstBad number bad (valuesIn form 5 fs) ≡ Fine) ↔ NoneFails bad (valuesIn form 5 fs)
+pub judged-fine : (number : ℕ) (bad : ValueKind → Bool) (form : Form) (fs : List Field) → (firstBad number bad (valuesIn form 5 fs) ≡ Fine) ↔ NoneFails bad (valuesIn form 5 fs)
 judged-fine number bad form fs = fine-iff number bad (valuesIn form 5 fs)
 
-pub judged-broken : (number : ℕ) (bad : Kind → Bool) (form : Form) (fs : List Field) (n p : ℕ) → (firstBad number bad (valuesIn form 5 fs) ≡ Broken n p) ↔ ((n ≡ number) × LeastAt bad (valuesIn form 5 fs) p)
+pub judged-broken : (number : ℕ) (bad : ValueKind → Bool) (form : Form) (fs : List Field) (n p : ℕ) → (firstBad number bad (valuesIn form 5 fs) ≡ Broken n p) ↔ ((n ≡ number) × LeastAt bad (valuesIn form 5 fs) p)
 judged-broken number bad form fs n p = broken-iff number bad n p (in-order form 5 fs)
 
 -- ---- rule by rule

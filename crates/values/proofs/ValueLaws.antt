@@ -14,7 +14,7 @@ use Rattle.fields.specs.Places.{linesSize, startOf, nextOf}
 use Rattle.fields.specs.ByLines.{joined}
 use Rattle.fields.proofs.PlaceLaws.{joined-length}
 use Rattle.types.specs.declared.Form.{Form}
-use Rattle.types.specs.Sentences.{after}
+use Rattle.types.specs.Sentences.{endOfFields}
 use Rattle.contents.specs.declared.Content.{Content}
 use Rattle.contents.specs.declared.Content.the-variants as holds
 use Rattle.contents.specs.Words.{Text, Line, join}
@@ -22,7 +22,7 @@ use Rattle.contents.specs.Tests.{sized, digits, piece, rppParts, isPartyByBik, 
 use Rattle.contents.specs.Tags.{heldBy}
 use Rattle.contents.specs.Parts.{paidDate, paidCurrency, currencyAt, partyBik, partyAccount, taxInn, taxKpp, opensRpp, rppDate, rppDateAt, rppValue, rppValueAt}
 use Rattle.contents.proofs.CutLaws.{cut-whole}
-use Rattle.values.specs.Values.{Kind, tag, date, currency, party, tax, Value, at, placeOf, kindOf, moved, payment, dateIfAny, rppDates, bothParts, parties, ofFirst, taxes, customerTaxes, payerTaxes, noteDates, valuesOf, valuesIn}
+use Rattle.values.specs.Values.{ValueKind, tag, date, currency, party, tax, Value, at, placeOf, kindOf, moved, payment, dateIfAny, rppDates, bothParts, parties, ofFirst, taxes, customerTaxes, payerTaxes, noteDates, valuesOf, valuesIn}
 use Rattle.values.proofs.JudgedLaws.{Ordered, none, next, ordered-low, ordered-high, ordered-append}
 
 -- ---- what holds either way
@@ -153,15 +153,15 @@ module _ (form : Form) where
       next (le-refl o) (ordered-low g (ordered-high k (ordered-moved s (values-order t (heldBy form t) (l ∷ ls)))))
 
   -- the values of a message come in the order of their places
-  pub in-order : (o : ℕ) (fs : List Field) → Ordered o (valuesIn form o fs) (after o fs)
+  pub in-order : (o : ℕ) (fs : List Field) → Ordered o (valuesIn form o fs) (endOfFields o fs)
   in-order o [] = none (le-refl o)
   in-order o (field t ls ∷ fs) = ordered-append (field-order o t ls) (in-order (nextOf o (field t ls)) fs)
 
 -- ---- every value is of a form of which something holds
-abbrev pub EveryKind : (Kind → Type 0) → List Value → Type 0
+abbrev pub EveryKind : (ValueKind → Type 0) → List Value → Type 0
 EveryKind P vs = AllHold (λ (v : Value). P (kindOf v)) vs
 
-module _ (P : Kind → Type 0) where
+module _ (P : ValueKind → Type 0) where
   pub every-first : (f : Line → List Value) → ((l : Line) → EveryKind P (f l)) → (ls : List Line) → EveryKind P (ofFirst f ls)
   every-first f h [] = tt
   every-first f h (l ∷ ls) = h l

@@ -14,7 +14,7 @@ use Rattle.contents.specs.Tests.{isPayment}
 use Rattle.contents.specs.Parts.{paidDate, paidWhole, paidDecimals}
 use Rattle.values.specs.Day.{dated}
 use Rattle.values.specs.Money.{kopecks}
-use Rattle.values.specs.Values.{Kind, Value, placeOf, kindOf, valuesOf}
+use Rattle.values.specs.Values.{ValueKind, Value, placeOf, kindOf, valuesOf}
 use Rattle.values.specs.Judged.{noDay, foreign, bikDiffers, hasKpp, has}
 use Rattle.values.specs.declared.Finds.{Finds}
 use Rattle.values.specs.declared.Found.{Found}
@@ -31,7 +31,7 @@ kopecksOf l = pick (isPayment l) (kopecks (paidWhole l) (paidDecimals l)) 0
 
 -- ---- of any content
 -- one more than the place of the first value that fails, 0 where none does
-unfoldable pub faultOf : (Kind → Bool) → List Value → ℕ
+unfoldable pub faultOf : (ValueKind → Bool) → List Value → ℕ
 faultOf bad [] = 0
 faultOf bad (v ∷ vs) = pick (bad (kindOf v)) (suc (placeOf v)) (faultOf bad vs)
 
