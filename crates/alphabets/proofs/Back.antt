@@ -8,7 +8,7 @@ use borrow.Author.Tests.{ne-eqb}
 use Rattle.alphabets.specs.Grid.{Kind, unwritable, russian, latin, common, kind, spell, allowed}
 use Rattle.base.specs.Calls.{said}
 use Rattle.alphabets.specs.Bank.{after, reads}
-use Rattle.alphabets.specs.Best.{latinNext, sideFor, cross, best, Spot, nowhere, at, behind, spotAfter, bad}
+use Rattle.alphabets.specs.Best.{latinNext, sideFor, cross, best, Spot, nowhere, at, further, spotAfter, bad}
 use Rattle.alphabets.proofs.GridLaws.{Back, write-read}
 
 pub never : (k : ℕ) → at k ≡ nowhere → ⊥
@@ -20,24 +20,24 @@ allowed-there russian p s n e = refl
 allowed-there latin p s n e = refl
 allowed-there common p s n e = refl
 
-pub not-behind : (p : Spot) → behind p ≡ nowhere → p ≡ nowhere
-not-behind nowhere e = refl
-not-behind (at k) e = absurd (never (suc k) e)
+pub not-further : (p : Spot) → further p ≡ nowhere → p ≡ nowhere
+not-further nowhere e = refl
+not-further (at k) e = absurd (never (suc k) e)
 
 pub rest-good : (k : Kind) (p : Spot) → spotAfter k p ≡ nowhere → p ≡ nowhere
 rest-good unwritable p e = absurd (never 0 e)
-rest-good russian p e = not-behind p e
-rest-good latin p e = not-behind p e
-rest-good common p e = not-behind p e
+rest-good russian p e = not-further p e
+rest-good latin p e = not-further p e
+rest-good common p e = not-further p e
 
 after-said : (y : ℕ) (t : List ℕ) → (y ≡ 0 → ⊥) → after y (said t) ≡ said (y ∷ t)
 after-said zero t n = absurd (n refl)
 after-said (suc y) t n = refl
 
--- one sign in front, and the apostrophe before it
-one-sign : (s : Bool) (x : ℕ) (b d : List ℕ) → Back s x → reads s b ≡ said d → reads s (spell (kind x) s x ∷ b) ≡ said (x ∷ d)
+-- one character in front, and the apostrophe before it
+one-character : (s : Bool) (x : ℕ) (b d : List ℕ) → Back s x → reads s b ≡ said d → reads s (spell (kind x) s x ∷ b) ≡ said (x ∷ d)
 unfolding reads
-one-sign s x b d w e = simp (ne-eqb (spell (kind x) s x) 39 (w .no-mark), w .reads-back, e) (after-said x d (w .not-zero))
+one-character s x b d w e = simp (ne-eqb (spell (kind x) s x) 39 (w .no-mark), w .reads-back, e) (after-said x d (w .not-zero))
 
 crossed : (s t : Bool) (b d : List ℕ) → reads t b ≡ said d → reads s (cross s t b) ≡ said d
 unfolding reads
@@ -53,5 +53,5 @@ reads-best true [] e = refl
 reads-best s (x ∷ xs) e =
     let t : Bool = sideFor (kind x) s (latinNext xs) in
     crossed s t (spell (kind x) t x ∷ best t xs) (x ∷ xs)
-    (one-sign t x (best t xs) xs (write-read t x (allowed-there (kind x) (bad xs) s (latinNext xs) e))
+    (one-character t x (best t xs) xs (write-read t x (allowed-there (kind x) (bad xs) s (latinNext xs) e))
     (reads-best t xs (rest-good (kind x) (bad xs) e)))

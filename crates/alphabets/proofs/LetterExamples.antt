@@ -5,15 +5,16 @@ use mathlib.Core.Bool.{true}
 use mathlib.Core.List.{List}
 use Rattle.base.specs.Calls.{said}
 use Rattle.base.specs.Examples.{AllHold, _also_}
+use Rattle.base.specs.Quoted.{bytes, desk}
 use Rattle.base.specs.Bytes.{isIn, digit, capital, letter, marks, shared, values}
-use Rattle.alphabets.specs.Grid.{grid, kind, sign}
+use Rattle.alphabets.specs.Grid.{grid, kind, character}
 use Rattle.alphabets.specs.Bank.{reads, reading}
 use Rattle.alphabets.specs.Best.{latinNext, best, bad, writes, writing}
-use Rattle.alphabets.specs.Letters.{bytes, deskLetters, bankLetters, under, cases, Holds}
+use Rattle.alphabets.specs.Letters.{deskLetters, bankLetters, under, cases, Holds}
 use Rattle.alphabets.proofs.Theorems.{reads-back}
 
--- a desk sign has a bank letter exactly if it is one of the 34, and then the one under it
-pub table-is : grid ≡ values (under (bytes deskLetters) (bytes bankLetters)) 0 256
+-- a desk character has a bank letter exactly if it is one of the 34, and then the one under it
+pub table-is : grid ≡ values (under (desk deskLetters) (bytes bankLetters)) 0 256
 unfolding grid
 table-is = refl
 
@@ -22,7 +23,7 @@ back : {d b : List ℕ} → writing true d ≡ said b → (writing true d ≡ sa
 back {d} {b} e = (e, reads-back true d b e)
 
 pub worked : AllHold Holds cases
-unfolding cases isIn digit capital letter marks shared grid kind sign reads latinNext best bad writes
+unfolding cases isIn digit capital letter marks shared grid kind character reads latinNext best bad writes
 worked =
     refl also refl also refl
     also back refl

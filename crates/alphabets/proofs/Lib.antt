@@ -1,7 +1,7 @@
 pub mod GridLaws
 pub mod Back
 pub mod Shortest
-pub mod CodeLaws
+pub mod BackTableLaws
 pub mod Theorems
 pub mod StopLaws
 pub mod AnswerLaws

@@ -15,10 +15,10 @@ use Rattle.base.proofs.CallLaws.{not-said, one-answer}
 use Rattle.base.proofs.Room.{sets-append, placed-fits, placed-not}
 use Rattle.alphabets.specs.Bank.{reads}
 use Rattle.alphabets.specs.Best.{writing}
-use Rattle.alphabets.specs.Steps.{codes}
+use Rattle.alphabets.specs.Steps.{backTable}
 use Rattle.alphabets.specs.Runs.{floorOf, heardOf}
 use Rattle.alphabets.specs.Pieces.{pieceAfter, pieceIn, pieceOn, whole}
-use Rattle.alphabets.specs.Parts.{extentOf, extent, written, ToldLong, ToldHalt, spoken, pieceText}
+use Rattle.alphabets.specs.Parts.{extentOf, extent, written, WhenTakes, WhenHalts, spoken, pieceText}
 use Rattle.alphabets.specs.declared.parts.Extent.the-variants.{Takes, Halts, Long}
 use Rattle.alphabets.specs.declared.pieces.Piece.{Piece}
 use Rattle.alphabets.specs.declared.pieces.Piece.the-variants.{Read, Stops}
@@ -34,10 +34,10 @@ pub put-one : {A : Type 0} {r q x : A} {a b after : List ℕ} → (r ≡ x) × (
 put-one e f = (one-answer (e .0) (f .0), one-answer (e .1) (f .1))
 
 -- ---- the size
-pub size-takes : (s : Bool) (desk : List ℕ) (n : ℕ) → extent s desk ≡ Takes n → ToldLong s desk n
+pub size-takes : (s : Bool) (desk : List ℕ) (n : ℕ) → extent s desk ≡ Takes n → WhenTakes s desk n
 size-takes s desk n e = go (decLt 10000 (length desk))
   where
-    by : (h : length desk ≤ 10000) (a : Answer) → writing s desk ≡ a → extentOf a ≡ Takes n → ToldLong s desk n
+    by : (h : length desk ≤ 10000) (a : Answer) → writing s desk ≡ a → extentOf a ≡ Takes n → WhenTakes s desk n
     by h (stuck k) p f = absurd (takes-halts n k (sym f))
     by h (said t) p f =
         let m : length t ≡ n = cc in
@@ -51,21 +51,21 @@ size-takes s desk n e = go (decLt 10000 (length desk))
           small = omega (arith, twice-at-most 5000 s desk t p (omega arith));
         }
 
-    go : Dec (10000 < length desk) → ToldLong s desk n
+    go : Dec (10000 < length desk) → WhenTakes s desk n
     go (yes h) = absurd (takes-long n (sym e ∙ sym (extent-long s desk h)))
     go (no h) = by (omega arith) (writing s desk) refl (sym (extent-is s desk (omega arith)) ∙ e)
 
-pub size-halts : (s : Bool) (desk : List ℕ) (k : ℕ) → extent s desk ≡ Halts k → ToldHalt s desk k
+pub size-halts : (s : Bool) (desk : List ℕ) (k : ℕ) → extent s desk ≡ Halts k → WhenHalts s desk k
 size-halts s desk k e = go (decLt 10000 (length desk))
   where
-    by : (h : length desk ≤ 10000) (a : Answer) → writing s desk ≡ a → extentOf a ≡ Halts k → ToldHalt s desk k
+    by : (h : length desk ≤ 10000) (a : Answer) → writing s desk ≡ a → extentOf a ≡ Halts k → WhenHalts s desk k
     by h (said t) p f = absurd (takes-halts (length t) k f)
     by h (stuck j) p f =
         let m : j ≡ k = cc in
         let q : writing s desk ≡ stuck k = p ∙ ap stuck m in
         record { within = h; is = q; unsaid = unwritable-iff s desk .0 (k, q); first = unwritable-at s desk k .0 q; none = written-is s desk h ∙ ap textOf p }
 
-    go : Dec (10000 < length desk) → ToldHalt s desk k
+    go : Dec (10000 < length desk) → WhenHalts s desk k
     go (yes h) = absurd (halts-long k (sym e ∙ sym (extent-long s desk h)))
     go (no h) = by (omega arith) (writing s desk) refl (sym (extent-is s desk (omega arith)) ∙ e)
 
@@ -136,17 +136,17 @@ pieces-behind t s a b n z m y out at e f h =
     ∙ put-behind out at (pieceText t s a) (pieceText t z b) (omega arith)
     ∙ ap (placed out at) (sym (text-append t s a b n z m y e f))
 
--- by the table of codes, a whole bank text, as one piece from the Russian side, stands for what it says
-pub text-whole : (b d : List ℕ) → reads false b ≡ said d → pieceText codes false b ≡ d
-text-whole b d e = go (pieceIn codes false b) refl (sym (reads-piece false b) ∙ e)
+-- by the table backwards, a whole bank text, as one piece from the Russian side, stands for what it says
+pub text-whole : (b d : List ℕ) → reads false b ≡ said d → pieceText backTable false b ≡ d
+text-whole b d e = go (pieceIn backTable false b) refl (sym (reads-piece false b) ∙ e)
   where
-    go : (p : Piece) → pieceIn codes false b ≡ p → whole (length b) (pieceIn codes false b) (spoken codes false b) ≡ said d → pieceText codes false b ≡ d
+    go : (p : Piece) → pieceIn backTable false b ≡ p → whole (length b) (pieceIn backTable false b) (spoken backTable false b) ≡ said d → pieceText backTable false b ≡ d
     go (Stops k) q f = absurd (not-said k d (rw q at f))
     go (Read n true) q f = absurd (not-said (length b) d (rw q at f))
-    go (Read n false) q f = let m : said (spoken codes false b) ≡ said d = rw q at f in text-read codes false b n false q ∙ cc
+    go (Read n false) q f = let m : said (spoken backTable false b) ≡ said d = rw q at f in text-read backTable false b n false q ∙ cc
 
 -- the ways out of the call that reads one, its table lent
-module _ (t b : List ℕ) (w : t ≡ codes) where
+module _ (t b : List ℕ) (w : t ≡ backTable) where
   whole-by : (p : Piece) → pieceIn t false b ≡ p → reads false b ≡ whole (length b) p (spoken t false b)
   whole-by p e = reads-piece false b ∙ ap (λ (c : List ℕ). whole (length b) (pieceIn c false b) (spoken c false b)) (sym w) ∙ ap (λ (q : Piece). whole (length b) q (spoken t false b)) e
 

@@ -11,7 +11,7 @@ use Rattle.base.specs.Bytes.{xset}
 use Rattle.base.specs.Calls.{Answer, said, stuck, textOf, Gives}
 use Rattle.base.specs.declared.Outcome.{Outcome}
 use Rattle.base.proofs.CallLaws.{not-said}
-use Rattle.alphabets.specs.Grid.{kind, spell, sign}
+use Rattle.alphabets.specs.Grid.{kind, spell, character}
 use Rattle.alphabets.specs.Bank.{past, after, reads, plainly}
 use Rattle.alphabets.specs.Best.{latinNext, sideFor, cross, best, Spot, nowhere, at, bad, orStuck, writes, writing}
 use Rattle.alphabets.specs.Sentences.{Answers, over, stops, short, done}
@@ -20,7 +20,7 @@ use Rattle.alphabets.proofs.Theorems.{plain-only}
 use Rattle.alphabets.proofs.StopLaws.{unwritable-at}
 use Rattle.alphabets.proofs.AnswerLaws.{itself, answers-iff}
 
--- ---- what is written is at most twice as long, so for 5,000 signs at most 10,000 bytes: g Latin groups of n signs take two apostrophes each
+-- ---- what is written is at most twice as long, so for 5,000 characters at most 10,000 bytes: g Latin groups of n characters take two apostrophes each
 record Groups (s : Bool) (n m : ℕ) : Type 0 where
   g : ℕ
   size : m ≡ n + 2 * g + pick s 1 0
@@ -72,9 +72,9 @@ reads-within : (s : Bool) (b : List ℕ) → Within (reads s b) (length b)
 unfolding reads
 reads-within false [] = omega arith
 reads-within true [] = omega arith
-reads-within s (x ∷ xs) = go (eqb x 39) (within-past (reads (not s) xs) (length xs) (reads-within (not s) xs)) (within-after (sign s x) (reads s xs) (length xs) (reads-within s xs))
+reads-within s (x ∷ xs) = go (eqb x 39) (within-past (reads (not s) xs) (length xs) (reads-within (not s) xs)) (within-after (character s x) (reads s xs) (length xs) (reads-within s xs))
   where
-    go : (q : Bool) → Within (past (reads (not s) xs)) (suc (length xs)) → Within (after (sign s x) (reads s xs)) (suc (length xs)) → Within (pick q (past (reads (not s) xs)) (after (sign s x) (reads s xs))) (suc (length xs))
+    go : (q : Bool) → Within (past (reads (not s) xs)) (suc (length xs)) → Within (after (character s x) (reads s xs)) (suc (length xs)) → Within (pick q (past (reads (not s) xs)) (after (character s x) (reads s xs))) (suc (length xs))
     go true a b = a
     go false a b = b
 

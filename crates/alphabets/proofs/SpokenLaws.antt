@@ -72,7 +72,7 @@ module _ {t : List ℕ} {latin : Bool} {part out₀ out : List ℕ} {at : ℕ} {
         let e : spoken t side (drop i part) ≡ spoken t (not side) (drop (i + 1) part) = rw (add-one, drop-cons part i 0, le-ltb (floorOf side) (getD t (getD part i 0) 0) g, eq-eqb (getD part i 0) 39 m) in
         record { long = omega arith; is = subst (λ (u : List ℕ). Putting out₀ out at n (spoken t latin part) u) e (v .is) }
 
--- ---- a piece that reads: as many signs as were counted
+-- ---- a piece that reads: as many characters as were counted
 pub read-stops : (n k : ℕ) (s : Bool) → Stops k ≡ Read n s → ⊥
 read-stops n k s e = let z : _≡_ {A = ℕ} 0 1 = cc in omega arith
 

@@ -14,9 +14,9 @@ use Rattle.base.specs.Bytes.{xset}
 use Rattle.base.specs.Calls.{Answer, said, stuck}
 use Rattle.base.proofs.Bools.{left, right, both}
 use Rattle.base.proofs.CallLaws.{not-said}
-use Rattle.alphabets.specs.Grid.{Kind, unwritable, russian, latin, common, kind, sign}
+use Rattle.alphabets.specs.Grid.{Kind, unwritable, russian, latin, common, kind, character}
 use Rattle.alphabets.specs.Bank.{past, after, reads, plainly, reading}
-use Rattle.alphabets.specs.Best.{best, Spot, nowhere, at, behind, spotAfter, bad, orStuck, writes, writing}
+use Rattle.alphabets.specs.Best.{best, Spot, nowhere, at, further, spotAfter, bad, orStuck, writes, writing}
 use Rattle.alphabets.specs.Sentences.{hasKind, canSay, FirstFails, Unreadable, sideBehind, heardOn, heardAt, StopsAt, unheard, leftOpen, outside}
 use Rattle.alphabets.proofs.Theorems.{no-xset-zero}
 
@@ -69,7 +69,7 @@ no-kind russian p e = absurd (true≢false e)
 no-kind latin p e = absurd (true≢false e)
 no-kind common p e = absurd (true≢false e)
 
-some-kind : (q : Kind) (p : Spot) → hasKind q ≡ true → spotAfter q p ≡ behind p
+some-kind : (q : Kind) (p : Spot) → hasKind q ≡ true → spotAfter q p ≡ further p
 some-kind unwritable p e = absurd (false≢true e)
 some-kind russian p e = refl
 some-kind latin p e = refl
@@ -92,7 +92,7 @@ unfolding bad
 fails-bad [] k f = absurd (omega (arith, f .within))
 fails-bad (x ∷ xs) zero f = no-kind (kind x) (bad xs) (f .fails)
 fails-bad (x ∷ xs) (suc k) f =
-    some-kind (kind x) (bad xs) (left (hasKind (kind x)) _ (f .before)) ∙ ap behind (fails-bad xs k (fails-tail (canSay true) x xs k f))
+    some-kind (kind x) (bad xs) (left (hasKind (kind x)) _ (f .before)) ∙ ap further (fails-bad xs k (fails-tail (canSay true) x xs k f))
 
 writes-stuck : (d : List ℕ) (k : ℕ) → writes d ≡ stuck k → bad d ≡ at k
 unfolding writes
@@ -143,7 +143,7 @@ module _ (z : Bool) (x : ℕ) (xs : List ℕ) where
   -- a byte without a reading stops the text; behind one that has a reading the rest stops it
   front-stops : heardOn z x ≡ false → reads z (x ∷ xs) ≡ stuck 0
   unfolding reads
-  front-stops h = go (eqb x 39) (sign z x) h
+  front-stops h = go (eqb x 39) (character z x) h
     where
       go : (q : Bool) (y : ℕ) → q || not (eqb y 0) ≡ false → pick q (past (reads (not z) xs)) (after y (reads z xs)) ≡ stuck 0
       go true y h = absurd (true≢false h)
@@ -152,7 +152,7 @@ module _ (z : Bool) (x : ℕ) (xs : List ℕ) where
 
   rest-stops : (k : ℕ) → heardOn z x ≡ true → reads next xs ≡ stuck k → reads z (x ∷ xs) ≡ stuck (suc k)
   unfolding reads
-  rest-stops k h e = go (eqb x 39) (sign z x) h e
+  rest-stops k h e = go (eqb x 39) (character z x) h e
     where
       go : (q : Bool) (y : ℕ) → q || not (eqb y 0) ≡ true → reads (pick q (not z) z) xs ≡ stuck k → pick q (past (reads (not z) xs)) (after y (reads z xs)) ≡ stuck (suc k)
       go true y h e = ap past e
@@ -161,7 +161,7 @@ module _ (z : Bool) (x : ℕ) (xs : List ℕ) where
 
   stops-rest : (k : ℕ) → heardOn z x ≡ true → reads z (x ∷ xs) ≡ stuck k → (j : ℕ) × ((k ≡ suc j) × (reads next xs ≡ stuck j))
   unfolding reads
-  stops-rest k h e = go (eqb x 39) (sign z x) h e
+  stops-rest k h e = go (eqb x 39) (character z x) h e
     where
       turned : (a : Answer) → past a ≡ stuck k → (j : ℕ) × ((k ≡ suc j) × (a ≡ stuck j))
       turned (said t) e = absurd (not-said k t (sym e))

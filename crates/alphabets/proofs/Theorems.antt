@@ -118,16 +118,16 @@ alone true d t b e r l i = alone-by (beaten d t b e r) l i
 alone false d t b e r l i = plain-self b d r ∙ plain-self d t e
 
 -- ---- a text is unwritable exactly if no bank text of any length reads as it
-good-sign : (k : Kind) (s : Bool) → allowed k s ≡ true → spotAfter k nowhere ≡ nowhere
-good-sign unwritable s a = absurd (false≢true a)
-good-sign russian s a = refl
-good-sign latin s a = refl
-good-sign common s a = refl
+good-character : (k : Kind) (s : Bool) → allowed k s ≡ true → spotAfter k nowhere ≡ nowhere
+good-character unwritable s a = absurd (false≢true a)
+good-character russian s a = refl
+good-character latin s a = refl
+good-character common s a = refl
 
 good-by : (s : Bool) (x : ℕ) (b d : List ℕ) → Came s x b d → ((s′ : Bool) (d′ : List ℕ) → reads s′ b ≡ said d′ → bad d′ ≡ nowhere) → bad d ≡ nowhere
 unfolding bad
 good-by s x b d (turned e r) ih = ih (not s) d r
-good-by s x b d (signed y t e nm a sp r) ih = rw (e, ih s t r) (good-sign (kind y) s a)
+good-by s x b d (signed y t e nm a sp r) ih = rw (e, ih s t r) (good-character (kind y) s a)
 
 good : (s : Bool) (b d : List ℕ) → reads s b ≡ said d → bad d ≡ nowhere
 unfolding reads bad

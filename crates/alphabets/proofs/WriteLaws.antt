@@ -17,10 +17,10 @@ use Rattle.base.proofs.Room.{put-one, sets-append, placed-fits}
 use Rattle.base.proofs.Table.{every, and-left, and-right}
 use Rattle.base.proofs.Table as table
 use Rattle.alphabets.specs.Grid.{grid, Kind, unwritable, russian, latin, common, kind, spell}
-use Rattle.alphabets.specs.Best.{latinFirst, latinNext, best, Spot, nowhere, at, behind, bad, orStuck, writes}
+use Rattle.alphabets.specs.Best.{latinFirst, latinNext, best, Spot, nowhere, at, further, bad, orStuck, writes}
 use Rattle.alphabets.specs.Runs.{run, through}
 use Rattle.alphabets.specs.Parts.{extentOf}
-use Rattle.alphabets.specs.Steps.{sized, onward, shape, shapes, group, LatinRun}
+use Rattle.alphabets.specs.Steps.{sized, extentOn, gridValue, gridTable, group, LatinRun}
 use Rattle.alphabets.specs.declared.parts.Extent.{Extent}
 use Rattle.alphabets.specs.declared.parts.Extent.the-variants.{Takes, Halts, Long}
 use Rattle.alphabets.proofs.GridLaws.{big-kind}
@@ -48,104 +48,104 @@ is-numbered russian = refl
 is-numbered latin = refl
 is-numbered common = refl
 
--- the kind of a sign by its shape
+-- the kind of a character by its shape
 abbrev kindBy : ℕ → ℕ → Kind
 kindBy v x = pick (eqb v 0) unwritable (pick (eqb v 1) latin (pick (eqb v x) common russian))
 
 abbrev right : ℕ → ℕ → Bool
 right x v = eqb (number (kind x)) (number (kindBy v x)) && eqb (pick (ltb 1 v) (spell (kind x) false x) v) v
 
-all-right : T (every right 0 shapes)
-unfolding grid marks isIn digit capital letter shared kind shape shapes
+all-right : T (every right 0 gridTable)
+unfolding grid marks isIn digit capital letter shared kind gridValue gridTable
 all-right = tt
 
-shape-length : length shapes ≡ 256
-unfolding shapes
+shape-length : length gridTable ≡ 256
+unfolding gridTable
 shape-length = refl
 
-past-table : (x : ℕ) → 256 ≤ x → getD shapes x 0 ≡ 0
-past-table x h = List·getD-eq-default shapes 0 (rw shape-length h)
+past-table : (x : ℕ) → 256 ≤ x → getD gridTable x 0 ≡ 0
+past-table x h = List·getD-eq-default gridTable 0 (rw shape-length h)
 
 record Shaped (x : ℕ) : Type 0 where
-  is : kind x ≡ kindBy (getD shapes x 0) x
-  spelt : 1 < getD shapes x 0 → spell (kind x) false x ≡ getD shapes x 0
+  is : kind x ≡ kindBy (getD gridTable x 0) x
+  spelt : 1 < getD gridTable x 0 → spell (kind x) false x ≡ getD gridTable x 0
 
 shaped : (x : ℕ) → Shaped x
 shaped x = go (decLt x 256)
   where
     go : Dec (x < 256) → Shaped x
     go (yes l) =
-        let v : ℕ = getD shapes x 0 in
-        let t = table.at right shapes all-right x (rw shape-length l) in
+        let v : ℕ = getD gridTable x 0 in
+        let t = table.at right gridTable all-right x (rw shape-length l) in
         record {
           is = sym (is-numbered (kind x)) ∙ ap numbered (eqb→eq (number (kind x)) (number (kindBy v x)) (and-left (eqb (number (kind x)) (number (kindBy v x))) _ t)) ∙ is-numbered (kindBy v x);
-          spelt = λ h. rw (lt-ltb 1 (getD shapes x 0) h) at (eqb→eq (pick (ltb 1 v) (spell (kind x) false x) v) v (and-right (eqb (number (kind x)) (number (kindBy v x))) _ t));
+          spelt = λ h. rw (lt-ltb 1 (getD gridTable x 0) h) at (eqb→eq (pick (ltb 1 v) (spell (kind x) false x) v) v (and-right (eqb (number (kind x)) (number (kindBy v x))) _ t));
         }
     go (no l) =
-        let z : getD shapes x 0 ≡ 0 = past-table x (omega arith) in
+        let z : getD gridTable x 0 ≡ 0 = past-table x (omega arith) in
         record { is = big-kind x (omega arith) ∙ rw z; spelt = λ h. absurd (omega arith) }
 
-pub is-unwritable : (x : ℕ) → getD shapes x 0 ≡ 0 → kind x ≡ unwritable
-is-unwritable x e = shaped x .is ∙ rw (eq-eqb (getD shapes x 0) 0 e)
+pub is-unwritable : (x : ℕ) → getD gridTable x 0 ≡ 0 → kind x ≡ unwritable
+is-unwritable x e = shaped x .is ∙ rw (eq-eqb (getD gridTable x 0) 0 e)
 
-pub is-latin : (x : ℕ) → getD shapes x 0 ≡ 1 → kind x ≡ latin
+pub is-latin : (x : ℕ) → getD gridTable x 0 ≡ 1 → kind x ≡ latin
 is-latin x e = shaped x .is ∙ rw e
 
-pub is-common : (x : ℕ) → (getD shapes x 0 ≡ 0 → ⊥) → (getD shapes x 0 ≡ 1 → ⊥) → getD shapes x 0 ≡ x → kind x ≡ common
-is-common x n m e = shaped x .is ∙ rw (ne-eqb (getD shapes x 0) 0 n, ne-eqb (getD shapes x 0) 1 m, eq-eqb (getD shapes x 0) x e)
+pub is-common : (x : ℕ) → (getD gridTable x 0 ≡ 0 → ⊥) → (getD gridTable x 0 ≡ 1 → ⊥) → getD gridTable x 0 ≡ x → kind x ≡ common
+is-common x n m e = shaped x .is ∙ rw (ne-eqb (getD gridTable x 0) 0 n, ne-eqb (getD gridTable x 0) 1 m, eq-eqb (getD gridTable x 0) x e)
 
-pub is-russian : (x : ℕ) → (getD shapes x 0 ≡ 0 → ⊥) → (getD shapes x 0 ≡ 1 → ⊥) → (getD shapes x 0 ≡ x → ⊥) → kind x ≡ russian
-is-russian x n m e = shaped x .is ∙ rw (ne-eqb (getD shapes x 0) 0 n, ne-eqb (getD shapes x 0) 1 m, ne-eqb (getD shapes x 0) x e)
+pub is-russian : (x : ℕ) → (getD gridTable x 0 ≡ 0 → ⊥) → (getD gridTable x 0 ≡ 1 → ⊥) → (getD gridTable x 0 ≡ x → ⊥) → kind x ≡ russian
+is-russian x n m e = shaped x .is ∙ rw (ne-eqb (getD gridTable x 0) 0 n, ne-eqb (getD gridTable x 0) 1 m, ne-eqb (getD gridTable x 0) x e)
 
 -- ---- sizes, one behind another
-onward-onward : (i n j m : ℕ) (z : Extent) → onward i n (onward j m z) ≡ onward (i + j) (n + m) z
+onward-onward : (i n j m : ℕ) (z : Extent) → extentOn i n (extentOn j m z) ≡ extentOn (i + j) (n + m) z
 onward-onward i n j m (Takes k) = let e : n + (m + k) ≡ n + m + k = omega arith in ap Takes e
 onward-onward i n j m (Halts k) = let e : i + (j + k) ≡ i + j + k = omega arith in ap Halts e
 onward-onward i n j m Long = refl
 
-onward-none : (z : Extent) → z ≡ onward 0 0 z
+onward-none : (z : Extent) → z ≡ extentOn 0 0 z
 onward-none (Takes k) = let e : k ≡ 0 + k = omega arith in ap Takes e
 onward-none (Halts k) = let e : k ≡ 0 + k = omega arith in ap Halts e
 onward-none Long = refl
 
--- ---- one sign: how it is written, and the size
--- a unit for the sign, and an apostrophe alone
-size-unit : (p : Spot) (y : ℕ) (t : List ℕ) → extentOf (orStuck (behind p) (y ∷ t)) ≡ onward 1 1 (extentOf (orStuck p t))
+-- ---- one character: how it is written, and the size
+-- a unit for the character, and an apostrophe alone
+size-unit : (p : Spot) (y : ℕ) (t : List ℕ) → extentOf (orStuck (further p) (y ∷ t)) ≡ extentOn 1 1 (extentOf (orStuck p t))
 size-unit nowhere y t = let e : suc (length t) ≡ 1 + length t = omega arith in ap Takes e
 size-unit (at k) y t = let e : suc k ≡ 1 + k = omega arith in ap Halts e
 
-size-mark : (p : Spot) (t : List ℕ) → extentOf (orStuck p (39 ∷ t)) ≡ onward 0 1 (extentOf (orStuck p t))
+size-mark : (p : Spot) (t : List ℕ) → extentOf (orStuck p (39 ∷ t)) ≡ extentOn 0 1 (extentOf (orStuck p t))
 size-mark nowhere t = let e : suc (length t) ≡ 1 + length t = omega arith in ap Takes e
 size-mark (at k) t = let e : k ≡ 0 + k = omega arith in ap Halts e
 
--- on the Russian side a sign that has a shape above 1 is written as it
+-- on the Russian side a character that has a shape above 1 is written as it
 record Shown (x : ℕ) (xs : List ℕ) : Type 0 where
-  text : best false (x ∷ xs) ≡ getD shapes x 0 ∷ best false xs
-  fine : bad (x ∷ xs) ≡ behind (bad xs)
+  text : best false (x ∷ xs) ≡ getD gridTable x 0 ∷ best false xs
+  fine : bad (x ∷ xs) ≡ further (bad xs)
 
-shown : (x : ℕ) (xs : List ℕ) → 1 < getD shapes x 0 → Shown x xs
+shown : (x : ℕ) (xs : List ℕ) → 1 < getD gridTable x 0 → Shown x xs
 unfolding best bad
-shown x xs h = go (eqb (getD shapes x 0) x) refl
+shown x xs h = go (eqb (getD gridTable x 0) x) refl
   where
-    no-0 : getD shapes x 0 ≡ 0 → ⊥
+    no-0 : getD gridTable x 0 ≡ 0 → ⊥
     no-0 e = omega arith
 
-    no-1 : getD shapes x 0 ≡ 1 → ⊥
+    no-1 : getD gridTable x 0 ≡ 1 → ⊥
     no-1 e = omega arith
 
-    first : (y : ℕ) → y ≡ getD shapes x 0 → y ∷ best false xs ≡ getD shapes x 0 ∷ best false xs
+    first : (y : ℕ) → y ≡ getD gridTable x 0 → y ∷ best false xs ≡ getD gridTable x 0 ∷ best false xs
     first y e = ap (λ (z : ℕ). z ∷ best false xs) e
 
-    go : (q : Bool) → eqb (getD shapes x 0) x ≡ q → Shown x xs
+    go : (q : Bool) → eqb (getD gridTable x 0) x ≡ q → Shown x xs
     go true e =
-        let k : kind x ≡ common = is-common x no-0 no-1 (eqb-true (getD shapes x 0) x e) in
+        let k : kind x ≡ common = is-common x no-0 no-1 (eqb-true (getD gridTable x 0) x e) in
         record { text = rw k (first x (rw k at (shaped x .spelt h))); fine = rw k }
     go false e =
-        let k : kind x ≡ russian = is-russian x no-0 no-1 (eqb-false (getD shapes x 0) x e) in
+        let k : kind x ≡ russian = is-russian x no-0 no-1 (eqb-false (getD gridTable x 0) x e) in
         record { text = rw k (first (getD grid x 0) (rw k at (shaped x .spelt h))); fine = rw k }
 
-size-russian : (x : ℕ) (xs : List ℕ) → 1 < getD shapes x 0 → sized false (x ∷ xs) ≡ onward 1 1 (sized false xs)
-size-russian x xs h = let w : Shown x xs = shown x xs h in rw (w .text, w .fine) (size-unit (bad xs) (getD shapes x 0) (best false xs))
+size-russian : (x : ℕ) (xs : List ℕ) → 1 < getD gridTable x 0 → sized false (x ∷ xs) ≡ extentOn 1 1 (sized false xs)
+size-russian x xs h = let w : Shown x xs = shown x xs h in rw (w .text, w .fine) (size-unit (bad xs) (getD gridTable x 0) (best false xs))
 
 size-unwritable : (s : Bool) (x : ℕ) (xs : List ℕ) → kind x ≡ unwritable → sized s (x ∷ xs) ≡ Halts 0
 unfolding bad
@@ -156,53 +156,53 @@ opened : (x : ℕ) (xs : List ℕ) → kind x ≡ latin → best false (x ∷ xs
 unfolding best
 opened x xs e = rw e
 
-size-opened : (x : ℕ) (xs : List ℕ) → kind x ≡ latin → sized false (x ∷ xs) ≡ onward 0 1 (sized true (x ∷ xs))
+size-opened : (x : ℕ) (xs : List ℕ) → kind x ≡ latin → sized false (x ∷ xs) ≡ extentOn 0 1 (sized true (x ∷ xs))
 size-opened x xs e = rw (opened x xs e) (size-mark (bad (x ∷ xs)) (best true (x ∷ xs)))
 
-size-latin : (x : ℕ) (xs : List ℕ) → kind x ≡ latin → sized true (x ∷ xs) ≡ onward 1 1 (sized true xs)
+size-latin : (x : ℕ) (xs : List ℕ) → kind x ≡ latin → sized true (x ∷ xs) ≡ extentOn 1 1 (sized true xs)
 unfolding best bad
 size-latin x xs e = rw e (size-unit (bad xs) x (best true xs))
 
--- and left where no Latin sign is next
-size-leave : (d : List ℕ) → latinNext d ≡ false → sized true d ≡ onward 0 1 (sized false d)
+-- and left where no Latin character is next
+size-leave : (d : List ℕ) → latinNext d ≡ false → sized true d ≡ extentOn 0 1 (sized false d)
 size-leave d n = rw (leave d n) (size-mark (bad d) (best false d))
 
--- wherever the apostrophe goes, a shared sign takes one unit
-size-common : (x : ℕ) (xs : List ℕ) → kind x ≡ common → sized true (x ∷ xs) ≡ onward 1 1 (sized true xs)
+-- wherever the apostrophe goes, a shared character takes one unit
+size-common : (x : ℕ) (xs : List ℕ) → kind x ≡ common → sized true (x ∷ xs) ≡ extentOn 1 1 (sized true xs)
 unfolding best bad
 size-common x xs e = go (latinNext xs) refl
   where
-    go : (q : Bool) → latinNext xs ≡ q → sized true (x ∷ xs) ≡ onward 1 1 (sized true xs)
+    go : (q : Bool) → latinNext xs ≡ q → sized true (x ∷ xs) ≡ extentOn 1 1 (sized true xs)
     go true n = rw (e, n) (size-unit (bad xs) x (best true xs))
     go false n =
-        rw (e, n) (size-mark (behind (bad xs)) (x ∷ best false xs) ∙ ap (onward 0 1) (size-unit (bad xs) x (best false xs)) ∙ onward-onward 0 1 1 1 (sized false xs))
-        ∙ sym (ap (onward 1 1) (size-leave xs n) ∙ onward-onward 1 1 0 1 (sized false xs))
+        rw (e, n) (size-mark (further (bad xs)) (x ∷ best false xs) ∙ ap (extentOn 0 1) (size-unit (bad xs) x (best false xs)) ∙ onward-onward 0 1 1 1 (sized false xs))
+        ∙ sym (ap (extentOn 1 1) (size-leave xs n) ∙ onward-onward 1 1 0 1 (sized false xs))
 
 -- ---- the Russian run
-run-size : (d : List ℕ) → sized false d ≡ onward (run shapes 1 d) (run shapes 1 d) (sized false (drop (run shapes 1 d) d))
+run-size : (d : List ℕ) → sized false d ≡ extentOn (run gridTable 1 d) (run gridTable 1 d) (sized false (drop (run gridTable 1 d) d))
 unfolding run
 run-size [] = onward-none (sized false [])
-run-size (x ∷ xs) = go (ltb 1 (getD shapes x 0)) refl (run-size xs)
+run-size (x ∷ xs) = go (ltb 1 (getD gridTable x 0)) refl (run-size xs)
   where
     r : ℕ
-    r = run shapes 1 xs
+    r = run gridTable 1 xs
 
-    go : (q : Bool) → ltb 1 (getD shapes x 0) ≡ q → sized false xs ≡ onward r r (sized false (drop r xs))
-        → sized false (x ∷ xs) ≡ onward (pick q (suc r) 0) (pick q (suc r) 0) (sized false (drop (pick q (suc r) 0) (x ∷ xs)))
+    go : (q : Bool) → ltb 1 (getD gridTable x 0) ≡ q → sized false xs ≡ extentOn r r (sized false (drop r xs))
+        → sized false (x ∷ xs) ≡ extentOn (pick q (suc r) 0) (pick q (suc r) 0) (sized false (drop (pick q (suc r) 0) (x ∷ xs)))
     go false e ih = onward-none (sized false (x ∷ xs))
     go true e ih =
         let n : 1 + r ≡ suc r = omega arith in
-        size-russian x xs (ltb-true 1 (getD shapes x 0) e) ∙ ap (onward 1 1) ih ∙ onward-onward 1 1 r r (sized false (drop r xs)) ∙ ap (λ (k : ℕ). onward k k (sized false (drop r xs))) n
+        size-russian x xs (ltb-true 1 (getD gridTable x 0) e) ∙ ap (extentOn 1 1) ih ∙ onward-onward 1 1 r r (sized false (drop r xs)) ∙ ap (λ (k : ℕ). extentOn k k (sized false (drop r xs))) n
 
-run-text : (d : List ℕ) → best false d ≡ through shapes false d ++ best false (drop (run shapes 1 d) d)
+run-text : (d : List ℕ) → best false d ≡ through gridTable false d ++ best false (drop (run gridTable 1 d) d)
 unfolding run through
 run-text [] = refl
-run-text (x ∷ xs) = go (ltb 1 (getD shapes x 0)) refl (run-text xs)
+run-text (x ∷ xs) = go (ltb 1 (getD gridTable x 0)) refl (run-text xs)
   where
-    go : (q : Bool) → ltb 1 (getD shapes x 0) ≡ q → best false xs ≡ through shapes false xs ++ best false (drop (run shapes 1 xs) xs)
-        → best false (x ∷ xs) ≡ pick q (getD shapes x 0 ∷ through shapes false xs) [] ++ best false (drop (pick q (suc (run shapes 1 xs)) 0) (x ∷ xs))
+    go : (q : Bool) → ltb 1 (getD gridTable x 0) ≡ q → best false xs ≡ through gridTable false xs ++ best false (drop (run gridTable 1 xs) xs)
+        → best false (x ∷ xs) ≡ pick q (getD gridTable x 0 ∷ through gridTable false xs) [] ++ best false (drop (pick q (suc (run gridTable 1 xs)) 0) (x ∷ xs))
     go false e ih = refl
-    go true e ih = shown x xs (ltb-true 1 (getD shapes x 0) e) .text ∙ ap (λ (u : List ℕ). getD shapes x 0 ∷ u) ih
+    go true e ih = shown x xs (ltb-true 1 (getD gridTable x 0) e) .text ∙ ap (λ (u : List ℕ). getD gridTable x 0 ∷ u) ih
 
 -- ---- the Latin group
 group-first : (x : ℕ) (xs : List ℕ) → latinNext (x ∷ xs) ≡ true → best true (x ∷ xs) ≡ x ∷ best true xs
@@ -239,7 +239,7 @@ group-latin : (x : ℕ) (xs : List ℕ) → kind x ≡ latin → group (x ∷ xs
 unfolding group latinNext
 group-latin x xs e = rw e
 
--- ---- the next sign that is not shared, from a place on
+-- ---- the next character that is not shared, from a place on
 cut : (d : List ℕ) (i : ℕ) → i < length d → drop i d ≡ getD d i 0 ∷ drop (i + 1) d
 cut d i h = rw (add-one, drop-cons d i 0)
 
@@ -264,7 +264,7 @@ pub next-none : (d : List ℕ) (i : ℕ) → length d ≤ i → latinNext (drop 
 unfolding latinNext
 next-none d i h = rw (drop-of-length-le d h)
 
--- ---- the loop that finds a group's end: behind `last` all signs are shared, up to i
+-- ---- the loop that finds a group's end: behind `last` all characters are shared, up to i
 pub record Grouping (d : List ℕ) (from last i : ℕ) : Type 0 where
   pub low : last ≤ i
   pub high : i ≤ length d
@@ -289,7 +289,7 @@ unfolding group
 group-none [] n = refl
 group-none (x ∷ xs) n = rw n
 
--- all signs of a stretch before a Latin sign are in the group
+-- all characters of a stretch before a Latin character are in the group
 stretch : (d : List ℕ) (n a : ℕ) → a + n ≤ length d → ((j : ℕ) → a ≤ j → j < a + n → latinNext (drop j d) ≡ true) → group (drop a d) ≡ n + group (drop (a + n) d)
 stretch d zero a h q = let z : a + 0 ≡ a = omega arith in omega (arith, ap (λ (k : ℕ). group (drop k d)) z)
 stretch d (suc n) a h q =
@@ -329,31 +329,31 @@ module _ (d : List ℕ) (from last i : ℕ) (v : Grouping d from last i) where
       let z : group (drop last d) ≡ 0 = group-none (drop last d) (v .same last (omega arith) (v .low) ∙ n) in
       omega (arith, v .whole)
 
--- ---- the loop along the signs that the Latin side takes
-pub latin-run-start : (d : List ℕ) (from : ℕ) → sized true (drop from d) ≡ onward (from - from) (from - from) (sized true (drop from d))
+-- ---- the loop along the characters that the Latin side takes
+pub latin-run-start : (d : List ℕ) (from : ℕ) → sized true (drop from d) ≡ extentOn (from - from) (from - from) (sized true (drop from d))
 latin-run-start d from = let z : from - from ≡ 0 = omega arith in rw z (onward-none (sized true (drop from d)))
 
-module _ (d : List ℕ) (from i : ℕ) (low : from ≤ i) (h : i < length d) (v : sized true (drop from d) ≡ onward (i - from) (i - from) (sized true (drop i d))) where
-  one-more : sized true (getD d i 0 ∷ drop (i + 1) d) ≡ onward 1 1 (sized true (drop (i + 1) d)) → sized true (drop from d) ≡ onward (i + 1 - from) (i + 1 - from) (sized true (drop (i + 1) d))
+module _ (d : List ℕ) (from i : ℕ) (low : from ≤ i) (h : i < length d) (v : sized true (drop from d) ≡ extentOn (i - from) (i - from) (sized true (drop i d))) where
+  one-more : sized true (getD d i 0 ∷ drop (i + 1) d) ≡ extentOn 1 1 (sized true (drop (i + 1) d)) → sized true (drop from d) ≡ extentOn (i + 1 - from) (i + 1 - from) (sized true (drop (i + 1) d))
   one-more e =
       let z : i - from + 1 ≡ i + 1 - from = omega arith in
       v
-      ∙ ap (λ (b : List ℕ). onward (i - from) (i - from) (sized true b)) (cut d i h)
-      ∙ ap (onward (i - from) (i - from)) e
+      ∙ ap (λ (b : List ℕ). extentOn (i - from) (i - from) (sized true b)) (cut d i h)
+      ∙ ap (extentOn (i - from) (i - from)) e
       ∙ onward-onward (i - from) (i - from) 1 1 (sized true (drop (i + 1) d))
-      ∙ ap (λ (k : ℕ). onward k k (sized true (drop (i + 1) d))) z
+      ∙ ap (λ (k : ℕ). extentOn k k (sized true (drop (i + 1) d))) z
 
-  pub latin-run-latin : kind (getD d i 0) ≡ latin → sized true (drop from d) ≡ onward (i + 1 - from) (i + 1 - from) (sized true (drop (i + 1) d))
+  pub latin-run-latin : kind (getD d i 0) ≡ latin → sized true (drop from d) ≡ extentOn (i + 1 - from) (i + 1 - from) (sized true (drop (i + 1) d))
   latin-run-latin k = one-more (size-latin (getD d i 0) (drop (i + 1) d) k)
 
-  pub latin-run-common : kind (getD d i 0) ≡ common → sized true (drop from d) ≡ onward (i + 1 - from) (i + 1 - from) (sized true (drop (i + 1) d))
+  pub latin-run-common : kind (getD d i 0) ≡ common → sized true (drop from d) ≡ extentOn (i + 1 - from) (i + 1 - from) (sized true (drop (i + 1) d))
   latin-run-common k = one-more (size-common (getD d i 0) (drop (i + 1) d) k)
 
--- ---- the loop that measures: i signs are taken, marks apostrophes written, and the Russian side is next
+-- ---- the loop that measures: i characters are taken, marks apostrophes written, and the Russian side is next
 pub record Weighing (desk : List ℕ) (marks i : ℕ) : Type 0 where
   pub long : i ≤ length desk
   pub few : marks ≤ 2 * i
-  pub whole : extentOf (writes desk) ≡ onward i (i + marks) (sized false (drop i desk))
+  pub whole : extentOf (writes desk) ≡ extentOn i (i + marks) (sized false (drop i desk))
 
 pub weighing-start : (desk : List ℕ) → Weighing desk 0 0
 unfolding writes
@@ -363,13 +363,13 @@ pub weighing-end : (desk : List ℕ) (marks i : ℕ) → Weighing desk marks i �
 unfolding best bad
 weighing-end desk marks i v h =
     let z : i + marks + 0 ≡ i + marks = omega arith in
-    sym (v .whole ∙ ap (λ (b : List ℕ). onward i (i + marks) (sized false b)) (drop-of-length-le desk h) ∙ ap Takes z)
+    sym (v .whole ∙ ap (λ (b : List ℕ). extentOn i (i + marks) (sized false b)) (drop-of-length-le desk h) ∙ ap Takes z)
 
-module _ (desk : List ℕ) (marks i k : ℕ) (v : Weighing desk marks i) (r : k ≡ i + run shapes 1 (drop i desk)) (w : Ended shapes 1 desk k) where
+module _ (desk : List ℕ) (marks i k : ℕ) (v : Weighing desk marks i) (r : k ≡ i + run gridTable 1 (drop i desk)) (w : Ended gridTable 1 desk k) where
   -- the Russian run
   pub weighing-run : Weighing desk marks k
   weighing-run =
-      let n : ℕ = run shapes 1 (drop i desk) in
+      let n : ℕ = run gridTable 1 (drop i desk) in
       let z : Extent = sized false (drop k desk) in
       let a : i + n ≡ k = sym r in
       let b : i + marks + n ≡ k + marks = omega arith in
@@ -378,20 +378,20 @@ module _ (desk : List ℕ) (marks i k : ℕ) (v : Weighing desk marks i) (r : k 
         few = omega (arith, v .few);
         whole =
             v .whole
-            ∙ ap (onward i (i + marks)) (run-size (drop i desk))
-            ∙ ap (λ (b : List ℕ). onward i (i + marks) (onward n n (sized false b))) (drop-drop n i desk ∙ ap (λ (m : ℕ). drop m desk) a)
+            ∙ ap (extentOn i (i + marks)) (run-size (drop i desk))
+            ∙ ap (λ (b : List ℕ). extentOn i (i + marks) (extentOn n n (sized false b))) (drop-drop n i desk ∙ ap (λ (m : ℕ). drop m desk) a)
             ∙ onward-onward i (i + marks) n n z
-            ∙ ap (λ (m : ℕ). onward m (i + marks + n) z) a
-            ∙ ap (λ (m : ℕ). onward k m z) b;
+            ∙ ap (λ (m : ℕ). extentOn m (i + marks + n) z) a
+            ∙ ap (λ (m : ℕ). extentOn k m z) b;
       }
 
 module _ (desk : List ℕ) (marks k : ℕ) (v : Weighing desk marks k) (h : k < length desk) where
   pub weighed-bad : kind (getD desk k 0) ≡ unwritable → Halts k ≡ extentOf (writes desk)
   weighed-bad e =
       let z : k + 0 ≡ k = omega arith in
-      sym (v .whole ∙ ap (λ (b : List ℕ). onward k (k + marks) (sized false b)) (cut desk k h) ∙ ap (onward k (k + marks)) (size-unwritable false (getD desk k 0) (drop (k + 1) desk) e) ∙ ap Halts z)
+      sym (v .whole ∙ ap (λ (b : List ℕ). extentOn k (k + marks) (sized false b)) (cut desk k h) ∙ ap (extentOn k (k + marks)) (size-unwritable false (getD desk k 0) (drop (k + 1) desk) e) ∙ ap Halts z)
 
-  -- a Latin letter, and the signs that the Latin side takes behind it: two apostrophes
+  -- a Latin letter, and the characters that the Latin side takes behind it: two apostrophes
   pub weighing-latin : (r : ℕ) → kind (getD desk k 0) ≡ latin → LatinRun desk (k + 1) r → Weighing desk (marks + 2) r
   weighing-latin r e w =
       let x : ℕ = getD desk k 0 in
@@ -405,17 +405,17 @@ module _ (desk : List ℕ) (marks k : ℕ) (v : Weighing desk marks k) (h : k < 
         few = omega (arith, v .few, w .low);
         whole =
             v .whole
-            ∙ ap (λ (b : List ℕ). onward k (k + marks) (sized false b)) (cut desk k h)
-            ∙ ap (onward k (k + marks)) (size-opened x xs e)
+            ∙ ap (λ (b : List ℕ). extentOn k (k + marks) (sized false b)) (cut desk k h)
+            ∙ ap (extentOn k (k + marks)) (size-opened x xs e)
             ∙ onward-onward k (k + marks) 0 1 (sized true (x ∷ xs))
-            ∙ ap (onward (k + 0) (k + marks + 1)) (size-latin x xs e)
+            ∙ ap (extentOn (k + 0) (k + marks + 1)) (size-latin x xs e)
             ∙ onward-onward (k + 0) (k + marks + 1) 1 1 (sized true xs)
-            ∙ ap (onward (k + 0 + 1) (k + marks + 1 + 1)) (w .sizes)
+            ∙ ap (extentOn (k + 0 + 1) (k + marks + 1 + 1)) (w .sizes)
             ∙ onward-onward (k + 0 + 1) (k + marks + 1 + 1) n n (sized true (drop r desk))
-            ∙ ap (onward (k + 0 + 1 + n) (k + marks + 1 + 1 + n)) (size-leave (drop r desk) (w .ends))
+            ∙ ap (extentOn (k + 0 + 1 + n) (k + marks + 1 + 1 + n)) (size-leave (drop r desk) (w .ends))
             ∙ onward-onward (k + 0 + 1 + n) (k + marks + 1 + 1 + n) 0 1 z
-            ∙ ap (λ (m : ℕ). onward m (k + marks + 1 + 1 + n + 1) z) a
-            ∙ ap (λ (m : ℕ). onward r m z) b;
+            ∙ ap (λ (m : ℕ). extentOn m (k + marks + 1 + 1 + n + 1) z) a
+            ∙ ap (λ (m : ℕ). extentOn r m z) b;
       }
 
 -- what was measured
@@ -432,7 +432,7 @@ measured desk n e = go (bad desk) refl e
     go nowhere b e = record { fine = b; is = rw b; count = cc }
     go (at k) b e = absurd (takes-halts n k e)
 
--- ---- the loop that writes: i signs are taken, and what is written for them is put
+-- ---- the loop that writes: i characters are taken, and what is written for them is put
 pub record Writing (desk out₀ out : List ℕ) (from n i : ℕ) : Type 0 where
   pub long : i ≤ length desk
   pub is : Putting out₀ out from n (best false desk) (best false (drop i desk))
@@ -440,7 +440,7 @@ pub record Writing (desk out₀ out : List ℕ) (from n i : ℕ) : Type 0 where
 pub writing-start : (desk out : List ℕ) (from : ℕ) → from + length (best false desk) ≤ length out → Writing desk out out from from 0
 writing-start desk out from h = record { long = omega arith; is = putting-start out from (best false desk) h }
 
--- in a text that can be written every sign can be
+-- in a text that can be written every character can be
 all-fine : (d : List ℕ) (i : ℕ) → bad d ≡ nowhere → i < length d → kind (getD d i 0) ≡ unwritable → ⊥
 unfolding bad
 all-fine [] i b h e = omega arith
@@ -453,26 +453,26 @@ module _ {desk out₀ out : List ℕ} {from n i : ℕ} (v : Writing desk out₀ 
   writing-end h = putting-end (v .is) (ap (best false) (drop-of-length-le desk h))
 
   -- the Russian run
-  module _ (k : ℕ) (e : k ≡ i + run shapes 1 (drop i desk)) where
-    over-run : best false (drop i desk) ≡ through shapes false (drop i desk) ++ best false (drop k desk)
-    over-run = run-text (drop i desk) ∙ ap (λ (b : List ℕ). through shapes false (drop i desk) ++ best false b) (drop-drop (run shapes 1 (drop i desk)) i desk ∙ ap (λ (j : ℕ). drop j desk) (sym e))
+  module _ (k : ℕ) (e : k ≡ i + run gridTable 1 (drop i desk)) where
+    over-run : best false (drop i desk) ≡ through gridTable false (drop i desk) ++ best false (drop k desk)
+    over-run = run-text (drop i desk) ∙ ap (λ (b : List ℕ). through gridTable false (drop i desk) ++ best false b) (drop-drop (run gridTable 1 (drop i desk)) i desk ∙ ap (λ (j : ℕ). drop j desk) (sym e))
 
-    pub run-step : Writing desk out₀ (sets out n (through shapes false (drop i desk))) from (n + (k - i)) k
+    pub run-step : Writing desk out₀ (sets out n (through gridTable false (drop i desk))) from (n + (k - i)) k
     run-step =
         record {
-          long = ended shapes 1 desk i k (v .long) e .within;
-          is = putting-by (v .is) (through shapes false (drop i desk)) (best false (drop k desk)) over-run (n + (k - i)) (omega (arith, through-length shapes false (drop i desk)));
+          long = ended gridTable 1 desk i k (v .long) e .within;
+          is = putting-by (v .is) (through gridTable false (drop i desk)) (best false (drop k desk)) over-run (n + (k - i)) (omega (arith, through-length gridTable false (drop i desk)));
         }
 
-  pub run-room : n + length (through shapes false (drop i desk)) ≤ length out
-  run-room = putting-room (v .is) (through shapes false (drop i desk)) _ (over-run (i + run shapes 1 (drop i desk)) refl)
+  pub run-room : n + length (through gridTable false (drop i desk)) ≤ length out
+  run-room = putting-room (v .is) (through gridTable false (drop i desk)) _ (over-run (i + run gridTable 1 (drop i desk)) refl)
 
   -- the Latin group behind it
-  module _ (b : bad desk ≡ nowhere) (h : i < length desk) (c : getD shapes (getD desk i 0) 0 ≤ 1) where
+  module _ (b : bad desk ≡ nowhere) (h : i < length desk) (c : getD gridTable (getD desk i 0) 0 ≤ 1) where
     is-here : kind (getD desk i 0) ≡ latin
-    is-here = go (decLt (getD shapes (getD desk i 0) 0) 1)
+    is-here = go (decLt (getD gridTable (getD desk i 0) 0) 1)
       where
-        go : Dec (getD shapes (getD desk i 0) 0 < 1) → kind (getD desk i 0) ≡ latin
+        go : Dec (getD gridTable (getD desk i 0) 0 < 1) → kind (getD desk i 0) ≡ latin
         go (yes z) = absurd (all-fine desk i b h (is-unwritable (getD desk i 0) (omega arith)))
         go (no z) = is-latin (getD desk i 0) (omega arith)
 

@@ -6,14 +6,14 @@ use lib.Dec.{eqb}
 use Rattle.base.specs.Choice.{pick}
 use Rattle.base.specs.Bytes.{xset}
 use Rattle.base.specs.Calls.{Answer, said, stuck}
-use Rattle.alphabets.specs.Grid.{sign}
+use Rattle.alphabets.specs.Grid.{character}
 
 -- one byte more in front that stands for nothing
 abbrev pub past : Answer → Answer
 past (said t) = said t
 past (stuck k) = stuck (suc k)
 
--- one byte more in front that stands for the sign y, or has no reading where y is 0
+-- one byte more in front that stands for the character y, or has no reading where y is 0
 abbrev pub after : ℕ → Answer → Answer
 after zero a = stuck 0
 after (suc y) (said t) = said (suc y ∷ t)
@@ -23,7 +23,7 @@ after (suc y) (stuck k) = stuck (suc k)
 unfoldable pub reads : Bool → List ℕ → Answer
 reads false [] = said []
 reads true [] = stuck 0
-reads s (x ∷ xs) = pick (eqb x 39) (past (reads (not s) xs)) (after (sign s x) (reads s xs))
+reads s (x ∷ xs) = pick (eqb x 39) (past (reads (not s) xs)) (after (character s x) (reads s xs))
 
 -- without the sign a text is its own bytes of the x set
 unfoldable pub plainly : List ℕ → Answer

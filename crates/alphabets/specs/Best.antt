@@ -7,7 +7,7 @@ use Rattle.base.specs.Calls.{Answer, said, stuck}
 use Rattle.alphabets.specs.Grid.{Kind, unwritable, russian, latin, common, kind, spell}
 use Rattle.alphabets.specs.Bank.{plainly}
 
--- the next sign that is not shared is Latin
+-- the next character that is not shared is Latin
 abbrev pub latinFirst : Kind → Bool → Bool
 latinFirst unwritable b = false
 latinFirst russian b = false
@@ -18,7 +18,7 @@ unfoldable pub latinNext : List ℕ → Bool
 latinNext [] = false
 latinNext (x ∷ xs) = latinFirst (kind x) (latinNext xs)
 
--- the side on which a sign is written: its own; a shared sign stays on the Latin side only before a Latin sign
+-- the side on which a character is written: its own; a shared character stays on the Latin side only before a Latin character
 abbrev pub sideFor : Kind → Bool → Bool → Bool
 sideFor unwritable s n = false
 sideFor russian s n = false
@@ -40,20 +40,20 @@ best s (x ∷ xs) =
     let t : Bool = sideFor (kind x) s (latinNext xs) in
     cross s t (spell (kind x) t x ∷ best t xs)
 
--- the place of the first sign that can't be written
+-- the place of the first character that can't be written
 pub data Spot : Type 0 where
   nowhere : Spot
   at : ℕ → Spot
 
-abbrev pub behind : Spot → Spot
-behind nowhere = nowhere
-behind (at k) = at (suc k)
+abbrev pub further : Spot → Spot
+further nowhere = nowhere
+further (at k) = at (suc k)
 
 abbrev pub spotAfter : Kind → Spot → Spot
 spotAfter unwritable p = at 0
-spotAfter russian p = behind p
-spotAfter latin p = behind p
-spotAfter common p = behind p
+spotAfter russian p = further p
+spotAfter latin p = further p
+spotAfter common p = further p
 
 unfoldable pub bad : List ℕ → Spot
 bad [] = nowhere

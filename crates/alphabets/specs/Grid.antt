@@ -1,4 +1,4 @@
--- The table: from a desk sign (a byte of windows-1251) to the bank letter that stands for it, 0 where it has none (T2, T9). Assumes nothing.
+-- The table: from a desk character (a byte of windows-1251) to the bank letter that stands for it, 0 where it has none (T2, T9). Assumes nothing.
 use Prim.Native.Nat.{ℕ, suc}
 use mathlib.Core.List.{List, [], _∷_}
 use mathlib.Core.Bool.{Bool, true, false, not, _||_}
@@ -7,7 +7,7 @@ use lib.ListN.{getD}
 use Rattle.base.specs.Choice.{pick}
 use Rattle.base.specs.Bytes.{letter, shared}
 
--- row by row, 16 signs to a row
+-- row by row, 16 characters to a row
 unfoldable pub grid : List ℕ
 grid =
     0 ∷ 0 ∷ 0 ∷ 0 ∷ 0 ∷ 0 ∷ 0 ∷ 0 ∷ 0 ∷ 0 ∷ 0 ∷ 0 ∷ 0 ∷ 0 ∷ 0 ∷ 0
@@ -30,19 +30,19 @@ grid =
 pub data Kind : Type 0 where
   unwritable russian latin common : Kind
 
--- what a desk sign is: one of the 34, a Latin letter, a sign that both alphabets share, or none of these
+-- what a desk character is: one of the 34, a Latin letter, a character that both alphabets share, or none of these
 unfoldable pub kind : ℕ → Kind
 kind x = pick (not (eqb (getD grid x 0) 0)) russian (pick (letter x) latin (pick (shared x) common unwritable))
 
 -- a side is a Bool: false is the Russian side, true the Latin one, between apostrophes
--- the sides on which a sign of a kind can be written
+-- the sides on which a character of a kind can be written
 abbrev pub allowed : Kind → Bool → Bool
 allowed unwritable s = false
 allowed russian s = not s
 allowed latin s = s
 allowed common s = true
 
--- the bank byte that stands for a sign of a kind on a side, 0 where none does
+-- the bank byte that stands for a character of a kind on a side, 0 where none does
 abbrev pub spell : Kind → Bool → ℕ → ℕ
 spell unwritable s x = 0
 spell russian true x = 0
@@ -52,11 +52,11 @@ spell latin false x = 0
 spell common s x = x
 
 -- the table backwards: the place of y in the list, counted from k; 0 where y is not there
-abbrev pub place : ℕ → ℕ → List ℕ → ℕ
-place y k [] = 0
-place y k (x ∷ xs) = pick (eqb x y) k (place y (suc k) xs)
+abbrev pub indexOf : ℕ → ℕ → List ℕ → ℕ
+indexOf y k [] = 0
+indexOf y k (x ∷ xs) = pick (eqb x y) k (indexOf y (suc k) xs)
 
--- the desk sign that a bank byte stands for on a side, 0 where it has no reading
-unfoldable pub sign : Bool → ℕ → ℕ
-sign true y = pick (letter y || shared y) y 0
-sign false y = pick (shared y) y (pick (letter y) (place y 0 grid) 0)
+-- the desk character that a bank byte stands for on a side, 0 where it has no reading
+unfoldable pub character : Bool → ℕ → ℕ
+character true y = pick (letter y || shared y) y 0
+character false y = pick (shared y) y (pick (letter y) (indexOf y 0 grid) 0)

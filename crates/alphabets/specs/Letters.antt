@@ -1,27 +1,18 @@
 -- The table letter by letter, as a list of worked examples (T2, T3, T5, T6, T9). Assumes nothing.
-use Prim.Native.Nat.{ℕ, _-_}
-use Prim.Native.Char.{code}
-use Prim.Native.String as string
+use Prim.Native.Nat.{ℕ}
 use Prim.Native.String.{String}
 use mathlib.Core.Path.{_≡_}
-use mathlib.Core.Bool.{true, _&&_}
+use mathlib.Core.Bool.{true}
 use mathlib.Core.List.{List, [], _∷_}
-use lib.Dec.{eqb, leb}
+use lib.Dec.{eqb}
 use lib.ListN.{length}
 use Rattle.base.specs.Choice.{pick}
 use Rattle.base.specs.Bytes.{values}
 use Rattle.base.specs.Calls.{said, stuck}
 use Rattle.base.specs.Examples.{AllHold}
+use Rattle.base.specs.Quoted.{bytes, desk}
 use Rattle.alphabets.specs.Bank.{reading}
 use Rattle.alphabets.specs.Best.{writing}
-
--- a sign's byte in windows-1251: А to я stand in a row, Ё, ё and № elsewhere
-abbrev pub byteOf : ℕ → ℕ
-byteOf c = pick (leb 1040 c && leb c 1103) (c - 848) (pick (eqb c 1025) 168 (pick (eqb c 1105) 184 (pick (eqb c 8470) 185 c)))
-
-abbrev pub bytes : String → List ℕ
-bytes string.[] = []
-bytes (string._∷_ c s) = byteOf (code c) ∷ bytes s
 
 -- the 34 of T2, each bank letter under its desk letter
 abbrev pub deskLetters : String
@@ -38,20 +29,20 @@ under (d ∷ ds) (b ∷ bs) x = pick (eqb x d) b (under ds bs x)
 
 -- texts with the sign
 pub data Case : Type 0 where
-  -- these signs are the bytes from n on, in a row
+  -- these characters are the bytes from n on, in a row
   row : ℕ → String → Case
   -- the desk text is written as the bank text, which reads as it
   both : String → String → Case
   -- each of these letters alone is a bank text that stops at its first byte, so 14 at 0
   unread : String → Case
-  -- each of these signs alone is a desk text that stops there, so 15 at 0
+  -- each of these characters alone is a desk text that stops there, so 15 at 0
   unwritten : String → Case
 
 abbrev pub Holds : Case → Type 0
-Holds (row n l) = bytes l ≡ values (λ (x : ℕ). x) n (length (bytes l))
-Holds (both d b) = (writing true (bytes d) ≡ said (bytes b)) × (reading true (bytes b) ≡ said (bytes d))
+Holds (row n l) = desk l ≡ values (λ (x : ℕ). x) n (length (desk l))
+Holds (both d b) = (writing true (desk d) ≡ said (bytes b)) × (reading true (bytes b) ≡ said (desk d))
 Holds (unread l) = AllHold (λ (y : ℕ). reading true (y ∷ []) ≡ stuck 0) (bytes l)
-Holds (unwritten l) = AllHold (λ (x : ℕ). writing true (x ∷ []) ≡ stuck 0) (bytes l)
+Holds (unwritten l) = AllHold (λ (x : ℕ). writing true (x ∷ []) ≡ stuck 0) (desk l)
 
 unfoldable pub cases : List Case
 cases =

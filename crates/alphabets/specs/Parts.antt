@@ -29,16 +29,16 @@ extent sign desk = pick (ltb 10000 (length desk)) Long (extentOf (writing sign d
 unfoldable pub written : Bool → List ℕ → List ℕ
 written sign desk = pick (ltb 10000 (length desk)) [] (textOf (writing sign desk))
 
--- told that it takes n bytes: the text that is put is the one that D3 asks for, and n is its length
-pub record ToldLong (s : Bool) (desk : List ℕ) (n : ℕ) : Type 0 where
+-- the answer is that it takes n bytes: the text that is put is the one that D3 asks for, and n is its length
+pub record WhenTakes (s : Bool) (desk : List ℕ) (n : ℕ) : Type 0 where
   pub within : length desk ≤ 10000
   pub is : writing s desk ≡ said (written s desk)
   pub shortest : Shortest s desk (written s desk)
   pub count : n ≡ length (written s desk)
   pub small : n ≤ 20000
 
--- told that it halts at k: that is the first byte that can't be written, no bank text reads as it, and none is put
-pub record ToldHalt (s : Bool) (desk : List ℕ) (k : ℕ) : Type 0 where
+-- the answer is that it halts at k: that is the first byte that can't be written, no bank text reads as it, and none is put
+pub record WhenHalts (s : Bool) (desk : List ℕ) (k : ℕ) : Type 0 where
   pub within : length desk ≤ 10000
   pub is : writing s desk ≡ stuck k
   pub unsaid : Unwritable s desk

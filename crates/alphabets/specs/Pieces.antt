@@ -1,4 +1,4 @@
--- Only the code's way needs this. A bank text read in pieces by a lent table, and its first signs (T4-T7). Assumes nothing.
+-- Only the code's way needs this. A bank text read in pieces by a lent table, and its first characters (T4-T7). Assumes nothing.
 use Prim.Native.Nat.{ℕ, zero, suc, _+_}
 use mathlib.Core.List.{List, [], _∷_}
 use mathlib.Core.Bool.{Bool, true, false, not}
@@ -9,9 +9,9 @@ use Rattle.base.specs.Calls.{Answer, said, stuck}
 use Rattle.alphabets.specs.Runs.{floorOf, heardOf}
 use Rattle.alphabets.specs.declared.pieces.Piece.{Piece}
 use Rattle.alphabets.specs.declared.pieces.Piece.the-variants.{Read, Stops}
-use Rattle.alphabets.specs.declared.pieces.Sign.{Sign}
+use Rattle.alphabets.specs.declared.pieces.Character.{Character}
 
--- a piece behind i bytes with n signs
+-- a piece behind i bytes with n characters
 abbrev pub pieceAfter : ℕ → ℕ → Piece → Piece
 pieceAfter i n (Read m s) = Read (n + m) s
 pieceAfter i n (Stops k) = Stops (i + k)
@@ -33,21 +33,21 @@ whole n (Read m false) u = said u
 whole n (Read m true) u = stuck n
 whole n (Stops k) u = stuck k
 
--- the first sign: what it stands for, the place behind it and the side there; 0 where there is none, the place where the text stops, the side there
-abbrev pub signAfter : ℕ → Sign → Sign
-signAfter i r = record { value = r .value; next = i + r .next; latin = r .latin }
+-- the first character: what it stands for, the place behind it and the side there; 0 where there is none, the place where the text stops, the side there
+abbrev pub characterAfter : ℕ → Character → Character
+characterAfter i r = record { value = r .value; next = i + r .next; latin = r .latin }
 
-unfoldable pub signIn : List ℕ → Bool → List ℕ → Sign
-signIn t s [] = record { value = 0; next = 0; latin = s }
-signIn t s (x ∷ xs) =
+unfoldable pub characterIn : List ℕ → Bool → List ℕ → Character
+characterIn t s [] = record { value = 0; next = 0; latin = s }
+characterIn t s (x ∷ xs) =
     pick (ltb (floorOf s) (getD t x 0)) (record { value = heardOf s (getD t x 0) x; next = 1; latin = s })
-    (pick (eqb x 39) (signAfter 1 (signIn t (not s) xs)) (record { value = 0; next = 0; latin = s }))
+    (pick (eqb x 39) (characterAfter 1 (characterIn t (not s) xs)) (record { value = 0; next = 0; latin = s }))
 
 -- the same from place i on
-unfoldable pub signFrom : List ℕ → Bool → List ℕ → ℕ → Sign
-signFrom t s b i = signAfter i (signIn t s (drop i b))
+unfoldable pub characterFrom : List ℕ → Bool → List ℕ → ℕ → Character
+characterFrom t s b i = characterAfter i (characterIn t s (drop i b))
 
--- the first n signs from place i on, 0 for each that is missing
-unfoldable pub signsFrom : List ℕ → ℕ → Bool → List ℕ → ℕ → List ℕ
-signsFrom t zero s b i = []
-signsFrom t (suc n) s b i = let r : Sign = signFrom t s b i in r .value ∷ signsFrom t n (r .latin) b (r .next)
+-- the first n characters from place i on, 0 for each that is missing
+unfoldable pub charactersFrom : List ℕ → ℕ → Bool → List ℕ → ℕ → List ℕ
+charactersFrom t zero s b i = []
+charactersFrom t (suc n) s b i = let r : Character = characterFrom t s b i in r .value ∷ charactersFrom t n (r .latin) b (r .next)

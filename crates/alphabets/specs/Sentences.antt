@@ -11,7 +11,7 @@ use Rattle.base.specs.Bytes.{byte, xset}
 use Rattle.base.specs.Calls.{said}
 use Rattle.base.specs.declared.Outcome.{Outcome}
 use Rattle.base.specs.declared.Outcome.the-variants.{Done, Refused}
-use Rattle.alphabets.specs.Grid.{Kind, unwritable, russian, latin, common, kind, sign}
+use Rattle.alphabets.specs.Grid.{Kind, unwritable, russian, latin, common, kind, character}
 use Rattle.alphabets.specs.Bank.{reading, quoted}
 use Rattle.alphabets.specs.Text.{bankLimit, deskLimit}
 
@@ -60,7 +60,7 @@ sideBehind z (x ∷ xs) = sideBehind (pick (eqb x 39) (not z) z) xs
 
 -- a byte has a reading on side z: it is an apostrophe, or it stands for something there
 abbrev pub heardOn : Bool → ℕ → Bool
-heardOn z x = eqb x 39 || not (eqb (sign z x) 0)
+heardOn z x = eqb x 39 || not (eqb (character z x) 0)
 
 -- the byte at k has one on its side, in a text that starts on side z
 abbrev pub heardAt : Bool → List ℕ → ℕ → Bool

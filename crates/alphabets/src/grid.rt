@@ -1,5 +1,5 @@
-// The table, from a desk sign to what is written for it on the Russian side: its bank letter, itself where both alphabets share it,
-// 1 for a Latin letter, 0 for a sign that can't be written.
+// The table, from a desk character to what is written for it on the Russian side: its bank letter, itself where both alphabets share it,
+// 1 for a Latin letter, 0 for a character that can't be written.
 pub(crate) const GRID: [u8; 256] = [
     0,
     0,

@@ -1,5 +1,5 @@
 // Two alphabets: what a bank text says, whole and in pieces; and a desk text written as the shortest bank text, alone and inside larger room.
-mod codes;
+mod backwards;
 mod grid;
 pub mod parts;
 pub mod pieces;

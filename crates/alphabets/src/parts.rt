@@ -29,7 +29,7 @@ pub(crate) fn fits(room: usize, at: usize, n: usize) -> bool
     at <= room - n
 }
 
-// Without the sign a text is its own bytes of the x set: put into the room from a place on, where it is one and fits.
+// Without the character a text is its own bytes of the x set: put into the room from a place on, where it is one and fits.
 pub(crate) fn put_plain(text: &[u8], out: &mut [u8], at: usize) -> Extent
     ensures { λ r. ⌜ (r ≡ extentOf (plainly (now (text .entry)))) × (now (out .exit) ≡ placed (now (out .entry)) at (textOf (plainly (now (text .entry))))) ⌝ }
 {

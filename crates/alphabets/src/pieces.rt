@@ -1,28 +1,28 @@
-// A bank text read in pieces, as details that run over lines are, and its first signs. The table is lent, so that it is made once.
+// A bank text read in pieces, as details that run over lines are, and its first characters. The table is lent, so that it is made once.
 ghost use mathlib.Core.Path.{_≡_};
 ghost use mathlib.Core.Bool.{false};
-ghost use Rattle.alphabets.specs.Steps.{codes};
+ghost use Rattle.alphabets.specs.Steps.{backTable};
 ghost use Rattle.alphabets.specs.Runs.{floorOf, heardOf};
-ghost use Rattle.alphabets.specs.Pieces.{pieceIn, signFrom, signsFrom};
-use super::codes::BACK;
+ghost use Rattle.alphabets.specs.Pieces.{pieceIn, characterFrom, charactersFrom};
+use super::backwards::BACK;
 use super::runs::run_of;
 use super::runs::value;
 
-// How many signs a piece has and the side behind it, or the place where it stops.
+// How many characters a piece has and the side behind it, or the place where it stops.
 pub enum Piece {
     Read { units: usize, latin: bool },
     Stops(usize),
 }
 
-// A sign, 0 where there is none; the place behind it, and the side there.
-pub struct Sign {
+// A character, 0 where there is none; the place behind it, and the side there.
+pub struct Character {
     pub value: u8,
     pub next: usize,
     pub latin: bool,
 }
 
 pub fn back_table() -> [u8; 256]
-    ensures { λ r. ⌜ r ≡ codes ⌝ }
+    ensures { λ r. ⌜ r ≡ backTable ⌝ }
 {
     BACK
 }
@@ -73,9 +73,9 @@ pub fn read_piece(back: &[u8; 256], latin: bool, part: &[u8]) -> Piece
     }
 }
 
-// The first sign from a place on.
-fn sign_from(back: &[u8; 256], latin: bool, part: &[u8], from: usize) -> Sign
-    ensures { λ r. ⌜ r ≡ signFrom (now (back .entry)) latin (now (part .entry)) from ⌝ }
+// The first character from a place on.
+fn character_from(back: &[u8; 256], latin: bool, part: &[u8], from: usize) -> Character
+    ensures { λ r. ⌜ r ≡ characterFrom (now (back .entry)) latin (now (part .entry)) from ⌝ }
 {
     let mut side = latin;
     let mut i = from;
@@ -83,14 +83,14 @@ fn sign_from(back: &[u8; 256], latin: bool, part: &[u8], from: usize) -> Sign
         let b = part[i];
         let v = value(back, b);
         if floor_of(side) < v {
-            return Sign {
+            return Character {
                 value: heard_of(side, v, b),
                 next: i + 1,
                 latin: side,
             };
         }
         if b != b'\'' {
-            return Sign {
+            return Character {
                 value: 0,
                 next: i,
                 latin: side,
@@ -99,20 +99,20 @@ fn sign_from(back: &[u8; 256], latin: bool, part: &[u8], from: usize) -> Sign
         side = !side;
         i += 1;
     }
-    Sign {
+    Character {
         value: 0,
         next: i,
         latin: side,
     }
 }
 
-// The first four signs, 0 for each that is missing.
-pub fn first_signs(back: &[u8; 256], part: &[u8]) -> [u8; 4]
-    ensures { λ r. ⌜ r ≡ signsFrom (now (back .entry)) 4 false (now (part .entry)) 0 ⌝ }
+// The first four characters, 0 for each that is missing.
+pub fn first_characters(back: &[u8; 256], part: &[u8]) -> [u8; 4]
+    ensures { λ r. ⌜ r ≡ charactersFrom (now (back .entry)) 4 false (now (part .entry)) 0 ⌝ }
 {
-    let a = sign_from(back, false, part, 0);
-    let b = sign_from(back, a.latin, part, a.next);
-    let c = sign_from(back, b.latin, part, b.next);
-    let d = sign_from(back, c.latin, part, c.next);
+    let a = character_from(back, false, part, 0);
+    let b = character_from(back, a.latin, part, a.next);
+    let c = character_from(back, b.latin, part, b.next);
+    let d = character_from(back, c.latin, part, c.next);
     [a.value, b.value, c.value, d.value]
 }

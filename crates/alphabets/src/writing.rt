@@ -8,7 +8,7 @@ ghost use mathlib.Core.Bool.{false};
 ghost use Rattle.base.specs.Calls.{placed};
 ghost use Rattle.alphabets.specs.Best.{best, nowhere, bad, writes};
 ghost use Rattle.alphabets.specs.Parts.{extentOf};
-ghost use Rattle.alphabets.specs.Steps.{shapes, group, LatinRun};
+ghost use Rattle.alphabets.specs.Steps.{gridTable, group, LatinRun};
 use super::grid::GRID;
 use super::parts::Extent;
 use super::runs::run_of;
@@ -17,20 +17,20 @@ use super::runs::value;
 
 // The table, made once a call and lent down.
 pub(crate) fn grid_table() -> [u8; 256]
-    ensures { λ r. ⌜ r ≡ shapes ⌝ }
+    ensures { λ r. ⌜ r ≡ gridTable ⌝ }
 {
     GRID
 }
 
-// A stretch of signs that the Latin side takes: the place behind its last Latin letter, and the place behind it.
+// A stretch of characters that the Latin side takes: the place behind its last Latin letter, and the place behind it.
 struct Stretch {
     last: usize,
     end: usize,
 }
 
-// The stretch from a place on. The shared signs behind its last letter are looked through twice at most, so the whole is linear.
+// The stretch from a place on. The shared characters behind its last letter are looked through twice at most, so the whole is linear.
 fn stretch_from(grid: &[u8; 256], desk: &[u8], from: usize) -> Stretch
-    requires { ⌜ (now grid ≡ shapes) × (from ≤ length (now desk)) ⌝ }
+    requires { ⌜ (now grid ≡ gridTable) × (from ≤ length (now desk)) ⌝ }
     ensures { λ r. ⌜ (r .last ≡ from + group (drop from (now (desk .entry)))) × LatinRun (now (desk .entry)) from (r .end) ⌝ }
 {
     let mut last = from;
@@ -55,7 +55,7 @@ fn stretch_from(grid: &[u8; 256], desk: &[u8], from: usize) -> Stretch
 }
 
 pub(crate) fn measure_desk(grid: &[u8; 256], desk: &[u8]) -> Extent
-    requires { ⌜ (now grid ≡ shapes) × (length (now desk) ≤ 10000) ⌝ }
+    requires { ⌜ (now grid ≡ gridTable) × (length (now desk) ≤ 10000) ⌝ }
     ensures { λ r. ⌜ r ≡ extentOf (writes (now (desk .entry))) ⌝ }
 {
     let mut marks: usize = 0;
@@ -98,7 +98,7 @@ fn quote(part: &[u8], out: &mut [u8], n: usize)
 }
 
 pub(crate) fn fill_desk(grid: &[u8; 256], desk: &[u8], out: &mut [u8], at: usize)
-    requires { ⌜ (now grid ≡ shapes) × (bad (now desk) ≡ nowhere) × (at + length (best false (now desk)) ≤ length (now out)) ⌝ }
+    requires { ⌜ (now grid ≡ gridTable) × (bad (now desk) ≡ nowhere) × (at + length (best false (now desk)) ≤ length (now out)) ⌝ }
     ensures { λ _. ⌜ now (out .exit) ≡ sets (now (out .entry)) at (best false (now (desk .entry))) ⌝ }
 {
     let mut n = at;

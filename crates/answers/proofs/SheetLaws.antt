@@ -26,7 +26,7 @@ use Rattle.types.specs.Walk.{rule18}
 use Rattle.judge.specs.Message.{messageRules, verdictOf}
 use Rattle.judge.proofs.SmallLaws.{verdict-small}
 use Rattle.frame.proofs.SmallLaws as verdicts
-use Rattle.records.specs.Rule19.{number}
+use Rattle.records.specs.Rule19.{typeNumber}
 use Rattle.sheets.specs.Calls.{readRules, SheetTo}
 use Rattle.sheets.proofs.SizeLaws.{sheet-size}
 use Rattle.answers.specs.Line.{refusalLine, shown, Shows}
@@ -44,7 +44,7 @@ sheet-answer-one i out g h = gives-one g h
 pub reads-untyped : (i m : List ℕ) → namesType i ≡ false → ReadsNamed i m (Refused 18 0) m
 reads-untyped i m e = gives-refused _ _ m 18 0 (ap (λ (b : Bool). then (pick b Fine (Broken 18 0)) (first (readRules (formFor i) (messageIn i) m))) e)
 
-pub reads-typed : (i m : List ℕ) {n : ℕ} {form : Form} {t after : List ℕ} {r : Outcome} → namesType i ≡ true → n ≡ number i → form ≡ formOf n → t ≡ messageIn i → SheetTo form t m r after → ReadsNamed i m r after
+pub reads-typed : (i m : List ℕ) {n : ℕ} {form : Form} {t after : List ℕ} {r : Outcome} → namesType i ≡ true → n ≡ typeNumber i → form ≡ formOf n → t ≡ messageIn i → SheetTo form t m r after → ReadsNamed i m r after
 unfolding SheetTo
 reads-typed i m {n} {form} {t} {after} {r} e k f q g =
     gives-past (ap (λ (b : Bool). pick b Fine (Broken 18 0)) e)
@@ -151,7 +151,7 @@ same-front (x ∷ i) (suc n) zero h = refl
 same-front (x ∷ i) (suc n) (suc k) h = same-front i n k (omega arith)
 
 module _ (i j : List ℕ) (a : byte j 0 ≡ byte i 0) (b : byte j 1 ≡ byte i 1) (c : byte j 2 ≡ byte i 2) where
-  number-same : number j ≡ number i
+  number-same : typeNumber j ≡ typeNumber i
   number-same = rw (a, b, c) refl
 
   type-same : byte j 3 ≡ byte i 3 → namesType j ≡ namesType i

@@ -3,9 +3,8 @@ use Prim.Native.Nat.{ℕ}
 use Prim.Native.String.{String}
 use mathlib.Core.Path.{_≡_}
 use mathlib.Core.List.{List, [], _∷_}
-use Rattle.base.specs.Quoted.{bytes}
+use Rattle.base.specs.Quoted.{bytes, desk}
 use Rattle.frame.specs.Cases.{sample}
-use Rattle.records.specs.Cases.{desk}
 use Rattle.written.specs.Cases.{sheet103}
 use Rattle.answers.specs.Line.{decimal, refusalLine}
 use Rattle.answers.specs.Programs.{messageAnswer, sheetAnswer}

@@ -15,7 +15,7 @@ use Rattle.fields.specs.Frame.{limit}
 use Rattle.types.specs.declared.Form.{Form}
 use Rattle.types.specs.Form.{formOf}
 use Rattle.judge.specs.Message.{messageRules}
-use Rattle.records.specs.Rule19.{number}
+use Rattle.records.specs.Rule19.{typeNumber}
 use Rattle.writer.specs.Sheet.{sheetRules, messageFor, ownRule}
 use Rattle.sheets.specs.Gather.{sheetOf}
 use Rattle.answers.specs.Line.{shown, Shows}
@@ -43,7 +43,7 @@ abbrev pub typeRule : List ℕ → Verdict
 typeRule i = pick (namesType i) Fine (Broken 18 0)
 
 abbrev pub formFor : List ℕ → Form
-formFor i = formOf (number i)
+formFor i = formOf (typeNumber i)
 
 abbrev pub sheetVerdict : List ℕ → Verdict
 sheetVerdict i = first (typeRule i ∷ messageRules (formFor i) (messageIn i))

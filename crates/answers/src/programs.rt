@@ -1,7 +1,7 @@
 // The answer of each program for its whole input.
 ghost use mathlib.Core.Path.{_≡_};
 ghost use mathlib.Core.Bool.{true};
-ghost use Rattle.records.specs.Rule19.{number};
+ghost use Rattle.records.specs.Rule19.{typeNumber};
 ghost use Rattle.answers.specs.Programs.{MessageAnswered, SheetAnswered, namesType};
 ghost use Rattle.answers.specs.Steps.{roomless, ReadsNamed};
 use super::shown::put_shown;
@@ -60,7 +60,7 @@ fn names_type(i: &[u8]) -> bool
 
 fn type_of(i: &[u8]) -> u32
     requires { ⌜ namesType (now i) ≡ true ⌝ }
-    ensures { λ r. ⌜ r ≡ number (now (i .entry)) ⌝ }
+    ensures { λ r. ⌜ r ≡ typeNumber (now (i .entry)) ⌝ }
 {
     (wide(i[0]) - ZERO) * 100 + (wide(i[1]) - ZERO) * 10 + (wide(i[2]) - ZERO)
 }

@@ -52,8 +52,8 @@ pub not-short : {A : Type 0} (t out : List A) → length t ≤ length out → sh
 unfolding short
 not-short t out h = rw (le-ltb (length out) (length t) h)
 
-pub enough : {A : Type 0} (t out : List A) → short t out ≡ Fine → length t ≤ length out
-enough t out e = go (decLt (length out) (length t))
+pub short-within : {A : Type 0} (t out : List A) → short t out ≡ Fine → length t ≤ length out
+short-within t out e = go (decLt (length out) (length t))
   where
     go : Dec (length out < length t) → length t ≤ length out
     go (yes h) = absurd (fine-broken 17 (length t) (sym e ∙ is-short t out h))
@@ -87,13 +87,6 @@ refused rules t out k p after g = go (first rules) refl (g .answers) (g .leaves)
 -- a text that does not stop
 pub not-said : (k : ℕ) (t : List ℕ) → stuck k ≡ said t → ⊥
 not-said k t e = let z : _≡_ {A = ℕ} 0 1 = cc in omega arith
-
-pub short-within : {A : Type 0} (t out : List A) → short t out ≡ Fine → length t ≤ length out
-short-within t out e = go (decLt (length out) (length t))
-  where
-    go : Dec (length out < length t) → length t ≤ length out
-    go (yes h) = absurd (fine-broken 17 (length t) (sym e ∙ is-short t out h))
-    go (no h) = omega arith
 
 -- rules in front none of which is broken
 pub gives-on : (us vs : List Verdict) {t out after : List ℕ} {r : Outcome} → first us ≡ Fine → Gives vs t out r after → Gives (us ++ vs) t out r after

@@ -31,7 +31,7 @@ letter x = capital x || between 97 x 122
 unfoldable pub marks : List ℕ
 marks = 32 ∷ 47 ∷ 45 ∷ 63 ∷ 58 ∷ 40 ∷ 41 ∷ 46 ∷ 44 ∷ 43 ∷ []
 
--- digits and marks: the signs that both alphabets share
+-- digits and marks: the characters that both alphabets share
 unfoldable pub shared : ℕ → Bool
 shared x = digit x || isIn x marks
 
@@ -45,9 +45,9 @@ lead t [] = 0
 lead t (x ∷ xs) = pick (eqb (getD t x 0) 0) (suc (lead t xs)) 0
 
 -- how many bytes stand before the first c
-unfoldable pub upTo : ℕ → List ℕ → ℕ
-upTo c [] = 0
-upTo c (x ∷ xs) = pick (eqb x c) 0 (suc (upTo c xs))
+unfoldable pub countUpTo : ℕ → List ℕ → ℕ
+countUpTo c [] = 0
+countUpTo c (x ∷ xs) = pick (eqb x c) 0 (suc (countUpTo c xs))
 
 -- a table that is a function's values: f at k, k + 1, .., n of them
 abbrev pub values : (ℕ → ℕ) → ℕ → ℕ → List ℕ

@@ -1,4 +1,4 @@
--- A list of worked examples: that each of them holds, and how the proofs of them are put one behind the other. Assumes nothing.
+-- That something holds of every element of a list, as of a list of worked examples, and how the proofs are put one behind the other. Assumes nothing.
 use mathlib.Core.List.{List, [], _∷_}
 
 abbrev pub AllHold : {A : Type 0} → (A → Type 0) → List A → Type 0

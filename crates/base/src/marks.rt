@@ -3,12 +3,12 @@ ghost use mathlib.Core.Path.{_≡_};
 ghost use mathlib.Core.Bool.{true};
 ghost use Prim.Native.Nat.{_+_, _≤_};
 ghost use lib.ListN.{length, drop};
-ghost use Rattle.base.specs.Bytes.{upTo};
+ghost use Rattle.base.specs.Bytes.{countUpTo};
 
 // No c among w bytes: no way out before the last, so that they are tested at once.
 fn is_clear(w: usize, c: u8, s: &[u8], i: usize) -> bool
     requires { ⌜ i + w ≤ length (now s) ⌝ }
-    ensures { λ r. ⌜ (r ≡ true → upTo c (drop i (now (s .entry))) ≡ w + upTo c (drop (i + w) (now (s .entry)))) ⌝ }
+    ensures { λ r. ⌜ (r ≡ true → countUpTo c (drop i (now (s .entry))) ≡ w + countUpTo c (drop (i + w) (now (s .entry)))) ⌝ }
 {
     let mut clear = true;
     let mut k = 0;
@@ -24,7 +24,7 @@ fn is_clear(w: usize, c: u8, s: &[u8], i: usize) -> bool
 // How far it is clear from at on, as far as w bytes at a time go.
 fn clear_by(w: usize, c: u8, s: &[u8], at: usize) -> usize
     requires { ⌜ (1 ≤ w) × (at ≤ length (now s)) ⌝ }
-    ensures { λ r. ⌜ (r ≤ length (now (s .entry))) × (r + upTo c (drop r (now (s .entry))) ≡ at + upTo c (drop at (now (s .entry)))) ⌝ }
+    ensures { λ r. ⌜ (r ≤ length (now (s .entry))) × (r + countUpTo c (drop r (now (s .entry))) ≡ at + countUpTo c (drop at (now (s .entry)))) ⌝ }
 {
     let mut i = at;
     while w <= s.len() - i {
@@ -39,7 +39,7 @@ fn clear_by(w: usize, c: u8, s: &[u8], at: usize) -> usize
 // The same to the mark, a byte a turn.
 fn mark_from(c: u8, s: &[u8], at: usize) -> usize
     requires { ⌜ at ≤ length (now s) ⌝ }
-    ensures { λ r. ⌜ r ≡ at + upTo c (drop at (now (s .entry))) ⌝ }
+    ensures { λ r. ⌜ r ≡ at + countUpTo c (drop at (now (s .entry))) ⌝ }
 {
     let mut i = at;
     while i < s.len() {
@@ -53,7 +53,7 @@ fn mark_from(c: u8, s: &[u8], at: usize) -> usize
 
 // Where the first c from at on stands, or behind the last byte. Sixteen, four and one byte at a time.
 pub fn mark_at(c: u8, s: &[u8], at: usize) -> usize
-    ensures { λ r. ⌜ r ≡ at + upTo c (drop at (now (s .entry))) ⌝ }
+    ensures { λ r. ⌜ r ≡ at + countUpTo c (drop at (now (s .entry))) ⌝ }
 {
     if s.len() < at {
         return at;

@@ -9,9 +9,9 @@ use Rattle.base.specs.Calls.{Gives, long, short, outcome, room, placed}
 use Rattle.base.specs.Bytes.{isIn, digit, capital, letter, marks, shared, xset, same}
 use Rattle.base.specs.declared.Outcome.{Outcome}
 use Rattle.base.specs.declared.Verdict.{Verdict}
-use Rattle.alphabets.specs.Grid.{grid, kind, sign}
+use Rattle.alphabets.specs.Grid.{grid, kind, character}
 use Rattle.alphabets.specs.Bank.{reads, plainly}
-use Rattle.alphabets.specs.Steps.{code, codes}
+use Rattle.alphabets.specs.Steps.{backValue, backTable}
 use Rattle.alphabets.specs.Pieces.{pieceIn}
 use Rattle.alphabets.specs.Parts.{extent, written, spoken, pieceText}
 use Rattle.alphabets.specs.Best.{latinNext, best, bad, writes}
@@ -19,7 +19,7 @@ use Rattle.alphabets.specs.Text.{ReadTo, WrittenTo}
 use Rattle.values.specs.Number.{onward}
 use Rattle.values.specs.Day.{leap, daysIn, isDay, yearOf, realDay}
 use Rattle.values.specs.Money.{kopecks}
-use Rattle.contents.specs.Tests.{lead, isPayment}
+use Rattle.contents.specs.Tests.{leadDigits, isPayment}
 use Rattle.values.specs.Answers.{kopecksOf}
 use Rattle.cases.specs.Cases.{cases, Holds}
 
@@ -28,7 +28,7 @@ gives : {rules : List Verdict} {t out : List ℕ} {r : Outcome} {after : List �
 gives p q = record { answers = p; leaves = q }
 
 pub worked : AllHold Holds cases
-unfolding cases placed plainly code codes pieceIn extent written spoken pieceText xset isIn digit capital letter marks shared grid kind sign reads latinNext best bad writes long short ReadTo WrittenTo onward leap daysIn isDay yearOf realDay kopecks kopecksOf lead isPayment same
+unfolding cases placed plainly backValue backTable pieceIn extent written spoken pieceText xset isIn digit capital letter marks shared grid kind character reads latinNext best bad writes long short ReadTo WrittenTo onward leap daysIn isDay yearOf realDay kopecks kopecksOf leadDigits isPayment same
 worked =
     (gives refl refl, gives refl refl) also (gives refl refl, gives refl refl) also (gives refl refl, gives refl refl) also (gives refl refl, gives refl refl)
     also (gives refl refl, gives refl refl) also (gives refl refl, gives refl refl) also gives refl refl also gives refl refl also gives refl refl also gives refl refl

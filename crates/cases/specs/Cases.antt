@@ -1,32 +1,21 @@
 -- The worked examples of the rules as one list (section T, Camount, Cdate), stated on the outcomes that the contracts cite. Assumes nothing.
-use Prim.Native.Nat.{ℕ, _-_}
-use Prim.Native.Char.{code}
-use Prim.Native.String as string
+use Prim.Native.Nat.{ℕ}
 use Prim.Native.String.{String}
 use mathlib.Core.Path.{_≡_}
-use mathlib.Core.Bool.{Bool, true, false, _&&_}
+use mathlib.Core.Bool.{Bool, true, false}
 use mathlib.Core.List.{List, [], _∷_, _++_}
-use lib.Dec.{eqb, leb}
 use lib.ListN.{length}
-use Rattle.base.specs.Choice.{pick}
 use Rattle.base.specs.Calls.{over, placed}
+use Rattle.base.specs.Quoted.{bytes, desk}
 use Rattle.base.specs.declared.Outcome.the-variants.{Done, Refused}
 use Rattle.alphabets.specs.Text.{ReadTo, WrittenTo}
-use Rattle.alphabets.specs.Steps.{codes}
+use Rattle.alphabets.specs.Steps.{backTable}
 use Rattle.alphabets.specs.Parts.{extent, pieceText}
 use Rattle.alphabets.specs.Parts as parts
 use Rattle.alphabets.specs.declared.parts.Extent.{Extent}
 use Rattle.alphabets.specs.declared.parts.Extent.the-variants.{Takes, Halts}
 use Rattle.values.specs.Day.{realDay}
 use Rattle.values.specs.Answers.{kopecksOf}
-
--- a sign's byte in windows-1251
-abbrev pub byteOf : ℕ → ℕ
-byteOf c = pick (leb 1040 c && leb c 1103) (c - 848) (pick (eqb c 1025) 168 (pick (eqb c 8470) 185 c))
-
-abbrev pub bytes : String → List ℕ
-bytes string.[] = []
-bytes (string._∷_ c s) = byteOf (code c) ∷ bytes s
 
 -- room of twelve units
 abbrev pub room : List ℕ
@@ -53,13 +42,13 @@ pub data Case : Type 0 where
   isDay noDay : String → Case
 
 abbrev pub Holds : Case → Type 0
-Holds (written d b) = WrittenTo true (bytes d) room (Done (length (bytes b))) (over (bytes b) room) × ReadTo true (bytes b) room (Done (length (bytes d))) (over (bytes d) room)
-Holds (reads b d) = ReadTo true (bytes b) room (Done (length (bytes d))) (over (bytes d) room)
+Holds (written d b) = WrittenTo true (desk d) room (Done (length (bytes b))) (over (bytes b) room) × ReadTo true (bytes b) room (Done (length (desk d))) (over (desk d) room)
+Holds (reads b d) = ReadTo true (bytes b) room (Done (length (desk d))) (over (desk d) room)
 Holds (unread b n p) = ReadTo true (bytes b) room (Refused n p) room
-Holds (unwritten d n p) = WrittenTo true (bytes d) room (Refused n p) room
-Holds (sized s d e) = extent s (bytes d) ≡ e
-Holds (puts s d out at after) = placed (bytes out) at (parts.written s (bytes d)) ≡ bytes after
-Holds (hears s b d) = pieceText codes s (bytes b) ≡ bytes d
+Holds (unwritten d n p) = WrittenTo true (desk d) room (Refused n p) room
+Holds (sized s d e) = extent s (desk d) ≡ e
+Holds (puts s d out at after) = placed (bytes out) at (parts.written s (desk d)) ≡ bytes after
+Holds (hears s b d) = pieceText backTable s (bytes b) ≡ desk d
 Holds (worth a k) = kopecksOf (bytes "240229RUB" ++ bytes a) ≡ k
 Holds (isDay d) = realDay (bytes d) ≡ true
 Holds (noDay d) = realDay (bytes d) ≡ false

@@ -15,12 +15,12 @@ use Rattle.contents.specs.Fields.{IsOwnAccount, IsBic, IsParty, One, Ban
 use Rattle.contents.specs.declared.lines.Party.{Party}
 use Rattle.contents.specs.declared.lines.Party.the-variants as party
 use Rattle.contents.specs.Answers.{cut, BikWith, PartySaid, IsA, noParty}
-use Rattle.contents.proofs.Laws.{Spot, spot, laid, Laid, made, behind-some}
+use Rattle.contents.proofs.Laws.{Spot, spot, stands-at, StandsAt, made, mark-some}
 
 -- ---- 53B
 pub own-tests : (l : Text) → IsOwnAccount l → (length l ≡ 23) × (cut 0 3 l ≡ bytes "/D/") × Digits 20 (cut 3 20 l)
 own-tests l (a, t) =
-    let p = laid (spot 3 3 ∷ spot 20 23 ∷ []) (bytes "/D/" ∷ a ∷ []) l (refl, refl, (t .number .size, refl, tt)) (t .line) in
+    let p = stands-at (spot 3 3 ∷ spot 20 23 ∷ []) (bytes "/D/" ∷ a ∷ []) l (refl, refl, (t .number .size, refl, tt)) (t .line) in
     (p .1 .1, p .0, rw (p .1 .0) (t .number))
 
 pub own-made : (l : Text) → length l ≡ 23 → cut 0 3 l ≡ bytes "/D/" → Digits 20 (cut 3 20 l) → IsOwnAccount l
@@ -46,8 +46,8 @@ bic-tests l (a, b, c, d, t) = record {
   tail = go (t .three);
 }
   where
-    p : Laid 0 (bic-spots (length d)) (a ∷ b ∷ c ∷ d ∷ []) l
-    p = laid (bic-spots (length d)) (a ∷ b ∷ c ∷ d ∷ []) l (t .four .size, refl, (t .two .size, refl, (t .town .size, refl, (refl, refl, tt)))) (t .line)
+    p : StandsAt 0 (bic-spots (length d)) (a ∷ b ∷ c ∷ d ∷ []) l
+    p = stands-at (bic-spots (length d)) (a ∷ b ∷ c ∷ d ∷ []) l (t .four .size, refl, (t .two .size, refl, (t .town .size, refl, (refl, refl, tt)))) (t .line)
 
     go : Perhaps (CapitalsOrDigits 3) d → Not (length l ≡ 8) → (length l ≡ 11) × CapitalsOrDigits 3 (cut 8 3 l)
     go (inl e) off = absurd (off (omega (arith, p .1 .1 .1 .1, ap length e)))
@@ -66,7 +66,7 @@ pub record BikTests (l : Text) : Type 0 where
   pub other : Not (length l ≡ 21)
   pub word : cut 0 4 l ≡ bytes "//RU"
   pub begins : cut 4 2 l ≡ bytes "04"
-  pub code : Digits 9 (cut 4 9 l)
+  pub nine : Digits 9 (cut 4 9 l)
   pub tail : Not (length l ≡ 13) → (length l ≡ 34) × (cut 13 1 l ≡ bytes ".") × Digits 20 (cut 14 20 l)
 
 pub bik-tests : (bik account l : Text) → PartyByBik bik account l → BikTests l
@@ -77,18 +77,18 @@ bik-tests bik account l t = go (t .number)
 
     go : Perhaps (Digits 20) account → BikTests l
     go (inl e) =
-        let p = laid (spot 4 4 ∷ spot 9 13 ∷ spot 0 13 ∷ []) (bytes "//RU" ∷ bik ∷ [] ∷ []) l (refl, refl, (t .code .size, refl, (refl, refl, tt))) (t .line ∙ rw e) in
+        let p = stands-at (spot 4 4 ∷ spot 9 13 ∷ spot 0 13 ∷ []) (bytes "//RU" ∷ bik ∷ [] ∷ []) l (refl, refl, (t .nine .size, refl, (refl, refl, tt))) (t .line ∙ rw e) in
         let z = p .1 .1 .1 in
-        record { least = omega arith; other = λ x. absurd (omega arith); word = p .0; begins = first (p .1 .0); code = rw (p .1 .0) (t .code); tail = λ off. absurd (off z) }
+        record { least = omega arith; other = λ x. absurd (omega arith); word = p .0; begins = first (p .1 .0); nine = rw (p .1 .0) (t .nine); tail = λ off. absurd (off z) }
     go (inr d) =
-        let p = laid (spot 4 4 ∷ spot 9 13 ∷ spot 1 14 ∷ spot 20 34 ∷ []) (bytes "//RU" ∷ bik ∷ bytes "." ∷ account ∷ []) l (refl, refl, (t .code .size, refl, (refl, refl, (d .size, refl, tt))))
-        (t .line ∙ rw (behind-some "." account (omega (arith, d .size)))) in
+        let p = stands-at (spot 4 4 ∷ spot 9 13 ∷ spot 1 14 ∷ spot 20 34 ∷ []) (bytes "//RU" ∷ bik ∷ bytes "." ∷ account ∷ []) l (refl, refl, (t .nine .size, refl, (refl, refl, (d .size, refl, tt))))
+        (t .line ∙ rw (mark-some "." account (omega (arith, d .size)))) in
         let z = p .1 .1 .1 .1 in
-        record { least = omega arith; other = λ x. absurd (omega arith); word = p .0; begins = first (p .1 .0); code = rw (p .1 .0) (t .code); tail = λ off. (z, p .1 .1 .0, rw (p .1 .1 .1 .0) d) }
+        record { least = omega arith; other = λ x. absurd (omega arith); word = p .0; begins = first (p .1 .0); nine = rw (p .1 .0) (t .nine); tail = λ off. (z, p .1 .1 .0, rw (p .1 .1 .1 .0) d) }
 
 pub account-tests : (account l : Text) → PartyByAccount account l → (length l ≡ 21) × (cut 0 1 l ≡ bytes "/") × Digits 20 (cut 1 20 l)
 account-tests a l t =
-    let p = laid (spot 1 1 ∷ spot 20 21 ∷ []) (bytes "/" ∷ a ∷ []) l (refl, refl, (t .number .size, refl, tt)) (t .line) in
+    let p = stands-at (spot 1 1 ∷ spot 20 21 ∷ []) (bytes "/" ∷ a ∷ []) l (refl, refl, (t .number .size, refl, tt)) (t .line) in
     (p .1 .1, p .0, rw (p .1 .0) (t .number))
 
 pub account-made : (l : Text) → length l ≡ 21 → cut 0 1 l ≡ bytes "/" → Digits 20 (cut 1 20 l) → PartyByAccount (cut 1 20 l) l
@@ -96,15 +96,15 @@ account-made l e w d = record { number = d; line = made (spot 1 1 ∷ spot 20 21
 
 module _ (l : Text) (w : cut 0 4 l ≡ bytes "//RU") (b : cut 4 2 l ≡ bytes "04") (c : Digits 9 (cut 4 9 l)) where
   pub bik-short : length l ≡ 13 → BikWith 0 l
-  bik-short e = (record { code = c; begins = take-take 2 9 (drop 4 l) (omega arith) ∙ b; number = inl refl; line = made (spot 4 4 ∷ spot 9 13 ∷ spot 0 13 ∷ []) l (refl, (refl, (refl, sym e))) ∙ rw w }, refl)
+  bik-short e = (record { nine = c; begins = take-take 2 9 (drop 4 l) (omega arith) ∙ b; number = inl refl; line = made (spot 4 4 ∷ spot 9 13 ∷ spot 0 13 ∷ []) l (refl, (refl, (refl, sym e))) ∙ rw w }, refl)
 
   pub bik-long : length l ≡ 34 → cut 13 1 l ≡ bytes "." → Digits 20 (cut 14 20 l) → BikWith 20 l
   bik-long e p d = (
     record {
-      code = c;
+      nine = c;
       begins = take-take 2 9 (drop 4 l) (omega arith) ∙ b;
       number = inr d;
-      line = made (spot 4 4 ∷ spot 9 13 ∷ spot 1 14 ∷ spot 20 34 ∷ []) l (refl, (refl, (refl, (refl, sym e)))) ∙ rw (w, p, behind-some "." (cut 14 20 l) (omega (arith, d .size)));
+      line = made (spot 4 4 ∷ spot 9 13 ∷ spot 1 14 ∷ spot 20 34 ∷ []) l (refl, (refl, (refl, (refl, sym e)))) ∙ rw (w, p, mark-some "." (cut 14 20 l) (omega (arith, d .size)));
     },
     d .size,
   )

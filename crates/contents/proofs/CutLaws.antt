@@ -8,30 +8,30 @@ use Rattle.base.specs.Choice.{pick, all}
 use Rattle.base.specs.Bytes.{byte, digit}
 use Rattle.base.proofs.Bools.{left, right, both}
 use Rattle.contents.specs.Words.{Text, join}
-use Rattle.contents.specs.Tests.{Piece, sized, digits, lead, cutBy}
+use Rattle.contents.specs.Tests.{Piece, sized, digits, leadDigits, cutBy}
 
 -- ---- the digits that stand at the front
-lead-whole : (s : Text) → lead s ++ drop (length (lead s)) s ≡ s
-unfolding lead
+lead-whole : (s : Text) → leadDigits s ++ drop (length (leadDigits s)) s ≡ s
+unfolding leadDigits
 lead-whole [] = refl
 lead-whole (x ∷ s) = go (digit x) (lead-whole s)
   where
-    go : (b : Bool) → lead s ++ drop (length (lead s)) s ≡ s → pick b (x ∷ lead s) [] ++ drop (length (pick b (x ∷ lead s) [])) (x ∷ s) ≡ x ∷ s
+    go : (b : Bool) → leadDigits s ++ drop (length (leadDigits s)) s ≡ s → pick b (x ∷ leadDigits s) [] ++ drop (length (pick b (x ∷ leadDigits s) [])) (x ∷ s) ≡ x ∷ s
     go true e = ap (λ (t : Text). x ∷ t) e
     go false e = refl
 
-lead-on : (a b : Text) → all digit a ≡ true → digit (byte b 0) ≡ false → lead (a ++ b) ≡ a
-unfolding lead
+lead-on : (a b : Text) → all digit a ≡ true → digit (byte b 0) ≡ false → leadDigits (a ++ b) ≡ a
+unfolding leadDigits
 lead-on [] [] h e = refl
 lead-on [] (y ∷ b) h e = rw e
 lead-on (x ∷ a) b h e = rw (left (digit x) (all digit a) h) (ap (λ (t : Text). x ∷ t) (lead-on a b (right (digit x) (all digit a) h) e))
 
-pub lead-digits : (s : Text) → all digit (lead s) ≡ true
-unfolding lead
+pub lead-digits : (s : Text) → all digit (leadDigits s) ≡ true
+unfolding leadDigits
 lead-digits [] = refl
 lead-digits (x ∷ s) = go (digit x) refl (lead-digits s)
   where
-    go : (b : Bool) → digit x ≡ b → all digit (lead s) ≡ true → all digit (pick b (x ∷ lead s) []) ≡ true
+    go : (b : Bool) → digit x ≡ b → all digit (leadDigits s) ≡ true → all digit (pick b (x ∷ leadDigits s) []) ≡ true
     go true e h = both e h
     go false e h = refl
 
@@ -45,7 +45,7 @@ pub cut-whole : (ps : List Piece) (s : Text) → join (cutBy ps s) ≡ s
 cut-whole [] s = refl
 cut-whole (sized n ∷ ps) s = join-on (take n s) ps (drop n s) ∙ ap (λ (t : Text). take n s ++ t) (cut-whole ps (drop n s)) ∙ take-append-drop n s
 cut-whole (digits ∷ ps) s =
-    join-on (lead s) ps (drop (length (lead s)) s) ∙ ap (λ (t : Text). lead s ++ t) (cut-whole ps (drop (length (lead s)) s)) ∙ lead-whole s
+    join-on (leadDigits s) ps (drop (length (leadDigits s)) s) ∙ ap (λ (t : Text). leadDigits s ++ t) (cut-whole ps (drop (length (leadDigits s)) s)) ∙ lead-whole s
 
 -- ---- texts that have the sizes of such pieces; digits are ended by a byte that is none, or by the end
 abbrev pub Fit : List Piece → List Text → Type 0
@@ -73,7 +73,7 @@ cut-once (sized n ∷ ps) (t ∷ ts) f =
     ∙ ap₂ (λ (a : Text) (b : List Text). a ∷ b) (take-at t (join ts) n (f .0)) (ap (cutBy ps) (drop-at t (join ts) n (f .0)) ∙ cut-once ps ts (f .1))
 cut-once (digits ∷ ps) [] f = absurd f
 cut-once (digits ∷ ps) (t ∷ ts) f =
-    let e : lead (t ++ join ts) ≡ t = lead-on t (join ts) (f .0) (f .1) in
-    ap (λ (s : Text). lead s ∷ cutBy ps (drop (length (lead s)) s)) (join-more t ps ts (f .2))
+    let e : leadDigits (t ++ join ts) ≡ t = lead-on t (join ts) (f .0) (f .1) in
+    ap (λ (s : Text). leadDigits s ∷ cutBy ps (drop (length (leadDigits s)) s)) (join-more t ps ts (f .2))
     ∙ ap (λ (a : Text). a ∷ cutBy ps (drop (length a) (t ++ join ts))) e
     ∙ ap (λ (b : List Text). t ∷ b) (ap (cutBy ps) (drop-at t (join ts) (length t) refl) ∙ cut-once ps ts (f .2))

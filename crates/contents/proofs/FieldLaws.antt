@@ -9,7 +9,7 @@ use native.Mathlib.Omega.{arith}
 use native.Mathlib.Decide.{decLt}
 use lib.ListN.{length, take, drop, drop-of-length-le}
 use lib.Seq.{length-take-le, getD-take}
-use Rattle.base.specs.Bytes.{upTo, byte, digit}
+use Rattle.base.specs.Bytes.{countUpTo, byte, digit}
 use Rattle.base.proofs.MarkLaws.{up-rest, up-pass}
 use Rattle.fields.specs.Lines.{split, linesIn}
 use Rattle.fields.proofs.ContentLaws.{lines-last, lines-more}
@@ -23,7 +23,7 @@ use Rattle.contents.specs.declared.whole.Held.{Held}
 use Rattle.contents.specs.declared.whole.Held.the-variants as held
 
 -- ---- the first line and the others
-module _ (s : Text) (at e : ℕ) (h : at ≤ length s) (q : e ≡ at + upTo 13 (drop at s)) where
+module _ (s : Text) (at e : ℕ) (h : at ≤ length s) (q : e ≡ at + countUpTo 13 (drop at s)) where
   pub front : (ms : List Line) × (linesIn (drop at s) ≡ take (e - at) (drop at s) ∷ ms)
   front = go (decLt e (length s))
     where
@@ -32,7 +32,7 @@ module _ (s : Text) (at e : ℕ) (h : at ≤ length s) (q : e ≡ at + upTo 13 (
       go (no k) = ([], lines-last s at e h q (omega arith))
 
 pub some-line : (s : Text) (at : ℕ) → at ≤ length s → 1 ≤ length (linesIn (drop at s))
-some-line s at h = let f = front s at (at + upTo 13 (drop at s)) h refl in let g = ap length (f .1) in omega arith
+some-line s at h = let f = front s at (at + countUpTo 13 (drop at s)) h refl in let g = ap length (f .1) in omega arith
 
 -- ---- several lines of a kind
 module _ {P : Line → Type 0} (n : ℕ) where
@@ -52,7 +52,7 @@ module _ {P : Line → Type 0} (n : ℕ) where
   names-rest l ls h r = let a = r .most in record { least = h; most = omega arith; each = r .each .1 }
 
 -- ---- with the place of the next line
-pub lines-on : (s : Text) (at e n : ℕ) (h : at ≤ length s) (q : e ≡ at + upTo 13 (drop at s)) → e < length s → n ≡ min (e + 2) (length s)
+pub lines-on : (s : Text) (at e n : ℕ) (h : at ≤ length s) (q : e ≡ at + countUpTo 13 (drop at s)) → e < length s → n ≡ min (e + 2) (length s)
     → (linesIn (drop at s) ≡ take (e - at) (drop at s) ∷ linesIn (drop n s)) × (n ≤ length s) × (1 ≤ length (linesIn (drop n s)))
 lines-on s at e n h q k z =
     let a : n ≤ length s = omega arith in
@@ -93,7 +93,7 @@ module _ (twelve : Bool) (l : Line) (ms : List Line) where
   plain t b = t (b .0)
 
 -- ---- the same at the content's start
-module _ (s : Text) (e : ℕ) (q : e ≡ 0 + upTo 13 s) where
+module _ (s : Text) (e : ℕ) (q : e ≡ 0 + countUpTo 13 s) where
   e-0 : e - 0 ≡ e
   e-0 = omega arith
 

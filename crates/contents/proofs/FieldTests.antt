@@ -10,12 +10,13 @@ use Rattle.base.specs.Bytes.{digit, empty, same}
 use Rattle.base.specs.Quoted.{bytes}
 use Rattle.base.specs.Says.{Not, _or_, Says}
 use Rattle.base.proofs.SaysLaws.{says-so, says-not, says-as, says-and, says-or, says-no, says-le, says-text, says-empty}
+use Rattle.base.specs.Examples.{AllHold}
 use Rattle.contents.specs.declared.Content.{Content}
 use Rattle.contents.specs.declared.Content.the-variants as holds
 use Rattle.contents.specs.Words.{Text, Line, Size, Digits, join}
-use Rattle.contents.specs.Lines.{Name, opening, closing}
-use Rattle.contents.specs.Fields.{One, Then, Any, Each, Several, Names, Beside, Customer, Payer, Details, Right}
-use Rattle.contents.specs.Tests.{sized, piece, sizes, isName, one, after, any, several, beside, customer, payer, codeParts, codeTest, laterTest, details, right}
+use Rattle.contents.specs.Lines.{Name, codeOpening, codeClosing}
+use Rattle.contents.specs.Fields.{One, Then, Any, Several, Names, Beside, Customer, Payer, Details, Right}
+use Rattle.contents.specs.Tests.{sized, piece, sizes, isName, one, firstThen, any, several, beside, customer, payer, codeParts, codeTest, laterTest, isDetails, right}
 use Rattle.contents.proofs.CutLaws.{cut-whole, cut-once}
 use Rattle.contents.proofs.LineTests.{size-says, just-says, starts-says, begins-says, reference-says, purpose-says, payment-says, own-says, account-says, looks-says, party-says, bic-says, tax-says, rpp-says}
 
@@ -26,11 +27,11 @@ module _ (P : Line → Type 0) (p : Line → Bool) (h : (l : Line) → Says (P l
   one-says (l ∷ []) = h l
   one-says (l ∷ k ∷ ls) = says-not (λ x. x)
 
-  pub then-says : (Q : List Line → Type 0) (q : List Line → Bool) → ((ls : List Line) → Says (Q ls) (q ls)) → (ls : List Line) → Says (Then P Q ls) (after p q ls)
+  pub then-says : (Q : List Line → Type 0) (q : List Line → Bool) → ((ls : List Line) → Says (Q ls) (q ls)) → (ls : List Line) → Says (Then P Q ls) (firstThen p q ls)
   then-says Q q g [] = says-not (λ x. x)
   then-says Q q g (l ∷ ls) = says-and (h l) (g ls)
 
-  pub each-says : (ls : List Line) → Says (Each P ls) (all p ls)
+  pub each-says : (ls : List Line) → Says (AllHold P ls) (all p ls)
   each-says [] = says-so tt
   each-says (l ∷ ls) = says-and (h l) (each-says ls)
 
@@ -59,20 +60,20 @@ payer-says ls = says-or (customer-says true ls) (says-and (says-no (then-says _ 
 
 -- ---- details: the first line
 pub code-parts : (first : String) (sign : Bool) (code t : Text) → Digits 5 code
-    → codeParts (bytes first) sign (join (bytes first ∷ opening sign ∷ code ∷ closing sign ∷ t ∷ [])) ≡ bytes first ∷ opening sign ∷ code ∷ closing sign ∷ t ∷ []
+    → codeParts (bytes first) sign (join (bytes first ∷ codeOpening sign ∷ code ∷ codeClosing sign ∷ t ∷ [])) ≡ bytes first ∷ codeOpening sign ∷ code ∷ codeClosing sign ∷ t ∷ []
 code-parts first sign code t d =
-    cut-once (sized (length (bytes first)) ∷ sized (length (opening sign)) ∷ sized 5 ∷ sized (length (closing sign)) ∷ []) (bytes first ∷ opening sign ∷ code ∷ closing sign ∷ t ∷ [])
+    cut-once (sized (length (bytes first)) ∷ sized (length (codeOpening sign)) ∷ sized 5 ∷ sized (length (codeClosing sign)) ∷ []) (bytes first ∷ codeOpening sign ∷ code ∷ codeClosing sign ∷ t ∷ [])
     (refl, (refl, (d .size, (refl, tt))))
 
 abbrev CodeTests : String → ℕ → Bool → List Text → Type 0
 CodeTests first room sign ts =
-    (piece 0 ts ≡ bytes first) × ((piece 1 ts ≡ opening sign) × (Digits 5 (piece 2 ts) × ((piece 3 ts ≡ closing sign)
-    × (length (opening sign) + (5 + (length (closing sign) + length (piece 4 ts))) ≤ room))))
+    (piece 0 ts ≡ bytes first) × ((piece 1 ts ≡ codeOpening sign) × (Digits 5 (piece 2 ts) × ((piece 3 ts ≡ codeClosing sign)
+    × (length (codeOpening sign) + (5 + (length (codeClosing sign) + length (piece 4 ts))) ≤ room))))
 
 code-tests : (first : String) (room : ℕ) (sign : Bool) (ts : List Text) → Says (CodeTests first room sign ts) (codeTest (bytes first) room sign ts)
 code-tests first room sign ts =
-    says-and (says-text (piece 0 ts) (bytes first)) (says-and (says-text (piece 1 ts) (opening sign)) (says-and (just-says digit 5 (piece 2 ts)) (says-and (says-text (piece 3 ts) (closing sign))
-    (says-le (length (opening sign) + (5 + (length (closing sign) + length (piece 4 ts)))) room))))
+    says-and (says-text (piece 0 ts) (bytes first)) (says-and (says-text (piece 1 ts) (codeOpening sign)) (says-and (just-says digit 5 (piece 2 ts)) (says-and (says-text (piece 3 ts) (codeClosing sign))
+    (says-le (length (codeOpening sign) + (5 + (length (codeClosing sign) + length (piece 4 ts)))) room))))
 
 -- ---- details: the later lines
 abbrev Marked : String → ℕ → Line → Type 0
@@ -81,13 +82,13 @@ Marked later rest l = (s : Text) × (l ≡ bytes later ++ s) × Size 1 rest s
 abbrev on : String → List Text → List Line
 on later ts = map (λ (s : Text). bytes later ++ s) ts
 
-marked-texts : (later : String) (rest : ℕ) (ls : List Line) → Each (Marked later rest) ls → (ts : List Text) × (ls ≡ on later ts) × Each (Size 1 rest) ts
+marked-texts : (later : String) (rest : ℕ) (ls : List Line) → AllHold (Marked later rest) ls → (ts : List Text) × (ls ≡ on later ts) × AllHold (Size 1 rest) ts
 marked-texts later rest [] e = ([], refl, tt)
 marked-texts later rest (l ∷ ls) e =
     let w = marked-texts later rest ls (e .1) in
     (e .0 .0 ∷ w .0, ap₂ (λ (x : Line) (y : List Line). x ∷ y) (e .0 .1) (w .1), (e .0 .2, w .2))
 
-texts-marked : (later : String) (rest : ℕ) (ts : List Text) → Each (Size 1 rest) ts → Each (Marked later rest) (on later ts)
+texts-marked : (later : String) (rest : ℕ) (ts : List Text) → AllHold (Size 1 rest) ts → AllHold (Marked later rest) (on later ts)
 texts-marked later rest [] e = tt
 texts-marked later rest (t ∷ ts) e = ((t, refl, e .0), texts-marked later rest ts (e .1))
 
@@ -103,7 +104,7 @@ module _ (first later : String) (room rest most : ℕ) (sign : Bool) where
   abbrev Parts : Line → List Line → Type 0
   Parts l ls =
       CodeTests first room sign (codeParts (bytes first) sign l)
-      × (Each (Marked later rest) ls × ((length (l ∷ ls) ≤ most) × Not ((piece 4 (codeParts (bytes first) sign l) ≡ []) × (ls ≡ []))))
+      × (AllHold (Marked later rest) ls × ((length (l ∷ ls) ≤ most) × Not ((piece 4 (codeParts (bytes first) sign l) ≡ []) × (ls ≡ []))))
 
   made : (l : Line) (ls : List Line) → Parts l ls → IsDetails first later room rest most sign (l ∷ ls)
   made l ls p =
@@ -117,9 +118,9 @@ module _ (first later : String) (room rest most : ℕ) (sign : Bool) where
           number = q .1 .1 .0;
           lines =
               ap₂ (λ (x : Line) (y : List Line). x ∷ y)
-              (sym (cut-whole (sized (length (bytes first)) ∷ sized (length (opening sign)) ∷ sized 5 ∷ sized (length (closing sign)) ∷ []) l)
+              (sym (cut-whole (sized (length (bytes first)) ∷ sized (length (codeOpening sign)) ∷ sized 5 ∷ sized (length (codeClosing sign)) ∷ []) l)
               ∙ ap₂ (λ (x y : Text). join (x ∷ y ∷ piece 2 ts ∷ piece 3 ts ∷ piece 4 ts ∷ [])) (q .0) (q .1 .0)
-              ∙ ap (λ (x : Text). join (bytes first ∷ opening sign ∷ piece 2 ts ∷ x ∷ piece 4 ts ∷ [])) (q .1 .1 .1 .0))
+              ∙ ap (λ (x : Text). join (bytes first ∷ codeOpening sign ∷ piece 2 ts ∷ x ∷ piece 4 ts ∷ [])) (q .1 .1 .1 .0))
               (w .1);
           front = simp (length-append, q .1 .1 .0 .size) (q .1 .1 .1 .1);
           back = w .2;
@@ -130,16 +131,16 @@ module _ (first later : String) (room rest most : ℕ) (sign : Bool) where
 
   tested : (l : Line) (ls : List Line) (code t : Text) (ts : List Text) → Details first later room rest most sign code t ts (l ∷ ls) → Parts l ls
   tested l ls code t ts d =
-      let e : l ≡ join (bytes first ∷ opening sign ∷ code ∷ closing sign ∷ t ∷ []) = cc (d .lines) in
+      let e : l ≡ join (bytes first ∷ codeOpening sign ∷ code ∷ codeClosing sign ∷ t ∷ []) = cc (d .lines) in
       let f : ls ≡ on later ts = cc (d .lines) in
       let g = ap (codeParts (bytes first) sign) e ∙ code-parts first sign code t (d .number) in
       let h : piece 4 (codeParts (bytes first) sign l) ≡ t = ap (piece 4) g in (
         subst (CodeTests first room sign) (sym g) (refl, (refl, (d .number, (refl, simp (length-append, d .number .size) at (d .front))))),
-        (subst (Each (Marked later rest)) (sym f) (texts-marked later rest ts (d .back)), (d .count, λ z. d .text (sym h ∙ z .0, on-empty later ls ts f (z .1)))),
+        (subst (AllHold (Marked later rest)) (sym f) (texts-marked later rest ts (d .back)), (d .count, λ z. d .text (sym h ∙ z .0, on-empty later ls ts f (z .1)))),
       )
 
-  pub details-says : (ls : List Line) → Says (IsDetails first later room rest most sign ls) (details (bytes first) (bytes later) room rest most sign ls)
-  unfolding details
+  pub details-says : (ls : List Line) → Says (IsDetails first later room rest most sign ls) (isDetails (bytes first) (bytes later) room rest most sign ls)
+  unfolding isDetails
   details-says [] = says-not (λ d. true≢false (ap empty (d .3 .lines)))
   details-says (l ∷ ls) =
       says-as (made l ls) (λ d. tested l ls (d .0) (d .1) (d .2) (d .3))

@@ -14,7 +14,7 @@ use Rattle.base.specs.Choice.{all}
 use Rattle.base.specs.Bytes.{byte, digit}
 use Rattle.base.specs.Quoted.{bytes}
 use Rattle.base.proofs.Bools.{left, right, all-append, all-front}
-use Rattle.contents.specs.Words.{Text, Just, join, behind}
+use Rattle.contents.specs.Words.{Text, Just, join, withMark}
 use Rattle.contents.specs.Answers.{cut, Leads}
 
 -- ---- cuts
@@ -107,31 +107,31 @@ Sized i (spot n j ∷ ss) [] = ⊥
 Sized i (spot n j ∷ ss) (p ∷ ps) = (length p ≡ n) × (n + i ≡ j) × Sized j ss ps
 
 -- the text from i on is laid out as these pieces, to its end
-abbrev pub Laid : ℕ → List Spot → List Text → Text → Type 0
-Laid i [] ps s = length s ≡ i
-Laid i (spot n j ∷ ss) [] s = ⊥
-Laid i (spot n j ∷ ss) (p ∷ ps) s = (cut i n s ≡ p) × Laid j ss ps s
+abbrev pub StandsAt : ℕ → List Spot → List Text → Text → Type 0
+StandsAt i [] ps s = length s ≡ i
+StandsAt i (spot n j ∷ ss) [] s = ⊥
+StandsAt i (spot n j ∷ ss) (p ∷ ps) s = (cut i n s ≡ p) × StandsAt j ss ps s
 
-laid-from : (i : ℕ) (ss : List Spot) (ps : List Text) (s : Text) → Sized i ss ps → i ≤ length s → drop i s ≡ join ps → Laid i ss ps s
-laid-from i [] [] s z h e = omega (arith, length-drop i s, ap length e)
-laid-from i [] (p ∷ ps) s z h e = absurd z
-laid-from i (spot n j ∷ ss) [] s z h e = z
-laid-from i (spot n j ∷ []) (p ∷ []) s z h e = (ap (take n) e ∙ take-all n p (omega (arith, z .0)), omega (arith, length-drop i s, ap length e, z .0, z .1))
-laid-from i (spot n j ∷ m ∷ ss) (p ∷ []) s z h e = absurd (none j m ss (z .2))
+stands-from : (i : ℕ) (ss : List Spot) (ps : List Text) (s : Text) → Sized i ss ps → i ≤ length s → drop i s ≡ join ps → StandsAt i ss ps s
+stands-from i [] [] s z h e = omega (arith, length-drop i s, ap length e)
+stands-from i [] (p ∷ ps) s z h e = absurd z
+stands-from i (spot n j ∷ ss) [] s z h e = z
+stands-from i (spot n j ∷ []) (p ∷ []) s z h e = (ap (take n) e ∙ take-all n p (omega (arith, z .0)), omega (arith, length-drop i s, ap length e, z .0, z .1))
+stands-from i (spot n j ∷ m ∷ ss) (p ∷ []) s z h e = absurd (none j m ss (z .2))
   where
     none : (k : ℕ) (m : Spot) (ss : List Spot) → Sized k (m ∷ ss) [] → ⊥
     none k (spot a b) ss z = z
-laid-from i (spot n j ∷ []) (p ∷ q ∷ ps) s z h e = absurd (z .2)
-laid-from i (spot n j ∷ m ∷ ss) (p ∷ q ∷ ps) s z h e =
+stands-from i (spot n j ∷ []) (p ∷ q ∷ ps) s z h e = absurd (z .2)
+stands-from i (spot n j ∷ m ∷ ss) (p ∷ q ∷ ps) s z h e =
     let k : i + n ≡ j = omega (arith, z .1) in (
       ap (take n) e ∙ take-at p (join (q ∷ ps)) n (z .0),
-      laid-from j (m ∷ ss) (q ∷ ps) s (z .2) (omega (arith, length-drop i s, ap length e, length-append p (join (q ∷ ps)), z .0, z .1))
+      stands-from j (m ∷ ss) (q ∷ ps) s (z .2) (omega (arith, length-drop i s, ap length e, length-append p (join (q ∷ ps)), z .0, z .1))
           (ap (λ (x : ℕ). drop x s) (sym k) ∙ sym (drop-drop n i s) ∙ ap (drop n) e ∙ drop-at p (join (q ∷ ps)) n (z .0)),
     )
 
 -- a line passes its tests ..
-pub laid : (ss : List Spot) (ps : List Text) (s : Text) → Sized 0 ss ps → s ≡ join ps → Laid 0 ss ps s
-laid ss ps s z e = laid-from 0 ss ps s z (omega arith) e
+pub stands-at : (ss : List Spot) (ps : List Text) (s : Text) → Sized 0 ss ps → s ≡ join ps → StandsAt 0 ss ps s
+stands-at ss ps s z e = stands-from 0 ss ps s z (omega arith) e
 
 -- .. and is made of its cuts
 abbrev pub cuts : ℕ → List Spot → Text → List Text
@@ -153,9 +153,9 @@ pub made : (ss : List Spot) (s : Text) → Ends 0 ss s → s ≡ join (cuts 0 ss
 made ss s e = sym (made-from 0 ss s e)
 
 -- ---- perhaps
-pub behind-some : (mark : String) (s : Text) → 0 < length s → behind mark s ≡ bytes mark ++ s
-behind-some mark [] h = absurd (omega arith)
-behind-some mark (x ∷ s) h = refl
+pub mark-some : (mark : String) (s : Text) → 0 < length s → withMark mark s ≡ bytes mark ++ s
+mark-some mark [] h = absurd (omega arith)
+mark-some mark (x ∷ s) h = refl
 
 -- ---- the first byte
 pub head-tail : (s : Text) → 0 < length s → s ≡ byte s 0 ∷ drop 1 s

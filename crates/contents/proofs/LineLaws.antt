@@ -13,7 +13,7 @@ use Rattle.base.proofs.ByteLaws.{same-not}
 use Rattle.base.proofs.SaysLaws.{says-same, says-text}
 use Rattle.contents.specs.Words.{Text}
 use Rattle.contents.specs.Fields.{IsAccount, LooksTax}
-use Rattle.contents.specs.Tests.{starts, numbered}
+use Rattle.contents.specs.Tests.{starts, wordAndDigit}
 use Rattle.contents.specs.Answers.{cut}
 use Rattle.contents.proofs.Laws.{head-tail}
 
@@ -44,11 +44,11 @@ module _ (w s : Text) where
   pub starts-by : {r : Bool} → Says (cut 0 (length w) s ≡ w) r → r ≡ starts w s
   starts-by p = says-same p (says-text (take (length w) s) w)
 
-  pub numbered-short : length s ≤ length w → numbered w s ≡ false
+  pub numbered-short : length s ≤ length w → wordAndDigit w s ≡ false
   unfolding digit
   numbered-short h = ap (λ (x : ℕ). starts w s && digit x) (List·getD-eq-default s 0 h) ∙ and-false (starts w s)
 
-  pub numbered-by : {r : Bool} → r ≡ starts w s → (r && digit (byte s (length w))) ≡ numbered w s
+  pub numbered-by : {r : Bool} → r ≡ starts w s → (r && digit (byte s (length w))) ≡ wordAndDigit w s
   numbered-by e = ap (λ (b : Bool). b && digit (byte s (length w))) e
 
 pub looks-tax : (l : Text) → 4 ≤ length l → cut 0 3 l ≡ bytes "INN" → digit (byte l 3) ≡ true → LooksTax l

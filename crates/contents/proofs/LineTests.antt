@@ -16,10 +16,10 @@ use Rattle.base.specs.Bytes.{byte, digit, capital, begins, empty}
 use Rattle.base.specs.Quoted.{bytes}
 use Rattle.base.specs.Says.{Not, _or_, Says}
 use Rattle.base.proofs.SaysLaws.{says-so, says-not, says-by, says-as, says-and, says-or, says-no, says-le, says-eq, says-true, says-text, says-empty}
-use Rattle.contents.specs.Words.{Text, Line, Size, Just, capitalOrDigit, Digits, Capitals, CapitalsOrDigits, join, Perhaps, behind, BeginsWith}
+use Rattle.contents.specs.Words.{Text, Line, Size, Just, capitalOrDigit, Digits, Capitals, CapitalsOrDigits, join, Perhaps, withMark, BeginsWith}
 use Rattle.contents.specs.Lines.{Reference, twoDigits, Purpose, Payment, PartyByBik, Bic, Inn, TaxLine, Way, RppLine}
 use Rattle.contents.specs.Fields.{IsPurpose, IsPayment, IsOwnAccount, IsParty, IsBic, IsAccount, IsTax, LooksTax, IsRpp}
-use Rattle.contents.specs.Tests.{sized, digits, piece, sizes, just, starts, perhaps, ends, pair, isReference, numberIn, isPurpose, paymentParts, paymentTest, isPayment, isOwnAccount, bikParts, isPartyByBik, isParty, bicParts, isBic, isAccount, isInn, taxParts, isTax, looksTax, isWay, rppParts, rppTest, isRpp}
+use Rattle.contents.specs.Tests.{sized, digits, piece, sizes, just, starts, perhaps, ends, hasPair, isReference, numberIn, isPurpose, paymentParts, paymentTest, isPayment, isOwnAccount, bikParts, isPartyByBik, isParty, bicParts, isBic, isAccount, isInn, taxParts, isTax, looksTax, isWay, rppParts, rppTest, isRpp}
 use Rattle.contents.specs.Parts.{unmarked}
 use Rattle.contents.proofs.CutLaws.{cut-whole, cut-once}
 
@@ -46,19 +46,19 @@ starts-says w P p h l = says-as made tested (says-and (says-text (take n l) (byt
 
 -- perhaps a mark, and behind it such a part, which is not empty
 pub perhaps-says : (mark : String) (P : Text → Type 0) (p : Text → Bool) → ((s : Text) → Says (P s) (p s)) → Not (P []) → (s : Text)
-    → Says ((part : Text) × Perhaps P part × (s ≡ behind mark part)) (perhaps (bytes mark) p s)
+    → Says ((part : Text) × Perhaps P part × (s ≡ withMark mark part)) (perhaps (bytes mark) p s)
 perhaps-says mark P p h z [] = says-so ([], inl refl, refl)
 perhaps-says mark P p h z (x ∷ s) = says-as made tested (starts-says mark P p h (x ∷ s))
   where
-    some : (t : Text) → P t → bytes mark ++ t ≡ behind mark t
+    some : (t : Text) → P t → bytes mark ++ t ≡ withMark mark t
     some [] q = absurd (z q)
     some (y ∷ t) q = refl
 
-    made : (t : Text) × (x ∷ s ≡ bytes mark ++ t) × P t → (part : Text) × Perhaps P part × (x ∷ s ≡ behind mark part)
+    made : (t : Text) × (x ∷ s ≡ bytes mark ++ t) × P t → (part : Text) × Perhaps P part × (x ∷ s ≡ withMark mark part)
     made q = (q .0, inr (q .2), q .1 ∙ some (q .0) (q .2))
 
-    tested : (part : Text) × Perhaps P part × (x ∷ s ≡ behind mark part) → (t : Text) × (x ∷ s ≡ bytes mark ++ t) × P t
-    tested (part, inl e, q) = absurd (false≢true (ap empty (q ∙ ap (behind mark) e)))
+    tested : (part : Text) × Perhaps P part × (x ∷ s ≡ withMark mark part) → (t : Text) × (x ∷ s ≡ bytes mark ++ t) × P t
+    tested (part, inl e, q) = absurd (false≢true (ap empty (q ∙ ap (withMark mark) e)))
     tested (part, inr e, q) = (part, q ∙ sym (some part e), e)
 
 -- ---- C20
@@ -85,8 +85,8 @@ ends-says (x ∷ y ∷ l) = says-as (λ b. (x ∷ b .0, ap (λ (t : Text). x ∷
     more [] e = absurd (false≢true (ap (λ (t : Text). empty (drop 1 t)) e))
     more (z ∷ s) e = (s, ap (drop 1) e)
 
-pair-says : (l : Line) → Says ((s t : Text) × (l ≡ join (s ∷ bytes "//" ∷ t ∷ []))) (pair 47 l)
-unfolding pair
+pair-says : (l : Line) → Says ((s t : Text) × (l ≡ join (s ∷ bytes "//" ∷ t ∷ []))) (hasPair 47 l)
+unfolding hasPair
 pair-says [] = says-not (λ b. none (b .0) (b .1) (b .2))
   where
     none : (s t : Text) → [] ≡ s ++ (bytes "//" ++ t) → ⊥
@@ -206,16 +206,16 @@ pub looks-by : {l : Line} {r : Bool} → r ≡ looksTax l → Says (LooksTax l) 
 looks-by {l} e = subst (Says (LooksTax l)) (sym e) (looks-says l)
 
 -- ---- Cparty
-pub bik-parts : {bik account l : Text} → PartyByBik bik account l → bikParts l ≡ bytes "//RU" ∷ bik ∷ behind "." account ∷ []
+pub bik-parts : {bik account l : Text} → PartyByBik bik account l → bikParts l ≡ bytes "//RU" ∷ bik ∷ withMark "." account ∷ []
 bik-parts {bik} {account} t =
-    ap bikParts (t .line) ∙ cut-once (sized 4 ∷ sized 9 ∷ []) (bytes "//RU" ∷ bik ∷ behind "." account ∷ []) (refl, (t .code .size, tt))
+    ap bikParts (t .line) ∙ cut-once (sized 4 ∷ sized 9 ∷ []) (bytes "//RU" ∷ bik ∷ withMark "." account ∷ []) (refl, (t .nine .size, tt))
 
 no-digits : (n : ℕ) → Not (n ≡ 0) → Not (Digits n [])
 no-digits n z d = z (sym (d .size))
 
 abbrev BikTests : List Text → Type 0
 BikTests ts =
-    (piece 0 ts ≡ bytes "//RU") × (Digits 9 (piece 1 ts) × ((take 2 (piece 1 ts) ≡ bytes "04") × ((account : Text) × Perhaps (Digits 20) account × (piece 2 ts ≡ behind "." account))))
+    (piece 0 ts ≡ bytes "//RU") × (Digits 9 (piece 1 ts) × ((take 2 (piece 1 ts) ≡ bytes "04") × ((account : Text) × Perhaps (Digits 20) account × (piece 2 ts ≡ withMark "." account))))
 
 pub bik-says : (l : Line) → Says ((bik account : Text) × PartyByBik bik account l) (isPartyByBik l)
 unfolding isPartyByBik
@@ -229,7 +229,7 @@ bik-says l =
       piece 1 (bikParts l),
       p .1 .1 .1 .0,
       record {
-        code = p .1 .0;
+        nine = p .1 .0;
         begins = p .1 .1 .0;
         number = p .1 .1 .1 .1;
         line = sym (cut-whole (sized 4 ∷ sized 9 ∷ []) l) ∙ ap₂ (λ (x y : Text). join (x ∷ piece 1 (bikParts l) ∷ y ∷ [])) (p .0) (p .1 .1 .1 .2);
@@ -237,7 +237,7 @@ bik-says l =
     )
 
     tested : {bik account : Text} → PartyByBik bik account l → BikTests (bikParts l)
-    tested {bik} {account} t = subst BikTests (sym (bik-parts t)) (refl, (t .code, (t .begins, (account, t .number, refl))))
+    tested {bik} {account} t = subst BikTests (sym (bik-parts t)) (refl, (t .nine, (t .begins, (account, t .number, refl))))
 
 pub party-says : (l : Line) → Says (IsParty l) (isParty l)
 unfolding isParty
@@ -259,10 +259,10 @@ bic-says l =
     made : Capitals 4 (piece 0 (bicParts l)) → Capitals 2 (piece 1 (bicParts l)) → CapitalsOrDigits 2 (piece 2 (bicParts l)) → Perhaps (CapitalsOrDigits 3) (piece 3 (bicParts l)) → IsBic l
     made a b c d = (piece 0 (bicParts l), piece 1 (bicParts l), piece 2 (bicParts l), piece 3 (bicParts l), record { four = a; two = b; town = c; three = d; line = sym (cut-whole (sized 4 ∷ sized 2 ∷ sized 2 ∷ []) l) })
 
-    tested : {bank land place branch : Text} → Bic bank land place branch l → BicTests (bicParts l)
-    tested {bank} {land} {place} {branch} t =
+    tested : {bank land location branch : Text} → Bic bank land location branch l → BicTests (bicParts l)
+    tested {bank} {land} {location} {branch} t =
         subst BicTests
-        (sym (ap bicParts (t .line) ∙ cut-once (sized 4 ∷ sized 2 ∷ sized 2 ∷ []) (bank ∷ land ∷ place ∷ branch ∷ []) (t .four .size, (t .two .size, (t .town .size, tt)))))
+        (sym (ap bicParts (t .line) ∙ cut-once (sized 4 ∷ sized 2 ∷ sized 2 ∷ []) (bank ∷ land ∷ location ∷ branch ∷ []) (t .four .size, (t .two .size, (t .town .size, tt)))))
         (t .four, (t .two, (t .town, t .three)))
 
 -- ---- Ctax
@@ -276,17 +276,17 @@ inn-digits true s (inr d) = d .each
 inn-digits false s d = d .each
 
 -- a mark that is no digit, or nothing, ends digits
-kpp-ends : (kpp : Text) → digit (byte (behind ".KPP" kpp) 0) ≡ false
+kpp-ends : (kpp : Text) → digit (byte (withMark ".KPP" kpp) 0) ≡ false
 unfolding digit
 kpp-ends [] = refl
 kpp-ends (x ∷ s) = refl
 
-pub tax-parts : {twelve : Bool} {inn kpp l : Text} → TaxLine twelve inn kpp l → taxParts l ≡ bytes "INN" ∷ inn ∷ behind ".KPP" kpp ∷ []
+pub tax-parts : {twelve : Bool} {inn kpp l : Text} → TaxLine twelve inn kpp l → taxParts l ≡ bytes "INN" ∷ inn ∷ withMark ".KPP" kpp ∷ []
 tax-parts {twelve} {inn} {kpp} t =
-    ap taxParts (t .line) ∙ cut-once (sized 3 ∷ digits ∷ []) (bytes "INN" ∷ inn ∷ behind ".KPP" kpp ∷ []) (refl, (inn-digits twelve inn (t .person), kpp-ends kpp, tt))
+    ap taxParts (t .line) ∙ cut-once (sized 3 ∷ digits ∷ []) (bytes "INN" ∷ inn ∷ withMark ".KPP" kpp ∷ []) (refl, (inn-digits twelve inn (t .person), kpp-ends kpp, tt))
 
 abbrev TaxTests : Bool → List Text → Type 0
-TaxTests twelve ts = (piece 0 ts ≡ bytes "INN") × (Inn twelve (piece 1 ts) × ((kpp : Text) × Perhaps (Digits 9) kpp × (piece 2 ts ≡ behind ".KPP" kpp)))
+TaxTests twelve ts = (piece 0 ts ≡ bytes "INN") × (Inn twelve (piece 1 ts) × ((kpp : Text) × Perhaps (Digits 9) kpp × (piece 2 ts ≡ withMark ".KPP" kpp)))
 
 pub tax-says : (twelve : Bool) (l : Line) → Says (IsTax twelve l) (isTax twelve l)
 unfolding isTax
@@ -320,19 +320,19 @@ way-size w (inr (inr (inl e))) = ap length e
 way-size w (inr (inr (inr e))) = ap length e
 
 pub rpp-parts : {number date turn way value l : Text} → RppLine number date turn way value l
-    → rppParts l ≡ bytes "/RPP/" ∷ number ∷ bytes "." ∷ date ∷ bytes "." ∷ turn ∷ bytes "." ∷ way ∷ behind "." value ∷ []
+    → rppParts l ≡ bytes "/RPP/" ∷ number ∷ bytes "." ∷ date ∷ bytes "." ∷ turn ∷ bytes "." ∷ way ∷ withMark "." value ∷ []
 unfolding digit
 rpp-parts {number} {date} {turn} {way} {value} t =
     ap rppParts (t .line)
     ∙ cut-once (sized 5 ∷ digits ∷ sized 1 ∷ sized 6 ∷ sized 1 ∷ sized 1 ∷ sized 1 ∷ sized 4 ∷ [])
-    (bytes "/RPP/" ∷ number ∷ bytes "." ∷ date ∷ bytes "." ∷ turn ∷ bytes "." ∷ way ∷ behind "." value ∷ [])
+    (bytes "/RPP/" ∷ number ∷ bytes "." ∷ date ∷ bytes "." ∷ turn ∷ bytes "." ∷ way ∷ withMark "." value ∷ [])
     (refl, (t .serial .each, refl, (refl, (t .day .size, (refl, (t .order .size, (refl, (way-size way (t .kind), tt))))))))
 
 abbrev RppTests : List Text → Type 0
 RppTests ts =
     (piece 0 ts ≡ bytes "/RPP/") × (((1 ≤ length (piece 1 ts)) × ((length (piece 1 ts) ≤ 3) × (all digit (piece 1 ts) ≡ true))) × ((piece 2 ts ≡ bytes ".")
     × (Digits 6 (piece 3 ts) × ((piece 4 ts ≡ bytes ".") × (Digits 1 (piece 5 ts) × ((piece 6 ts ≡ bytes ".")
-    × (Way (piece 7 ts) × ((value : Text) × Perhaps (Digits 6) value × (piece 8 ts ≡ behind "." value)))))))))
+    × (Way (piece 7 ts) × ((value : Text) × Perhaps (Digits 6) value × (piece 8 ts ≡ withMark "." value)))))))))
 
 rpp-tests : (ts : List Text) → Says (RppTests ts) (rppTest ts)
 rpp-tests ts =
@@ -372,12 +372,12 @@ rpp-says l = says-as (made (rppParts l) (cut-whole (sized 5 ∷ digits ∷ sized
         (refl, ((t .serial .least, (t .serial .most, t .serial .each)), (refl, (t .day, (refl, (t .order, (refl, (t .kind, (value, t .due, refl)))))))))
 
 -- ---- a line has its parts once: they are the pieces that it is cut into
-pub unmarked-behind : (mark : String) (s : Text) → unmarked mark (behind mark s) ≡ s
-unmarked-behind mark [] = drop-nil (length (bytes mark))
-unmarked-behind mark (x ∷ s) = drop-at (bytes mark) (x ∷ s) (length (bytes mark)) refl
+pub unmarked-mark : (mark : String) (s : Text) → unmarked mark (withMark mark s) ≡ s
+unmarked-mark mark [] = drop-nil (length (bytes mark))
+unmarked-mark mark (x ∷ s) = drop-at (bytes mark) (x ∷ s) (length (bytes mark)) refl
 
-behind-once : (mark : String) (a b : Text) → behind mark a ≡ behind mark b → a ≡ b
-behind-once mark a b e = sym (unmarked-behind mark a) ∙ ap (unmarked mark) e ∙ unmarked-behind mark b
+mark-once : (mark : String) (a b : Text) → withMark mark a ≡ withMark mark b → a ≡ b
+mark-once mark a b e = sym (unmarked-mark mark a) ∙ ap (unmarked mark) e ∙ unmarked-mark mark b
 
 pub paid-once : {d c w m d′ c′ w′ m′ l : Text} → Payment d c w m l → Payment d′ c′ w′ m′ l → (d ≡ d′) × (c ≡ c′) × (w ≡ w′) × (m ≡ m′)
 paid-once t u =
@@ -385,12 +385,12 @@ paid-once t u =
     (ap (piece 0) e, ap (piece 1) e, ap (piece 2) e, ap (piece 4) e)
 
 pub bik-once : {b a b′ a′ l : Text} → PartyByBik b a l → PartyByBik b′ a′ l → (b ≡ b′) × (a ≡ a′)
-bik-once {a = a} {a′ = a′} t u = let e = sym (bik-parts t) ∙ bik-parts u in (ap (piece 1) e, behind-once "." a a′ (ap (piece 2) e))
+bik-once {a = a} {a′ = a′} t u = let e = sym (bik-parts t) ∙ bik-parts u in (ap (piece 1) e, mark-once "." a a′ (ap (piece 2) e))
 
 pub tax-once : {twelve : Bool} {i k i′ k′ l : Text} → TaxLine twelve i k l → TaxLine twelve i′ k′ l → (i ≡ i′) × (k ≡ k′)
-tax-once {k = k} {k′ = k′} t u = let e = sym (tax-parts t) ∙ tax-parts u in (ap (piece 1) e, behind-once ".KPP" k k′ (ap (piece 2) e))
+tax-once {k = k} {k′ = k′} t u = let e = sym (tax-parts t) ∙ tax-parts u in (ap (piece 1) e, mark-once ".KPP" k k′ (ap (piece 2) e))
 
 pub rpp-once : {n d t w v n′ d′ t′ w′ v′ l : Text} → RppLine n d t w v l → RppLine n′ d′ t′ w′ v′ l → (n ≡ n′) × (d ≡ d′) × (t ≡ t′) × (w ≡ w′) × (v ≡ v′)
 rpp-once {v = v} {v′ = v′} x y =
     let e = sym (rpp-parts x) ∙ rpp-parts y in
-    (ap (piece 1) e, ap (piece 3) e, ap (piece 5) e, ap (piece 7) e, behind-once "." v v′ (ap (piece 8) e))
+    (ap (piece 1) e, ap (piece 3) e, ap (piece 5) e, ap (piece 7) e, mark-once "." v v′ (ap (piece 8) e))

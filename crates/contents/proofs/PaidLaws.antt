@@ -10,7 +10,7 @@ use Rattle.base.specs.Quoted.{bytes}
 use Rattle.contents.specs.Words.{Text, Digits, Capitals}
 use Rattle.contents.specs.Lines.{Payment}
 use Rattle.contents.specs.Answers.{cut, Leads, PaidWith}
-use Rattle.contents.proofs.Laws.{Spot, spot, laid, Laid, made, cut-length, mark-stops, run-once}
+use Rattle.contents.proofs.Laws.{Spot, spot, stands-at, StandsAt, made, cut-length, mark-stops, run-once}
 
 abbrev spots : ℕ → ℕ → List Spot
 spots n d = spot 6 6 ∷ spot 3 9 ∷ spot n (n + 9) ∷ spot 1 (1 + (n + 9)) ∷ spot d (d + (1 + (n + 9))) ∷ []
@@ -29,9 +29,9 @@ pub record PaidTests (n : ℕ) (l : Text) : Type 0 where
   pub parts : Digits (length l - (1 + (n + 9))) (cut (1 + (n + 9)) (length l - (1 + (n + 9))) l)
 
 module _ (date currency whole decimals l : Text) (t : Payment date currency whole decimals l) where
-  paid-laid : Laid 0 (spots (length whole) (length decimals)) (date ∷ currency ∷ whole ∷ bytes "," ∷ decimals ∷ []) l
+  paid-laid : StandsAt 0 (spots (length whole) (length decimals)) (date ∷ currency ∷ whole ∷ bytes "," ∷ decimals ∷ []) l
   paid-laid =
-      laid (spots (length whole) (length decimals)) (date ∷ currency ∷ whole ∷ bytes "," ∷ decimals ∷ []) l
+      stands-at (spots (length whole) (length decimals)) (date ∷ currency ∷ whole ∷ bytes "," ∷ decimals ∷ []) l
       (t .day .size, refl, (t .money .size, refl, (refl, refl, (refl, refl, (refl, refl, tt))))) (t .line)
 
   ends : digit (byte l (9 + length whole)) ≡ false

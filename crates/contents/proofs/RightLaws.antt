@@ -10,11 +10,11 @@ use native.Mathlib.Omega.{arith}
 use native.Mathlib.Decide.{decLt}
 use lib.ListN.{length, take, drop}
 use lib.Seq.{take-all}
-use Rattle.base.specs.Bytes.{upTo}
+use Rattle.base.specs.Bytes.{countUpTo}
 use Rattle.fields.specs.Lines.{linesIn}
 use Rattle.contents.specs.Words.{Text, Line}
 use Rattle.contents.specs.Fields.{IsParty, IsBic, IsRpp, One, Then, Names, Beside, Customer, Payer, BankByBic, BankByName, In72, RppAndDetails}
-use Rattle.contents.specs.Answers.{BesideSaid, Behind, CustomerSaid, PayerSaid, IsA, BicSaid, NameSaid, RppWith, NoteSaid, isHeld, isBank, isNote}
+use Rattle.contents.specs.Answers.{BesideSaid, AccountFirst, CustomerSaid, PayerSaid, IsA, BicSaid, NameSaid, RppWith, NoteSaid, isHeld, isBank, isNote}
 use Rattle.contents.specs.declared.lines.Party.{Party}
 use Rattle.contents.specs.declared.lines.Party.the-variants as party
 use Rattle.contents.specs.declared.whole.Held.{Held}
@@ -31,20 +31,20 @@ beside-is twelve at ls held.Plain e s = inr s
 beside-is twelve at [] (held.Taxed p inn kpp) e s = absurd (s .1)
 beside-is twelve at (l ∷ ls) (held.Taxed p inn kpp) e s = inl ((_, _, s .1 .0 .0), s .1 .1)
 
-behind-is : (twelve : Bool) (ls : List Line) (r : Held) → isHeld r ≡ true → Behind twelve ls r → Customer twelve ls
-behind-is twelve [] r e s = s
-behind-is twelve (l ∷ ls) r e s = (s .0, beside-is twelve (length l + 2) ls r e (s .1))
+account-is : (twelve : Bool) (ls : List Line) (r : Held) → isHeld r ≡ true → AccountFirst twelve ls r → Customer twelve ls
+account-is twelve [] r e s = s
+account-is twelve (l ∷ ls) r e s = (s .0, beside-is twelve (length l + 2) ls r e (s .1))
 
 pub customer-is : (twelve : Bool) (ls : List Line) (r : Held) (b : Bool) → b ≡ isHeld r → CustomerSaid twelve ls r → Says (Customer twelve ls) b
 customer-is twelve ls held.Wrong b e s = rw e (says-not s)
-customer-is twelve ls held.Plain b e s = rw e (says-so (behind-is twelve ls held.Plain refl s))
-customer-is twelve ls (held.Taxed p inn kpp) b e s = rw e (says-so (behind-is twelve ls (held.Taxed p inn kpp) refl s))
+customer-is twelve ls held.Plain b e s = rw e (says-so (account-is twelve ls held.Plain refl s))
+customer-is twelve ls (held.Taxed p inn kpp) b e s = rw e (says-so (account-is twelve ls (held.Taxed p inn kpp) refl s))
 
 pub payer-is : (ls : List Line) (r : Held) (b : Bool) → b ≡ isHeld r → PayerSaid ls r → Says (Payer ls) b
 payer-is ls held.Wrong b e s = rw e (says-not s)
-payer-is ls held.Plain b e s = rw e (says-so (⊎-elim (λ x. inl (behind-is true ls held.Plain refl x)) (λ x. inr (x .0, beside-is true 0 ls held.Plain refl (x .1))) s))
+payer-is ls held.Plain b e s = rw e (says-so (⊎-elim (λ x. inl (account-is true ls held.Plain refl x)) (λ x. inr (x .0, beside-is true 0 ls held.Plain refl (x .1))) s))
 payer-is ls (held.Taxed p inn kpp) b e s =
-    rw e (says-so (⊎-elim (λ x. inl (behind-is true ls (held.Taxed p inn kpp) refl x)) (λ x. inr (x .0, beside-is true 0 ls (held.Taxed p inn kpp) refl (x .1))) s))
+    rw e (says-so (⊎-elim (λ x. inl (account-is true ls (held.Taxed p inn kpp) refl x)) (λ x. inr (x .0, beside-is true 0 ls (held.Taxed p inn kpp) refl (x .1))) s))
 
 party-is : (p : Party) (l : Line) → IsA p l → IsParty l
 party-is party.Wrong l s = absurd s
@@ -76,12 +76,12 @@ note-is sign ls (note.Dated n v) b e s = rw e (says-so (inr (dated-is sign n v l
 
 -- one line
 pub not-one : (P : Line → Type 0) (s : Text) → Not (linesIn s ≡ s ∷ []) → Not (One P (linesIn s))
-not-one P s f o = go (decLt (0 + upTo 13 s) (length s))
+not-one P s f o = go (decLt (0 + countUpTo 13 s) (length s))
   where
     none : (l : Line) (ms : List Line) → 1 ≤ length ms → One P (l ∷ ms) → ⊥
     none l [] h x = absurd (omega arith)
     none l (m ∷ ms) h x = x
 
-    go : Dec (0 + upTo 13 s < length s) → ⊥
-    go (yes k) = let g = on-0 s (0 + upTo 13 s) refl (min (0 + upTo 13 s + 2) (length s)) k refl in none (take (0 + upTo 13 s) s) (linesIn (drop (min (0 + upTo 13 s + 2) (length s)) s)) (g .2) (rw (g .0) at o)
-    go (no k) = f (last-0 s (0 + upTo 13 s) refl (omega arith) ∙ ap (λ (l : Line). l ∷ []) (take-all (0 + upTo 13 s) s (omega arith)))
+    go : Dec (0 + countUpTo 13 s < length s) → ⊥
+    go (yes k) = let g = on-0 s (0 + countUpTo 13 s) refl (min (0 + countUpTo 13 s + 2) (length s)) k refl in none (take (0 + countUpTo 13 s) s) (linesIn (drop (min (0 + countUpTo 13 s + 2) (length s)) s)) (g .2) (rw (g .0) at o)
+    go (no k) = f (last-0 s (0 + countUpTo 13 s) refl (omega arith) ∙ ap (λ (l : Line). l ∷ []) (take-all (0 + countUpTo 13 s) s (omega arith)))

@@ -9,11 +9,11 @@ use native.Mathlib.Omega.{arith}
 use lib.ListN.{length}
 use Rattle.base.specs.Bytes.{byte, digit}
 use Rattle.base.specs.Quoted.{bytes}
-use Rattle.contents.specs.Words.{Text, Digits, Perhaps, join, behind}
+use Rattle.contents.specs.Words.{Text, Digits, Perhaps, join, withMark}
 use Rattle.contents.specs.Lines.{RppLine}
 use Rattle.contents.specs.Answers.{cut, Leads, RppBody, RppWith}
 use Rattle.contents.proofs.LineTests.{way-size}
-use Rattle.contents.proofs.Laws.{Spot, spot, laid, Laid, made, cut-one, cut-first, cut-length, mark-stops, run-once, behind-some}
+use Rattle.contents.proofs.Laws.{Spot, spot, stands-at, StandsAt, made, cut-one, cut-first, cut-length, mark-stops, run-once, mark-some}
 
 abbrev spots : ℕ → List Spot → List Spot
 spots i tail = spot 1 (1 + i) ∷ spot 6 (7 + i) ∷ spot 1 (8 + i) ∷ spot 1 (9 + i) ∷ spot 1 (10 + i) ∷ spot 4 (14 + i) ∷ tail
@@ -34,17 +34,17 @@ pub record RppTests (n : ℕ) (l : Text) : Type 0 where
   pub tail : Not (length l ≡ 14 + (n + 5)) → (length l ≡ 21 + (n + 5)) × (byte l (14 + (n + 5)) ≡ 46) × Digits 6 (cut (15 + (n + 5)) 6 l)
 
 module _ (number date turn way value l : Text) (t : RppLine number date turn way value l) where
-  short-laid : value ≡ [] → Laid 0 (short (length number)) (bytes "/RPP/" ∷ number ∷ bytes "." ∷ date ∷ bytes "." ∷ turn ∷ bytes "." ∷ way ∷ [] ∷ []) l
+  short-laid : value ≡ [] → StandsAt 0 (short (length number)) (bytes "/RPP/" ∷ number ∷ bytes "." ∷ date ∷ bytes "." ∷ turn ∷ bytes "." ∷ way ∷ [] ∷ []) l
   short-laid e =
-      laid (short (length number)) (bytes "/RPP/" ∷ number ∷ bytes "." ∷ date ∷ bytes "." ∷ turn ∷ bytes "." ∷ way ∷ [] ∷ []) l
+      stands-at (short (length number)) (bytes "/RPP/" ∷ number ∷ bytes "." ∷ date ∷ bytes "." ∷ turn ∷ bytes "." ∷ way ∷ [] ∷ []) l
       (refl, refl, (refl, refl, (refl, refl, (t .day .size, omega arith, (refl, omega arith, (t .order .size, omega arith, (refl, omega arith, (way-size way (t .kind), omega arith, (refl, omega arith, tt)))))))))
       (t .line ∙ rw e)
 
-  long-laid : Digits 6 value → Laid 0 (long (length number)) (bytes "/RPP/" ∷ number ∷ bytes "." ∷ date ∷ bytes "." ∷ turn ∷ bytes "." ∷ way ∷ bytes "." ∷ value ∷ []) l
+  long-laid : Digits 6 value → StandsAt 0 (long (length number)) (bytes "/RPP/" ∷ number ∷ bytes "." ∷ date ∷ bytes "." ∷ turn ∷ bytes "." ∷ way ∷ bytes "." ∷ value ∷ []) l
   long-laid d =
-      laid (long (length number)) (bytes "/RPP/" ∷ number ∷ bytes "." ∷ date ∷ bytes "." ∷ turn ∷ bytes "." ∷ way ∷ bytes "." ∷ value ∷ []) l
+      stands-at (long (length number)) (bytes "/RPP/" ∷ number ∷ bytes "." ∷ date ∷ bytes "." ∷ turn ∷ bytes "." ∷ way ∷ bytes "." ∷ value ∷ []) l
       (refl, refl, (refl, refl, (refl, refl, (t .day .size, omega arith, (refl, omega arith, (t .order .size, omega arith, (refl, omega arith, (way-size way (t .kind), omega arith, (refl, omega arith, (d .size, omega arith, tt))))))))))
-      (t .line ∙ rw (behind-some "." value (omega (arith, d .size))))
+      (t .line ∙ rw (mark-some "." value (omega (arith, d .size))))
 
   -- the pieces that both have, as tests
   module _ (n : ℕ) (z : n ≡ length number) (h : 14 + (n + 5) ≤ length l) (w : cut 0 5 l ≡ bytes "/RPP/") (a : cut 5 n l ≡ number)
@@ -96,7 +96,7 @@ module _ (n : ℕ) (l : Text) (w : cut 0 5 l ≡ bytes "/RPP/") (a : Leads 5 3 l
   point-at i k e = cut-one i l k ∙ rw e
 
   pub rpp-made : (value : Text) → Perhaps (Digits 6) value
-      → l ≡ join (cut 0 5 l ∷ cut 5 n l ∷ cut (n + 5) 1 l ∷ cut (1 + (n + 5)) 6 l ∷ cut (7 + (n + 5)) 1 l ∷ cut (8 + (n + 5)) 1 l ∷ cut (9 + (n + 5)) 1 l ∷ cut (10 + (n + 5)) 4 l ∷ behind "." value ∷ [])
+      → l ≡ join (cut 0 5 l ∷ cut 5 n l ∷ cut (n + 5) 1 l ∷ cut (1 + (n + 5)) 6 l ∷ cut (7 + (n + 5)) 1 l ∷ cut (8 + (n + 5)) 1 l ∷ cut (9 + (n + 5)) 1 l ∷ cut (10 + (n + 5)) 4 l ∷ withMark "." value ∷ [])
       → RppLine (cut 5 n l) (cut (1 + (n + 5)) 6 l) (cut (8 + (n + 5)) 1 l) (cut (10 + (n + 5)) 4 l) value l
   rpp-made value v e = record {
     serial = record { least = omega (arith, cut-length 5 n l (a .within)); most = omega (arith, cut-length 5 n l (a .within), a .most); each = a .each };
@@ -114,7 +114,7 @@ module _ (n : ℕ) (l : Text) (w : cut 0 5 l ≡ bytes "/RPP/") (a : Leads 5 3 l
   rpp-long e p d = (
     rpp-made (cut (15 + (n + 5)) 6 l) (inr d)
         (made (long n) l (refl, (refl, (refl, (omega arith, (omega arith, (omega arith, (omega arith, (omega arith, (omega arith, (omega arith, sym e))))))))))
-        ∙ rw (point-at (14 + (n + 5)) (omega arith) p, behind-some "." (cut (15 + (n + 5)) 6 l) (omega (arith, d .size)))),
+        ∙ rw (point-at (14 + (n + 5)) (omega arith) p, mark-some "." (cut (15 + (n + 5)) 6 l) (omega (arith, d .size)))),
     cut-length 5 n l (a .within),
     d .size,
   )

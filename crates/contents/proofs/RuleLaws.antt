@@ -15,11 +15,11 @@ use Rattle.base.proofs.Bools.{left, right, both}
 use Rattle.base.proofs.RuleLaws.{fine-broken}
 use Rattle.base.proofs.SaysLaws.{is-so}
 use Rattle.fields.specs.Field.{Field, field, lined, linesOf, fields}
-use Rattle.fields.specs.Places.{sizeOf, startOf, nextOf}
+use Rattle.fields.specs.Places.{linesSize, startOf, nextOf}
 use Rattle.fields.proofs.PlaceLaws.{size-append}
 use Rattle.types.specs.declared.Form.{Form}
 use Rattle.types.specs.declared.Form.the-variants.{Other, Mt103, Mt202}
-use Rattle.types.specs.Form.{Place, must, placesOf, places103, places202}
+use Rattle.types.specs.Form.{Place, mandatory, placesOf, places103, places202}
 use Rattle.types.specs.Walk.{find, walked}
 use Rattle.types.specs.Sign.{firstLine, signOf}
 use Rattle.types.proofs.WalkLaws.{seated, walked-accepted}
@@ -61,12 +61,12 @@ module _ (n : ℕ) (test : Field → Bool) (place : ℕ → Field → ℕ) where
   pass-all o (f ∷ fs) e = rw (left (test f) (all test fs) e) (pass-all (nextOf o f) fs (right (test f) (all test fs) e))
 
   at-wrong : (o : ℕ) (us : List Field) (f : Field) (ws : List Field) → all test us ≡ true → test f ≡ false
-      → firstWrong n test place o (us ++ f ∷ ws) ≡ Broken n (place (o + sizeOf (linesOf us)) f)
+      → firstWrong n test place o (us ++ f ∷ ws) ≡ Broken n (place (o + linesSize (linesOf us)) f)
   unfolding firstWrong
   at-wrong o [] f ws e q = let z : o ≡ o + 0 = omega arith in rw q (ap (λ (k : ℕ). Broken n (place k f)) z)
   at-wrong o (u ∷ us) f ws e q =
       let s = size-append (lined u) (linesOf us) in
-      let z : nextOf o u + sizeOf (linesOf us) ≡ o + sizeOf (lined u ++ linesOf us) = omega arith in
+      let z : nextOf o u + linesSize (linesOf us) ≡ o + linesSize (lined u ++ linesOf us) = omega arith in
       rw (left (test u) (all test us) e) (at-wrong (nextOf o u) us f ws (right (test u) (all test us) e) q ∙ ap (λ (k : ℕ). Broken n (place k f)) z)
 
   -- it gives no other number
@@ -95,7 +95,7 @@ module _ (form : Form) (sign : Bool) where
   further : (o : ℕ) (f : Field) (fs : List Field) (p : ℕ) → RightField form sign f → FirstWrong form sign (nextOf o f) fs p → FirstWrong form sign o (f ∷ fs) p
   further o f fs p e w =
       let s = size-append (lined f) (linesOf (w .before)) in
-      let z : nextOf o f + sizeOf (linesOf (w .before)) ≡ o + sizeOf (lined f ++ linesOf (w .before)) = omega arith in
+      let z : nextOf o f + linesSize (linesOf (w .before)) ≡ o + linesSize (lined f ++ linesOf (w .before)) = omega arith in
       record {
         before = f ∷ w .before;
         this = w .this;
@@ -145,11 +145,11 @@ rule8-broken form m p =
     )
 
 -- ---- the sign of a message whose walk is accepted: its first field is 20
-starts-20 : (t : List ℕ) (ps : List Place) → Seated (must (bytes "20" ∷ []) ∷ ps) 0 (find (must (bytes "20" ∷ []) ∷ ps) t) → same t (bytes "20") ≡ true
+starts-20 : (t : List ℕ) (ps : List Place) → Seated (mandatory (bytes "20" ∷ []) ∷ ps) 0 (find (mandatory (bytes "20" ∷ []) ∷ ps) t) → same t (bytes "20") ≡ true
 unfolding find
 starts-20 t ps s = go (same t (bytes "20")) s
   where
-    go : (b : Bool) → Seated (must (bytes "20" ∷ []) ∷ ps) 0 (pick (b || false) 0 (suc (find ps t))) → b ≡ true
+    go : (b : Bool) → Seated (mandatory (bytes "20" ∷ []) ∷ ps) 0 (pick (b || false) 0 (suc (find ps t))) → b ≡ true
     go true s = refl
     go false s = absurd (s .free (record { at = 0; low = omega arith; high = omega arith; mandatory = refl }))
 

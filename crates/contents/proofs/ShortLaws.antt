@@ -13,7 +13,7 @@ use Rattle.contents.specs.Words.{Text}
 use Rattle.contents.specs.Lines.{Reference}
 use Rattle.contents.specs.Fields.{IsPurpose}
 use Rattle.contents.specs.Answers.{cut, HasPair}
-use Rattle.contents.proofs.Laws.{spot, laid, made, cut-one, cut-on, cut-byte, head-tail}
+use Rattle.contents.proofs.Laws.{spot, stands-at, made, cut-one, cut-on, cut-byte, head-tail}
 
 -- ---- //
 abbrev pub Pair : ℕ → Text → Type 0
@@ -28,7 +28,7 @@ pair-made j l (h, a, b) =
 pub pair-there : (l : Text) → HasPair l → (j : ℕ) × Pair j l
 pair-there l p =
     let j : ℕ = length (p .first) in
-    let q = laid (spot j j ∷ spot 2 (2 + j) ∷ spot (length (p .rest)) (length (p .rest) + (2 + j)) ∷ []) (p .first ∷ bytes "//" ∷ p .rest ∷ []) l
+    let q = stands-at (spot j j ∷ spot 2 (2 + j) ∷ spot (length (p .rest)) (length (p .rest) + (2 + j)) ∷ []) (p .first ∷ bytes "//" ∷ p .rest ∷ []) l
     (refl, omega arith, (refl, refl, (refl, refl, tt))) (p .line) in
     let z = q .1 .1 .1 in
     let k : j + 0 ≡ j = omega arith in (

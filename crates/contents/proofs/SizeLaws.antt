@@ -10,15 +10,16 @@ use lib.ListN.{length, length-append}
 use Rattle.base.specs.Bytes.{empty}
 use Rattle.base.specs.Quoted.{bytes}
 use Rattle.base.specs.Says.{_or_}
+use Rattle.base.specs.Examples.{AllHold}
 use Rattle.fields.specs.Field.{field}
-use Rattle.fields.specs.Places.{sizeOf}
+use Rattle.fields.specs.Places.{linesSize}
 use Rattle.types.specs.declared.Form.{Form}
 use Rattle.types.specs.Sign.{firstLine}
 use Rattle.contents.specs.declared.Content.{Content}
 use Rattle.contents.specs.declared.Content.the-variants as holds
-use Rattle.contents.specs.Words.{Text, Line, Size, Just, Perhaps, join, behind}
-use Rattle.contents.specs.Lines.{Reference, Name, opening, closing}
-use Rattle.contents.specs.Fields.{Is, IsPurpose, IsPayment, IsOwnAccount, IsParty, IsBic, IsAccount, IsTax, IsRpp, One, Then, Each, Names, Beside, Customer, Details, Right}
+use Rattle.contents.specs.Words.{Text, Line, Size, Just, Perhaps, join, withMark}
+use Rattle.contents.specs.Lines.{Reference, Name, codeOpening, codeClosing}
+use Rattle.contents.specs.Fields.{Is, IsPurpose, IsPayment, IsOwnAccount, IsParty, IsBic, IsAccount, IsTax, IsRpp, One, Then, Names, Beside, Customer, Details, Right}
 use Rattle.contents.specs.Tags.{heldBy}
 use Rattle.contents.specs.Rule8.{rightField}
 use Rattle.contents.proofs.LineLaws.{account-size}
@@ -31,9 +32,9 @@ some-just : {kind : ℕ → Bool} (n : ℕ) (s : Text) → Perhaps (Just kind n)
 some-just n s (inl e) = omega (arith, ap length e)
 some-just n s (inr j) = omega (arith, j .size)
 
-behind-size : (mark : String) (s : Text) → length (behind mark s) ≤ length (bytes mark) + length s
-behind-size mark [] = omega arith
-behind-size mark (x ∷ s) = omega (arith, length-append (bytes mark) (x ∷ s))
+mark-size : (mark : String) (s : Text) → length (withMark mark s) ≤ length (bytes mark) + length s
+mark-size mark [] = omega arith
+mark-size mark (x ∷ s) = omega (arith, length-append (bytes mark) (x ∷ s))
 
 reference-name : (l : Line) → Reference l → Name l
 reference-name l r = let z = r .size in record { least = z .least; most = omega arith }
@@ -55,14 +56,14 @@ own-name l p = let e = simp length-append at (ap length (p .1 .line)) in let n =
 party-name : (l : Line) → IsParty l → Name l
 party-name l (inl (bik, account, p)) =
     let e = simp length-append at (ap length (p .line)) in
-    let c = p .code in
-    let b = behind-size "." account in
+    let c = p .nine in
+    let b = mark-size "." account in
     let n = some-just 20 account (p .number) in
     record { least = omega arith; most = omega arith }
 party-name l (inr (account, p)) = let e = simp length-append at (ap length (p .line)) in let n = p .number in record { least = omega arith; most = omega arith }
 
 bic-name : (l : Line) → IsBic l → Name l
-bic-name l (bank, land, place, branch, p) =
+bic-name l (bank, land, location, branch, p) =
     let e = simp length-append at (ap length (p .line)) in
     let a = p .four in
     let b = p .two in
@@ -87,7 +88,7 @@ rpp-name l (number, date, turn, way, value, p) =
     let d = p .day in
     let o = p .order in
     let w = way-size way (p .kind) in
-    let b = behind-size "." value in
+    let b = mark-size "." value in
     let v = some-just 6 value (p .due) in
     record { least = omega arith; most = omega arith }
 
@@ -115,7 +116,7 @@ beside-names twelve ls (inr p) = p .1
 customer-names : (twelve : Bool) (ls : List Line) → Customer twelve ls → Names 5 ls
 customer-names twelve ls p = then-names account-name (beside-names twelve) ls p
 
-marked-names : (later : String) (rest : ℕ) (ts : List Text) → length (bytes later) + rest ≤ 35 → Each (Size 1 rest) ts → Each Name (map (λ (s : Text). bytes later ++ s) ts)
+marked-names : (later : String) (rest : ℕ) (ts : List Text) → length (bytes later) + rest ≤ 35 → AllHold (Size 1 rest) ts → AllHold Name (map (λ (s : Text). bytes later ++ s) ts)
 marked-names later rest [] h e = tt
 marked-names later rest (t ∷ ts) h e =
     let n = length-append (bytes later) t in
@@ -127,7 +128,7 @@ module _ (first later : String) (room rest most : ℕ) (sign : Bool) (h : length
   details-names ls (code, t, ts, d) =
       let n = simp length-append at (d .front) in
       let c = d .number in
-      let front : Name (join (bytes first ∷ opening sign ∷ code ∷ closing sign ∷ t ∷ [])) = record { least = simp length-append (omega arith); most = simp length-append (omega arith) } in
+      let front : Name (join (bytes first ∷ codeOpening sign ∷ code ∷ codeClosing sign ∷ t ∷ [])) = record { least = simp length-append (omega arith); most = simp length-append (omega arith) } in
       record { least = omega (arith, ap length (d .lines)); most = d .count; each = rw (d .lines) (front, marked-names later rest ts k (d .back)) }
 
 -- ---- every content
@@ -163,9 +164,9 @@ names-some ((x ∷ l) ∷ ls) p = refl
 pub right-nonempty : (form : Form) (sign : Bool) (t : List ℕ) (ls : List (List ℕ)) → rightField form sign (field t ls) ≡ true → empty (firstLine ls) ≡ false
 right-nonempty form sign t ls e = names-some ls (right-names (heldBy form t) sign ls (field-says form sign (field t ls) .0 e))
 
-lines-size : (ls : List Line) → Each Name ls → sizeOf ls ≤ 37 * length ls
+lines-size : (ls : List Line) → AllHold Name ls → linesSize ls ≤ 37 * length ls
 lines-size [] e = omega arith
 lines-size (l ∷ ls) e = omega (arith, e .0 .most, lines-size ls (e .1))
 
-pub right-size : (c : Content) (sign : Bool) (ls : List (List ℕ)) → Right c sign ls → sizeOf ls ≤ 37 * 6
+pub right-size : (c : Content) (sign : Bool) (ls : List (List ℕ)) → Right c sign ls → linesSize ls ≤ 37 * 6
 right-size c sign ls r = let p = right-names c sign ls r in let m = p .most in omega (arith, lines-size ls (p .each))

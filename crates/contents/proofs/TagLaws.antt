@@ -32,7 +32,7 @@ no-tag (tag u c ∷ ts) n h = go (same (unpack n) (bytes u)) refl (no-tag ts n (
 -- ---- the tags that hold something are those of the form's places, in order
 abbrev tagsIn : List Place → List (List ℕ)
 tagsIn [] = []
-tagsIn (p ∷ ps) = tables.tagsOf p ++ tagsIn ps
+tagsIn (p ∷ ps) = tables.placeTags p ++ tagsIn ps
 
 abbrev names : List Tag → List (List ℕ)
 names [] = []

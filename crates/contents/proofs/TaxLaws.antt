@@ -11,7 +11,7 @@ use Rattle.base.specs.Quoted.{bytes}
 use Rattle.contents.specs.Words.{Text, Digits, Perhaps}
 use Rattle.contents.specs.Lines.{Inn, TaxLine}
 use Rattle.contents.specs.Answers.{cut, InnSize, InnBy, TaxWith}
-use Rattle.contents.proofs.Laws.{Spot, spot, laid, Laid, made, behind-some}
+use Rattle.contents.proofs.Laws.{Spot, spot, stands-at, StandsAt, made, mark-some}
 
 inn-size : (twelve : Bool) (inn : Text) → Inn twelve inn → InnSize twelve (length inn) × Digits (length inn) inn
 inn-size true inn (inl p) = (inl (p .size), record { size = refl; each = p .each })
@@ -36,13 +36,13 @@ abbrev kpp-spots : ℕ → List Spot
 kpp-spots n = spot 3 3 ∷ spot n (n + 3) ∷ spot 4 (4 + (n + 3)) ∷ spot 9 (n + 16) ∷ []
 
 module _ (twelve : Bool) (inn kpp l : Text) (t : TaxLine twelve inn kpp l) where
-  inn-laid : kpp ≡ [] → Laid 0 (inn-spots (length inn)) (bytes "INN" ∷ inn ∷ [] ∷ []) l
-  inn-laid e = laid (inn-spots (length inn)) (bytes "INN" ∷ inn ∷ [] ∷ []) l (refl, refl, (refl, refl, (refl, omega arith, tt))) (t .line ∙ rw e)
+  inn-laid : kpp ≡ [] → StandsAt 0 (inn-spots (length inn)) (bytes "INN" ∷ inn ∷ [] ∷ []) l
+  inn-laid e = stands-at (inn-spots (length inn)) (bytes "INN" ∷ inn ∷ [] ∷ []) l (refl, refl, (refl, refl, (refl, omega arith, tt))) (t .line ∙ rw e)
 
-  kpp-laid : Digits 9 kpp → Laid 0 (kpp-spots (length inn)) (bytes "INN" ∷ inn ∷ bytes ".KPP" ∷ kpp ∷ []) l
+  kpp-laid : Digits 9 kpp → StandsAt 0 (kpp-spots (length inn)) (bytes "INN" ∷ inn ∷ bytes ".KPP" ∷ kpp ∷ []) l
   kpp-laid d =
-      laid (kpp-spots (length inn)) (bytes "INN" ∷ inn ∷ bytes ".KPP" ∷ kpp ∷ []) l (refl, refl, (refl, refl, (refl, refl, (d .size, omega arith, tt))))
-      (t .line ∙ rw (behind-some ".KPP" kpp (omega (arith, d .size))))
+      stands-at (kpp-spots (length inn)) (bytes "INN" ∷ inn ∷ bytes ".KPP" ∷ kpp ∷ []) l (refl, refl, (refl, refl, (refl, refl, (d .size, omega arith, tt))))
+      (t .line ∙ rw (mark-some ".KPP" kpp (omega (arith, d .size))))
 
 -- what the code tests
 pub record TaxTests (twelve : Bool) (n : ℕ) (l : Text) : Type 0 where
@@ -94,7 +94,7 @@ module _ (twelve : Bool) (l : Text) (n : ℕ) (b : InnBy twelve (length l) n) wh
     record {
       person = inn-made twelve n (cut 3 n l) (b .found z .0) d;
       reason = inr k;
-      line = made (kpp-spots n) l (refl, (refl, (refl, (omega arith, tax-long z off)))) ∙ rw (w, v, behind-some ".KPP" (cut (4 + (n + 3)) 9 l) (omega (arith, k .size)));
+      line = made (kpp-spots n) l (refl, (refl, (refl, (omega arith, tax-long z off)))) ∙ rw (w, v, mark-some ".KPP" (cut (4 + (n + 3)) 9 l) (omega (arith, k .size)));
     },
     d .size,
     k .size,

@@ -9,29 +9,30 @@ use native.Mathlib.Decide.{decLt}
 use lib.ListN.{length, drop, length-map, length-drop, take-append-drop}
 use Rattle.base.specs.Quoted.{bytes}
 use Rattle.contents.specs.Words.{Text, Line, Size, Digits, join}
-use Rattle.contents.specs.Lines.{opening, closing}
-use Rattle.contents.specs.Fields.{Names, Each, Several, In70, In72}
+use Rattle.contents.specs.Lines.{codeOpening, codeClosing}
+use Rattle.contents.specs.Fields.{Names, Several, In70, In72}
 use Rattle.contents.specs.Answers.{cut, VoFirst, textAt, IsMarked, NzpFirst, RppWith}
-use Rattle.contents.proofs.Laws.{Spot, spot, laid, made}
+use Rattle.contents.proofs.Laws.{Spot, spot, stands-at, made}
 use Rattle.contents.proofs.RppLaws.{rpp-front}
 use Rattle.base.specs.Bytes.{byte}
+use Rattle.base.specs.Examples.{AllHold}
 
 -- where the code's digits begin, and where the text behind it
 abbrev pub codeAt : Bool → ℕ
-codeAt sign = length (opening sign)
+codeAt sign = length (codeOpening sign)
 
 abbrev spots : Bool → ℕ → List Spot
-spots sign n = spot (codeAt sign) (codeAt sign) ∷ spot 5 (5 + codeAt sign) ∷ spot (length (closing sign)) (textAt sign) ∷ spot n (n + textAt sign) ∷ []
+spots sign n = spot (codeAt sign) (codeAt sign) ∷ spot 5 (5 + codeAt sign) ∷ spot (length (codeClosing sign)) (textAt sign) ∷ spot n (n + textAt sign) ∷ []
 
 pub record VoTests (sign : Bool) (l : Text) : Type 0 where
   pub size : textAt sign ≤ length l
-  pub front : cut 0 (codeAt sign) l ≡ opening sign
-  pub close : cut (5 + codeAt sign) (length (closing sign)) l ≡ closing sign
+  pub front : cut 0 (codeAt sign) l ≡ codeOpening sign
+  pub close : cut (5 + codeAt sign) (length (codeClosing sign)) l ≡ codeClosing sign
   pub digits : Digits 5 (cut (codeAt sign) 5 l)
 
 pub vo-tests : (sign : Bool) (l : Text) → VoFirst sign l → VoTests sign l
 vo-tests sign l v =
-    let p = laid (spots sign (length (v .text))) (opening sign ∷ v .code ∷ closing sign ∷ v .text ∷ []) l (refl, omega arith, (v .digits .size, refl, (refl, refl, (refl, refl, tt)))) (v .line) in
+    let p = stands-at (spots sign (length (v .text))) (codeOpening sign ∷ v .vo ∷ codeClosing sign ∷ v .text ∷ []) l (refl, omega arith, (v .digits .size, refl, (refl, refl, (refl, refl, tt)))) (v .line) in
     record { size = omega (arith, p .1 .1 .1 .1); front = p .0; close = p .1 .1 .0; digits = rw (p .1 .0) (v .digits) }
 
 pub vo-made : (sign : Bool) (l : Text) → VoTests sign l → VoFirst sign l
@@ -39,7 +40,7 @@ vo-made sign l t =
     let n : ℕ = length l - textAt sign in
     let z = t .size in
     record {
-      code = cut (codeAt sign) 5 l;
+      vo = cut (codeAt sign) 5 l;
       text = cut (textAt sign) n l;
       digits = t .digits;
       line = made (spots sign n) l (omega arith, (refl, (refl, (refl, omega arith)))) ∙ rw (t .front, t .close);
@@ -52,7 +53,7 @@ same-lines (t ∷ ts) = ap (λ (x : List Text). t ∷ x) (same-lines ts)
 
 pub vo-size : (sign : Bool) (l : Text) (v : VoFirst sign l) → length l ≡ length (v .text) + textAt sign
 vo-size sign l v =
-    let p = laid (spots sign (length (v .text))) (opening sign ∷ v .code ∷ closing sign ∷ v .text ∷ []) l (refl, omega arith, (v .digits .size, refl, (refl, refl, (refl, refl, tt)))) (v .line) in
+    let p = stands-at (spots sign (length (v .text))) (codeOpening sign ∷ v .vo ∷ codeClosing sign ∷ v .text ∷ []) l (refl, omega arith, (v .digits .size, refl, (refl, refl, (refl, refl, tt)))) (v .line) in
     p .1 .1 .1 .1
 
 empty : (s : Text) → length s ≡ 0 → s ≡ []
@@ -63,7 +64,7 @@ module _ (sign : Bool) (l : Line) where
   -- what makes a 70
   pub in70-more : (ms : List Line) → VoFirst sign l → length l ≤ 35 → Names 3 ms → In70 sign (l ∷ ms)
   in70-more ms v h n = let a = n .most in let b = n .least in (
-    v .code,
+    v .vo,
     v .text,
     ms,
     record {
@@ -78,7 +79,7 @@ module _ (sign : Bool) (l : Line) where
 
   pub in70-one : VoFirst sign l → length l ≤ 35 → textAt sign < length l → In70 sign (l ∷ [])
   in70-one v h n = (
-    v .code,
+    v .vo,
     v .text,
     [],
     record {
@@ -93,14 +94,14 @@ module _ (sign : Bool) (l : Line) where
 
   -- and what a 70 has
   module _ (ms : List Line) (d : In70 sign (l ∷ ms)) where
-    head-is : l ≡ join (opening sign ∷ d .0 ∷ closing sign ∷ d .1 ∷ [])
+    head-is : l ≡ join (codeOpening sign ∷ d .0 ∷ codeClosing sign ∷ d .1 ∷ [])
     head-is = let e = d .3 .lines in cc
 
     tail-is : ms ≡ d .2
     tail-is = let e = d .3 .lines in let f = same-lines (d .2) in cc
 
     pub in70-vo : VoFirst sign l
-    in70-vo = record { code = d .0; text = d .1; digits = d .3 .number; line = head-is }
+    in70-vo = record { vo = d .0; text = d .1; digits = d .3 .number; line = head-is }
 
     pub in70-wide : length l ≤ 35
     in70-wide = omega (arith, ap length head-is, d .3 .front)
@@ -113,17 +114,17 @@ module _ (sign : Bool) (l : Line) where
       where
         go : Dec (textAt sign < length l) → textAt sign < length l
         go (yes k) = k
-        go (no k) = absurd (d .3 .text (empty (d .1) (omega (arith, vo-size sign l (record { code = d .0; text = d .1; digits = d .3 .number; line = head-is }))), sym tail-is ∙ e))
+        go (no k) = absurd (d .3 .text (empty (d .1) (omega (arith, vo-size sign l (record { vo = d .0; text = d .1; digits = d .3 .number; line = head-is }))), sym tail-is ∙ e))
 
 -- ---- 72 in 202, of the lines l and ms
 abbrev mark : Text → Line
 mark s = bytes "//" ++ s
 
-marked-of : (ts : List Text) → Each (Size 1 33) ts → Each IsMarked (map (λ (s : Text). bytes "//" ++ s) ts)
+marked-of : (ts : List Text) → AllHold (Size 1 33) ts → AllHold IsMarked (map (λ (s : Text). bytes "//" ++ s) ts)
 marked-of [] e = tt
 marked-of (t ∷ ts) e = ((t, refl, e .0), marked-of ts (e .1))
 
-texts-of : (ms : List Line) → Each IsMarked ms → (ts : List Text) × (ms ≡ map (λ (s : Text). bytes "//" ++ s) ts) × Each (Size 1 33) ts
+texts-of : (ms : List Line) → AllHold IsMarked ms → (ts : List Text) × (ms ≡ map (λ (s : Text). bytes "//" ++ s) ts) × AllHold (Size 1 33) ts
 texts-of [] e = ([], refl, tt)
 texts-of (m ∷ ms) e =
     let r = texts-of ms (e .1) in
@@ -137,13 +138,13 @@ module _ (sign : Bool) (most : ℕ) (l : Line) where
   in72-more ms g v n =
       let r = texts-of ms (n .each) in
       let a = n .most in let b = n .least in let z = ap length (r .1) ∙ many (r .0) in (
-        v .code .code,
-        v .code .text,
+        v .vo-first .vo,
+        v .vo-first .text,
         r .0,
         record {
-          number = v .code .digits;
-          lines = ap₂ (λ (x : Line) (y : List Line). x ∷ y) (v .line ∙ rw (v .code .line)) (r .1);
-          front = omega (arith, ap length (v .code .line), v .room);
+          number = v .vo-first .digits;
+          lines = ap₂ (λ (x : Line) (y : List Line). x ∷ y) (v .line ∙ rw (v .vo-first .line)) (r .1);
+          front = omega (arith, ap length (v .vo-first .line), v .room);
           back = r .2;
           count = omega arith;
           text = λ w. let e = ap length (w .1) in absurd (omega arith);
@@ -152,28 +153,28 @@ module _ (sign : Bool) (most : ℕ) (l : Line) where
 
   pub in72-one : 1 ≤ most → NzpFirst sign l → 5 + textAt sign < length l → In72 sign most (l ∷ [])
   in72-one g v n = (
-    v .code .code,
-    v .code .text,
+    v .vo-first .vo,
+    v .vo-first .text,
     [],
     record {
-      number = v .code .digits;
-      lines = ap (λ (x : Line). x ∷ []) (v .line ∙ rw (v .code .line));
-      front = omega (arith, ap length (v .code .line), v .room);
+      number = v .vo-first .digits;
+      lines = ap (λ (x : Line). x ∷ []) (v .line ∙ rw (v .vo-first .line));
+      front = omega (arith, ap length (v .vo-first .line), v .room);
       back = tt;
       count = omega arith;
-      text = λ z. let e = ap length (z .0) in absurd (omega (arith, vo-size sign (v .rest) (v .code), ap length (v .line)));
+      text = λ z. let e = ap length (z .0) in absurd (omega (arith, vo-size sign (v .rest) (v .vo-first), ap length (v .line)));
     },
   )
 
   module _ (ms : List Line) (d : In72 sign most (l ∷ ms)) where
-    first-is : l ≡ bytes "/NZP/" ++ join (opening sign ∷ d .0 ∷ closing sign ∷ d .1 ∷ [])
+    first-is : l ≡ bytes "/NZP/" ++ join (codeOpening sign ∷ d .0 ∷ codeClosing sign ∷ d .1 ∷ [])
     first-is = let e = d .3 .lines in cc
 
     others-are : ms ≡ map (λ (s : Text). bytes "//" ++ s) (d .2)
     others-are = let e = d .3 .lines in cc
 
     pub in72-nzp : NzpFirst sign l
-    in72-nzp = record { rest = join (opening sign ∷ d .0 ∷ closing sign ∷ d .1 ∷ []); line = first-is; code = record { code = d .0; text = d .1; digits = d .3 .number; line = refl }; room = d .3 .front }
+    in72-nzp = record { rest = join (codeOpening sign ∷ d .0 ∷ codeClosing sign ∷ d .1 ∷ []); line = first-is; vo-first = record { vo = d .0; text = d .1; digits = d .3 .number; line = refl }; room = d .3 .front }
 
     pub in72-marked : 1 ≤ length ms → Several IsMarked (most - 1) ms
     in72-marked h = record { least = h; most = omega (arith, d .3 .count); each = rw others-are (marked-of (d .2) (d .3 .back)) }
@@ -191,13 +192,13 @@ module _ (sign : Bool) (most : ℕ) (l : Line) where
         go : Dec (5 + textAt sign < length l) → 5 + textAt sign < length l
         go (yes k) = k
         go (no k) =
-            absurd (d .3 .text (empty (d .1) (omega (arith, ap length first-is, vo-size sign (join (opening sign ∷ d .0 ∷ closing sign ∷ d .1 ∷ [])) (record { code = d .0; text = d .1; digits = d .3 .number; line = refl }))), none (d .2) z))
+            absurd (d .3 .text (empty (d .1) (omega (arith, ap length first-is, vo-size sign (join (codeOpening sign ∷ d .0 ∷ codeClosing sign ∷ d .1 ∷ [])) (record { vo = d .0; text = d .1; digits = d .3 .number; line = refl }))), none (d .2) z))
 
 pub nzp-tests : (sign : Bool) (l : Text) → NzpFirst sign l → (5 ≤ length l) × (length l ≤ 35) × (cut 0 5 l ≡ bytes "/NZP/") × VoFirst sign (drop 5 l)
-nzp-tests sign l v = (omega (arith, ap length (v .line)), omega (arith, ap length (v .line), v .room), ap (cut 0 5) (v .line), rw (ap (drop 5) (v .line)) (v .code))
+nzp-tests sign l v = (omega (arith, ap length (v .line)), omega (arith, ap length (v .line), v .room), ap (cut 0 5) (v .line), rw (ap (drop 5) (v .line)) (v .vo-first))
 
 pub nzp-made : (sign : Bool) (l : Text) → 5 ≤ length l → length l ≤ 35 → cut 0 5 l ≡ bytes "/NZP/" → VoFirst sign (drop 5 l) → NzpFirst sign l
-nzp-made sign l a b w v = record { rest = drop 5 l; line = sym (take-append-drop 5 l) ∙ rw w; code = v; room = omega (arith, length-drop 5 l) }
+nzp-made sign l a b w v = record { rest = drop 5 l; line = sym (take-append-drop 5 l) ∙ rw w; vo-first = v; room = omega (arith, length-drop 5 l) }
 
 pub marked-tests : (l : Text) → IsMarked l → (3 ≤ length l) × (length l ≤ 35) × (cut 0 2 l ≡ bytes "//")
 marked-tests l m = let z = m .2 in (omega (arith, ap length (m .1), z .least), omega (arith, ap length (m .1), z .most), ap (cut 0 2) (m .1))

@@ -9,7 +9,7 @@ use Rattle.base.specs.Choice.{all}
 use Rattle.base.specs.Bytes.{byte, digit}
 use Rattle.base.specs.Quoted.{bytes}
 use Rattle.contents.specs.Words.{Text, Line, Digits, Size, join, BeginsWith}
-use Rattle.contents.specs.Lines.{Reference, PartyByBik, PartyByAccount, TaxLine, Payment, RppLine, Way, opening, closing, Name}
+use Rattle.contents.specs.Lines.{Reference, PartyByBik, PartyByAccount, TaxLine, Payment, RppLine, Way, codeOpening, codeClosing, Name}
 use Rattle.contents.specs.Fields.{Is, IsPurpose, IsPayment, IsOwnAccount, IsRpp, In72, RppAndDetails, IsParty, IsBic, BankByBic, BankByName, One, IsAccount, LooksTax, Then, Any, Names, Beside, Customer, Payer}
 use Rattle.contents.specs.declared.whole.Held.{Held}
 use Rattle.contents.specs.declared.whole.Held.the-variants as held
@@ -98,29 +98,29 @@ BesideSaid twelve at ls held.Wrong = Not (Beside twelve ls)
 BesideSaid twelve at ls held.Plain = Not (Then LooksTax Any ls) × Names 4 ls
 BesideSaid twelve at ls (held.Taxed p inn kpp) = (p ≡ at) × Then (TaxWith twelve inn kpp) (Names 3) ls
 
-abbrev pub Behind : Bool → List Line → Held → Type 0
-Behind twelve [] r = ⊥
-Behind twelve (l ∷ ls) r = IsAccount l × BesideSaid twelve (length l + 2) ls r
+abbrev pub AccountFirst : Bool → List Line → Held → Type 0
+AccountFirst twelve [] r = ⊥
+AccountFirst twelve (l ∷ ls) r = IsAccount l × BesideSaid twelve (length l + 2) ls r
 
 abbrev pub CustomerSaid : Bool → List Line → Held → Type 0
 CustomerSaid twelve ls held.Wrong = Not (Customer twelve ls)
-CustomerSaid twelve ls held.Plain = Behind twelve ls held.Plain
-CustomerSaid twelve ls (held.Taxed p inn kpp) = Behind twelve ls (held.Taxed p inn kpp)
+CustomerSaid twelve ls held.Plain = AccountFirst twelve ls held.Plain
+CustomerSaid twelve ls (held.Taxed p inn kpp) = AccountFirst twelve ls (held.Taxed p inn kpp)
 
-abbrev pub Bare : List Line → Held → Type 0
-Bare ls r = Not (Then (BeginsWith "/") Any ls) × BesideSaid true 0 ls r
+abbrev pub NoAccount : List Line → Held → Type 0
+NoAccount ls r = Not (Then (BeginsWith "/") Any ls) × BesideSaid true 0 ls r
 
 abbrev pub PayerSaid : List Line → Held → Type 0
 PayerSaid ls held.Wrong = Not (Payer ls)
-PayerSaid ls held.Plain = Behind true ls held.Plain or Bare ls held.Plain
-PayerSaid ls (held.Taxed p inn kpp) = Behind true ls (held.Taxed p inn kpp) or Bare ls (held.Taxed p inn kpp)
+PayerSaid ls held.Plain = AccountFirst true ls held.Plain or NoAccount ls held.Plain
+PayerSaid ls (held.Taxed p inn kpp) = AccountFirst true ls (held.Taxed p inn kpp) or NoAccount ls (held.Taxed p inn kpp)
 
 -- ---- a line that begins with the VO code
 pub record VoFirst (sign : Bool) (l : Line) : Type 0 where
-  pub code : Text
+  pub vo : Text
   pub text : Text
-  pub digits : Digits 5 code
-  pub line : l ≡ join (opening sign ∷ code ∷ closing sign ∷ text ∷ [])
+  pub digits : Digits 5 vo
+  pub line : l ≡ join (codeOpening sign ∷ vo ∷ codeClosing sign ∷ text ∷ [])
 
 -- ---- banks
 abbrev pub noParty : Party → Bool
@@ -154,19 +154,19 @@ abbrev pub IsMarked : Line → Type 0
 IsMarked l = (s : Text) × (l ≡ bytes "//" ++ s) × Size 1 33 s
 
 -- a later line of 72's details, or a name
-abbrev pub Later : Bool → Line → Type 0
-Later true = IsMarked
-Later false = Name
+abbrev pub LaterOrName : Bool → Line → Type 0
+LaterOrName true = IsMarked
+LaterOrName false = Name
 
 pub record NzpFirst (sign : Bool) (l : Line) : Type 0 where
   pub rest : Text
   pub line : l ≡ bytes "/NZP/" ++ rest
-  pub code : VoFirst sign rest
+  pub vo-first : VoFirst sign rest
   pub room : length rest ≤ 30
 
 -- where the VO code ends
 abbrev pub textAt : Bool → ℕ
-textAt sign = length (closing sign) + (5 + length (opening sign))
+textAt sign = length (codeClosing sign) + (5 + length (codeOpening sign))
 
 abbrev pub NoteSaid : Bool → List Line → Note → Type 0
 NoteSaid sign ls note.Wrong = Not (RppAndDetails sign ls)
@@ -190,22 +190,22 @@ isNote note.Plain = true
 isNote (note.Dated n v) = true
 
 -- ---- the contents of one line
-abbrev pub LineOf : Content → Line → Type 0
-LineOf holds.Unknown l = ⊥
-LineOf holds.Reference l = Reference l
-LineOf holds.Related l = Is "NONREF" l
-LineOf holds.Operation l = Is "CRED" l
-LineOf holds.Purpose l = IsPurpose l
-LineOf holds.Payment l = IsPayment l
-LineOf holds.Payer l = ⊥
-LineOf holds.BankByBic l = ⊥
-LineOf holds.BankByName l = ⊥
-LineOf holds.OwnAccount l = IsOwnAccount l
-LineOf holds.AccountAndBic l = ⊥
-LineOf holds.BeneficiaryBank l = ⊥
-LineOf holds.Beneficiary l = ⊥
-LineOf holds.Details l = ⊥
-LineOf holds.Charges l = Is "OUR" l
-LineOf holds.Document l = IsRpp l
-LineOf holds.DocumentAndDetails l = ⊥
-LineOf holds.Regulatory l = ⊥
+abbrev pub SingleLine : Content → Line → Type 0
+SingleLine holds.Unknown l = ⊥
+SingleLine holds.Reference l = Reference l
+SingleLine holds.Related l = Is "NONREF" l
+SingleLine holds.Operation l = Is "CRED" l
+SingleLine holds.Purpose l = IsPurpose l
+SingleLine holds.Payment l = IsPayment l
+SingleLine holds.Payer l = ⊥
+SingleLine holds.BankByBic l = ⊥
+SingleLine holds.BankByName l = ⊥
+SingleLine holds.OwnAccount l = IsOwnAccount l
+SingleLine holds.AccountAndBic l = ⊥
+SingleLine holds.BeneficiaryBank l = ⊥
+SingleLine holds.Beneficiary l = ⊥
+SingleLine holds.Details l = ⊥
+SingleLine holds.Charges l = Is "OUR" l
+SingleLine holds.Document l = IsRpp l
+SingleLine holds.DocumentAndDetails l = ⊥
+SingleLine holds.Regulatory l = ⊥

@@ -7,10 +7,11 @@ use mathlib.Core.List.{List, [], _∷_, _++_, map}
 use lib.ListN.{length}
 use Rattle.base.specs.Quoted.{bytes}
 use Rattle.base.specs.Says.{Not, _or_}
+use Rattle.base.specs.Examples.{AllHold}
 use Rattle.contents.specs.declared.Content.{Content}
 use Rattle.contents.specs.declared.Content.the-variants as holds
 use Rattle.contents.specs.Words.{Text, Line, Size, Digits, join, BeginsWith}
-use Rattle.contents.specs.Lines.{Reference, Purpose, Payment, OwnAccount, PartyByBik, PartyByAccount, Bic, Account, TaxLine, BeginsTax, Name, RppLine, opening, closing}
+use Rattle.contents.specs.Lines.{Reference, Purpose, Payment, OwnAccount, PartyByBik, PartyByAccount, Bic, Account, TaxLine, BeginsTax, Name, RppLine, codeOpening, codeClosing}
 
 -- ---- a line of a format, whatever its parts
 abbrev pub IsPurpose : Line → Type 0
@@ -26,7 +27,7 @@ abbrev pub IsParty : Line → Type 0
 IsParty l = ((bik account : Text) × PartyByBik bik account l) or ((account : Text) × PartyByAccount account l)
 
 abbrev pub IsBic : Line → Type 0
-IsBic l = (bank land place branch : Text) × Bic bank land place branch l
+IsBic l = (bank land location branch : Text) × Bic bank land location branch l
 
 abbrev pub IsAccount : Line → Type 0
 IsAccount l = (number : Text) × Account number l
@@ -59,15 +60,11 @@ Then P Q (l ∷ ls) = P l × Q ls
 abbrev pub Any : List Line → Type 0
 Any ls = Unit {0}
 
-abbrev pub Each : (Line → Type 0) → List Line → Type 0
-Each P [] = Unit {0}
-Each P (l ∷ ls) = P l × Each P ls
-
 -- from one to n lines, each of this kind
 pub record Several (P : Line → Type 0) (n : ℕ) (ls : List Line) : Type 0 where
   pub least : 1 ≤ length ls
   pub most : length ls ≤ n
-  pub each : Each P ls
+  pub each : AllHold P ls
 
 abbrev pub Names : ℕ → List Line → Type 0
 Names n ls = Several Name n ls
@@ -92,21 +89,21 @@ abbrev pub Payer : List Line → Type 0
 Payer ls = Customer true ls or (Not (Then (BeginsWith "/") Any ls) × Beside true ls)
 
 -- ---- Cdetails: the VO code and a text of at least one byte, over lines that begin with these marks, each within its room
-pub record Details (first later : String) (room rest most : ℕ) (sign : Bool) (code t : Text) (ts : List Text) (ls : List Line) : Type 0 where
-  pub number : Digits 5 code
-  pub lines : ls ≡ join (bytes first ∷ opening sign ∷ code ∷ closing sign ∷ t ∷ []) ∷ map (λ (s : Text). bytes later ++ s) ts
-  pub front : length (join (opening sign ∷ code ∷ closing sign ∷ t ∷ [])) ≤ room
-  pub back : Each (Size 1 rest) ts
+pub record Details (first later : String) (room rest most : ℕ) (sign : Bool) (vo t : Text) (ts : List Text) (ls : List Line) : Type 0 where
+  pub number : Digits 5 vo
+  pub lines : ls ≡ join (bytes first ∷ codeOpening sign ∷ vo ∷ codeClosing sign ∷ t ∷ []) ∷ map (λ (s : Text). bytes later ++ s) ts
+  pub front : length (join (codeOpening sign ∷ vo ∷ codeClosing sign ∷ t ∷ [])) ≤ room
+  pub back : AllHold (Size 1 rest) ts
   pub count : length ls ≤ most
   pub text : Not ((t ≡ []) × (ts ≡ []))
 
 -- C70: 1 to 4 lines of 1 to 35 bytes
 abbrev pub In70 : Bool → List Line → Type 0
-In70 sign ls = (code t : Text) × (ts : List Text) × Details "" "" 35 35 4 sign code t ts ls
+In70 sign ls = (vo t : Text) × (ts : List Text) × Details "" "" 35 35 4 sign vo t ts ls
 
 -- C72 in 202: /NZP/ with room for 30, then // with room for 33; at most six lines, an RPP line counted
 abbrev pub In72 : Bool → ℕ → List Line → Type 0
-In72 sign most ls = (code t : Text) × (ts : List Text) × Details "/NZP/" "//" 30 33 most sign code t ts ls
+In72 sign most ls = (vo t : Text) × (ts : List Text) × Details "/NZP/" "//" 30 33 most sign vo t ts ls
 
 abbrev pub RppAndDetails : Bool → List Line → Type 0
 RppAndDetails sign ls = In72 sign 6 ls or Then IsRpp (In72 sign 5) ls

@@ -8,7 +8,7 @@ use lib.ListN.{length, take}
 use Rattle.base.specs.Bytes.{digit}
 use Rattle.base.specs.Quoted.{bytes}
 use Rattle.base.specs.Says.{Not, _or_}
-use Rattle.contents.specs.Words.{Text, Line, Size, Run, Some, Digits, Capitals, CapitalsOrDigits, Perhaps, join, behind, BeginsWith}
+use Rattle.contents.specs.Words.{Text, Line, Size, Run, Some, Digits, Capitals, CapitalsOrDigits, Perhaps, join, withMark, BeginsWith}
 
 -- C20: 1 to 16 bytes, no / first or last, no //, not + alone
 pub record Reference (l : Line) : Type 0 where
@@ -44,10 +44,10 @@ pub record OwnAccount (account : Text) (l : Line) : Type 0 where
 
 -- Cparty: //RU, a BIK of nine digits that begins 04, then perhaps . and an account of 20 digits
 pub record PartyByBik (bik account : Text) (l : Line) : Type 0 where
-  pub code : Digits 9 bik
+  pub nine : Digits 9 bik
   pub begins : take 2 bik ≡ bytes "04"
   pub number : Perhaps (Digits 20) account
-  pub line : l ≡ join (bytes "//RU" ∷ bik ∷ behind "." account ∷ [])
+  pub line : l ≡ join (bytes "//RU" ∷ bik ∷ withMark "." account ∷ [])
 
 -- or / and 20 digits
 pub record PartyByAccount (account : Text) (l : Line) : Type 0 where
@@ -55,12 +55,12 @@ pub record PartyByAccount (account : Text) (l : Line) : Type 0 where
   pub line : l ≡ join (bytes "/" ∷ account ∷ [])
 
 -- Cbic: four letters, two letters, two letters or digits, perhaps three more, all capitals
-pub record Bic (bank land place branch : Text) (l : Line) : Type 0 where
+pub record Bic (bank land location branch : Text) (l : Line) : Type 0 where
   pub four : Capitals 4 bank
   pub two : Capitals 2 land
-  pub town : CapitalsOrDigits 2 place
+  pub town : CapitalsOrDigits 2 location
   pub three : Perhaps (CapitalsOrDigits 3) branch
-  pub line : l ≡ join (bank ∷ land ∷ place ∷ branch ∷ [])
+  pub line : l ≡ join (bank ∷ land ∷ location ∷ branch ∷ [])
 
 -- Caccount: / and 1 to 34 bytes, the first not /
 pub record Account (number : Text) (l : Line) : Type 0 where
@@ -76,7 +76,7 @@ Inn false inn = Digits 10 inn
 pub record TaxLine (twelve : Bool) (inn kpp : Text) (l : Line) : Type 0 where
   pub person : Inn twelve inn
   pub reason : Perhaps (Digits 9) kpp
-  pub line : l ≡ join (bytes "INN" ∷ inn ∷ behind ".KPP" kpp ∷ [])
+  pub line : l ≡ join (bytes "INN" ∷ inn ∷ withMark ".KPP" kpp ∷ [])
 
 -- a line in the tax place is one if it begins INN and a digit
 pub record BeginsTax (d : ℕ) (s : Text) (l : Line) : Type 0 where
@@ -97,13 +97,13 @@ pub record RppLine (number date turn way value : Text) (l : Line) : Type 0 where
   pub order : Digits 1 turn
   pub kind : Way way
   pub due : Perhaps (Digits 6) value
-  pub line : l ≡ join (bytes "/RPP/" ∷ number ∷ bytes "." ∷ date ∷ bytes "." ∷ turn ∷ bytes "." ∷ way ∷ behind "." value ∷ [])
+  pub line : l ≡ join (bytes "/RPP/" ∷ number ∷ bytes "." ∷ date ∷ bytes "." ∷ turn ∷ bytes "." ∷ way ∷ withMark "." value ∷ [])
 
 -- Cdetails: the VO code is (VO, five digits, ); with the sign '(VO, five digits, )'
-abbrev pub opening : Bool → Text
-opening false = bytes "(VO"
-opening true = bytes "'(VO"
+abbrev pub codeOpening : Bool → Text
+codeOpening false = bytes "(VO"
+codeOpening true = bytes "'(VO"
 
-abbrev pub closing : Bool → Text
-closing false = bytes ")"
-closing true = bytes ")'"
+abbrev pub codeClosing : Bool → Text
+codeClosing false = bytes ")"
+codeClosing true = bytes ")'"

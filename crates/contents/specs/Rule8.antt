@@ -8,7 +8,7 @@ use Rattle.base.specs.Says.{Not}
 use Rattle.base.specs.declared.Verdict.{Verdict}
 use Rattle.base.specs.declared.Verdict.the-variants.{Fine, Broken}
 use Rattle.fields.specs.Field.{Field, field, linesOf, fields}
-use Rattle.fields.specs.Places.{sizeOf, startOf, nextOf}
+use Rattle.fields.specs.Places.{linesSize, startOf, nextOf}
 use Rattle.types.specs.declared.Form.{Form}
 use Rattle.types.specs.Sign.{signOf}
 use Rattle.contents.specs.Tags.{heldBy, RightField}
@@ -40,4 +40,4 @@ pub record FirstWrong (form : Form) (sign : Bool) (o : ℕ) (fs : List Field) (p
   pub list : fs ≡ before ++ this ∷ after
   pub pass : EachRight form sign before
   pub wrong : Not (RightField form sign this)
-  pub at : p ≡ startOf (o + sizeOf (linesOf before)) this
+  pub at : p ≡ startOf (o + linesSize (linesOf before)) this

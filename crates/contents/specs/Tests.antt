@@ -12,21 +12,21 @@ use Rattle.base.specs.Quoted.{bytes}
 use Rattle.contents.specs.declared.Content.{Content}
 use Rattle.contents.specs.declared.Content.the-variants as holds
 use Rattle.contents.specs.Words.{Text, Line, capitalOrDigit}
-use Rattle.contents.specs.Lines.{twoDigits, opening, closing}
+use Rattle.contents.specs.Lines.{twoDigits, codeOpening, codeClosing}
 
 -- ---- a line cut up: so many bytes; the digits that stand there; and last what is left
 pub data Piece : Type 0 where
   sized : ℕ → Piece
   digits : Piece
 
-unfoldable pub lead : Text → Text
-lead [] = []
-lead (x ∷ s) = pick (digit x) (x ∷ lead s) []
+unfoldable pub leadDigits : Text → Text
+leadDigits [] = []
+leadDigits (x ∷ s) = pick (digit x) (x ∷ leadDigits s) []
 
 abbrev pub cutBy : List Piece → Text → List Text
 cutBy [] s = s ∷ []
 cutBy (sized n ∷ ps) s = take n s ∷ cutBy ps (drop n s)
-cutBy (digits ∷ ps) s = lead s ∷ cutBy ps (drop (length (lead s)) s)
+cutBy (digits ∷ ps) s = leadDigits s ∷ cutBy ps (drop (length (leadDigits s)) s)
 
 abbrev pub piece : ℕ → List Text → Text
 piece k ts = getD ts k []
@@ -42,8 +42,8 @@ abbrev pub starts : Text → Text → Bool
 starts w s = same (take (length w) s) w
 
 -- a word, and a digit behind it
-abbrev pub numbered : Text → Text → Bool
-numbered w s = starts w s && digit (byte s (length w))
+abbrev pub wordAndDigit : Text → Text → Bool
+wordAndDigit w s = starts w s && digit (byte s (length w))
 
 -- perhaps a mark, and behind it such a part
 abbrev pub perhaps : Text → (Text → Bool) → Text → Bool
@@ -55,12 +55,12 @@ ends c [] = false
 ends c (x ∷ []) = eqb x c
 ends c (x ∷ y ∷ s) = ends c (y ∷ s)
 
-unfoldable pub pair : ℕ → Text → Bool
-pair c [] = false
-pair c (x ∷ s) = (eqb x c && begins c s) || pair c s
+unfoldable pub hasPair : ℕ → Text → Bool
+hasPair c [] = false
+hasPair c (x ∷ s) = (eqb x c && begins c s) || hasPair c s
 
 unfoldable pub isReference : Line → Bool
-isReference l = sizes 1 16 l && (not (begins 47 l) && (not (ends 47 l) && (not (pair 47 l) && not (same l (bytes "+")))))
+isReference l = sizes 1 16 l && (not (begins 47 l) && (not (ends 47 l) && (not (hasPair 47 l) && not (same l (bytes "+")))))
 
 -- the number behind S
 abbrev pub numberIn : Line → ℕ
@@ -96,7 +96,7 @@ isPartyByBik l =
 unfoldable pub isParty : Line → Bool
 isParty l = isPartyByBik l || (starts (bytes "/") l && just digit 20 (drop 1 l))
 
--- bank, land, place, branch
+-- bank, land, location, branch
 abbrev pub bicParts : Line → List Text
 bicParts l = cutBy (sized 4 ∷ sized 2 ∷ sized 2 ∷ []) l
 
@@ -122,7 +122,7 @@ unfoldable pub isTax : Bool → Line → Bool
 isTax twelve l = same (piece 0 (taxParts l)) (bytes "INN") && (isInn twelve (piece 1 (taxParts l)) && perhaps (bytes ".KPP") (just digit 9) (piece 2 (taxParts l)))
 
 unfoldable pub looksTax : Line → Bool
-looksTax l = numbered (bytes "INN") l
+looksTax l = wordAndDigit (bytes "INN") l
 
 abbrev pub isName : Line → Bool
 isName l = sizes 1 35 l
@@ -149,9 +149,9 @@ one p [] = false
 one p (l ∷ []) = p l
 one p (l ∷ k ∷ ls) = false
 
-abbrev pub after : (Line → Bool) → (List Line → Bool) → List Line → Bool
-after p q [] = false
-after p q (l ∷ ls) = p l && q ls
+abbrev pub firstThen : (Line → Bool) → (List Line → Bool) → List Line → Bool
+firstThen p q [] = false
+firstThen p q (l ∷ ls) = p l && q ls
 
 abbrev pub any : List Line → Bool
 any ls = true
@@ -160,34 +160,34 @@ abbrev pub several : (Line → Bool) → ℕ → List Line → Bool
 several p n ls = leb 1 (length ls) && (leb (length ls) n && all p ls)
 
 abbrev pub beside : Bool → List Line → Bool
-beside twelve ls = after (isTax twelve) (several isName 3) ls || (not (after looksTax any ls) && several isName 4 ls)
+beside twelve ls = firstThen (isTax twelve) (several isName 3) ls || (not (firstThen looksTax any ls) && several isName 4 ls)
 
 abbrev pub customer : Bool → List Line → Bool
-customer twelve ls = after isAccount (beside twelve) ls
+customer twelve ls = firstThen isAccount (beside twelve) ls
 
 abbrev pub payer : List Line → Bool
-payer ls = customer true ls || (not (after (begins 47) any ls) && beside true ls)
+payer ls = customer true ls || (not (firstThen (begins 47) any ls) && beside true ls)
 
 -- the mark, what opens the VO code, its digits, what closes it, the text on its line
 abbrev pub codeParts : Text → Bool → Line → List Text
-codeParts first sign l = cutBy (sized (length first) ∷ sized (length (opening sign)) ∷ sized 5 ∷ sized (length (closing sign)) ∷ []) l
+codeParts first sign l = cutBy (sized (length first) ∷ sized (length (codeOpening sign)) ∷ sized 5 ∷ sized (length (codeClosing sign)) ∷ []) l
 
 abbrev pub codeTest : Text → ℕ → Bool → List Text → Bool
 codeTest first room sign ts =
-    same (piece 0 ts) first && (same (piece 1 ts) (opening sign) && (just digit 5 (piece 2 ts) && (same (piece 3 ts) (closing sign)
-    && leb (length (opening sign) + (5 + (length (closing sign) + length (piece 4 ts)))) room)))
+    same (piece 0 ts) first && (same (piece 1 ts) (codeOpening sign) && (just digit 5 (piece 2 ts) && (same (piece 3 ts) (codeClosing sign)
+    && leb (length (codeOpening sign) + (5 + (length (codeClosing sign) + length (piece 4 ts)))) room)))
 
 abbrev pub laterTest : Text → ℕ → Line → Bool
 laterTest later rest l = starts later l && sizes 1 rest (drop (length later) l)
 
-unfoldable pub details : Text → Text → ℕ → ℕ → ℕ → Bool → List Line → Bool
-details first later room rest most sign [] = false
-details first later room rest most sign (l ∷ ls) =
+unfoldable pub isDetails : Text → Text → ℕ → ℕ → ℕ → Bool → List Line → Bool
+isDetails first later room rest most sign [] = false
+isDetails first later room rest most sign (l ∷ ls) =
     codeTest first room sign (codeParts first sign l)
     && (all (laterTest later rest) ls && (leb (length (l ∷ ls)) most && not (empty (piece 4 (codeParts first sign l)) && empty ls)))
 
 abbrev pub in72 : Bool → ℕ → List Line → Bool
-in72 sign most ls = details (bytes "/NZP/") (bytes "//") 30 33 most sign ls
+in72 sign most ls = isDetails (bytes "/NZP/") (bytes "//") 30 33 most sign ls
 
 -- ---- the lines are as what the field holds asks
 unfoldable pub right : Content → Bool → List Line → Bool
@@ -198,14 +198,14 @@ right holds.Operation sign ls = one (λ l. same l (bytes "CRED")) ls
 right holds.Purpose sign ls = one isPurpose ls
 right holds.Payment sign ls = one isPayment ls
 right holds.Payer sign ls = payer ls
-right holds.BankByBic sign ls = one isBic ls || after isParty (one isBic) ls
-right holds.BankByName sign ls = after isParty (several isName 4) ls
+right holds.BankByBic sign ls = one isBic ls || firstThen isParty (one isBic) ls
+right holds.BankByName sign ls = firstThen isParty (several isName 4) ls
 right holds.OwnAccount sign ls = one isOwnAccount ls
-right holds.AccountAndBic sign ls = after isAccount (one isBic) ls
+right holds.AccountAndBic sign ls = firstThen isAccount (one isBic) ls
 right holds.BeneficiaryBank sign ls = customer false ls
 right holds.Beneficiary sign ls = customer true ls
-right holds.Details sign ls = details [] [] 35 35 4 sign ls
+right holds.Details sign ls = isDetails [] [] 35 35 4 sign ls
 right holds.Charges sign ls = one (λ l. same l (bytes "OUR")) ls
 right holds.Document sign ls = one isRpp ls
-right holds.DocumentAndDetails sign ls = in72 sign 6 ls || after isRpp (in72 sign 5) ls
-right holds.Regulatory sign ls = after (begins 47) any ls && several isName 3 ls
+right holds.DocumentAndDetails sign ls = in72 sign 6 ls || firstThen isRpp (in72 sign 5) ls
+right holds.Regulatory sign ls = firstThen (begins 47) any ls && several isName 3 ls

@@ -60,9 +60,9 @@ join (p ∷ q ∷ ps) = p ++ join (q ∷ ps)
 abbrev pub Perhaps : (Text → Type 0) → Text → Type 0
 Perhaps P s = (s ≡ []) or P s
 
-abbrev pub behind : String → Text → Text
-behind mark [] = []
-behind mark (x ∷ s) = bytes mark ++ x ∷ s
+abbrev pub withMark : String → Text → Text
+withMark mark [] = []
+withMark mark (x ∷ s) = bytes mark ++ x ∷ s
 
 -- a line that begins with this word
 abbrev pub BeginsWith : String → Line → Type 0

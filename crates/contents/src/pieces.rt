@@ -5,7 +5,7 @@ ghost use lib.ListN.{length};
 ghost use Rattle.contents.specs.Words.{Digits, Capitals, CapitalsOrDigits, capitalOrDigit};
 ghost use Rattle.base.specs.Says.{Says};
 ghost use Rattle.contents.specs.Answers.{cut, Leads};
-ghost use Rattle.contents.specs.Tests.{starts, numbered};
+ghost use Rattle.contents.specs.Tests.{starts, wordAndDigit};
 ghost use Rattle.contents.specs.Parts.{opensRpp};
 use base::bytes::is_capital;
 use base::bytes::is_digit;
@@ -117,7 +117,7 @@ fn starts_with(s: &[u8], word: &[u8]) -> bool
 
 // Whether a text begins with this word and a digit.
 pub fn is_numbered(s: &[u8], word: &[u8]) -> bool
-    ensures { λ r. ⌜ r ≡ numbered (now (word .entry)) (now (s .entry)) ⌝ }
+    ensures { λ r. ⌜ r ≡ wordAndDigit (now (word .entry)) (now (s .entry)) ⌝ }
 {
     let n = word.len();
     if s.len() <= n {

@@ -6,7 +6,7 @@ ghost use lib.ListN.{length, drop};
 ghost use Rattle.fields.specs.Lines.{linesIn};
 ghost use Rattle.contents.specs.Fields.{One, IsBic, IsAccount, Then, Several, In70, In72, Regulatory};
 ghost use Rattle.base.specs.Says.{Says};
-ghost use Rattle.contents.specs.Answers.{VoFirst, BesideSaid, CustomerSaid, PayerSaid, noParty, BicSaid, NameSaid, IsMarked, NzpFirst, textAt, NoteSaid, Later};
+ghost use Rattle.contents.specs.Answers.{VoFirst, BesideSaid, CustomerSaid, PayerSaid, noParty, BicSaid, NameSaid, IsMarked, NzpFirst, textAt, NoteSaid, LaterOrName};
 use super::lines::Party;
 use super::lines::Rpp;
 use super::lines::Tax;
@@ -92,7 +92,7 @@ fn is_marked(l: &[u8]) -> bool
 
 // Whether a line is a name; or marked, a later line of 72's details.
 fn is_later(marked: bool, l: &[u8]) -> bool
-    ensures { λ r. ⌜ Says (Later marked (now (l .entry))) r ⌝ }
+    ensures { λ r. ⌜ Says (LaterOrName marked (now (l .entry))) r ⌝ }
 {
     if marked {
         return is_marked(l);
@@ -103,7 +103,7 @@ fn is_later(marked: bool, l: &[u8]) -> bool
 // Whether the lines from there on are such lines, at least one and no more than that many.
 fn are_lines(marked: bool, c: &[u8], from: usize, most: usize) -> bool
     requires { ⌜ from ≤ length (now c) ⌝ }
-    ensures { λ r. ⌜ Says (Several (Later marked) most (linesIn (drop from (now (c .entry))))) r ⌝ }
+    ensures { λ r. ⌜ Says (Several (LaterOrName marked) most (linesIn (drop from (now (c .entry))))) r ⌝ }
 {
     let mut at = from;
     let mut left = most;

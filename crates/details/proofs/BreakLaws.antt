@@ -12,7 +12,7 @@ use borrow.Author.Tests.{leb-true, leb-false, ltb-true, ltb-false}
 use Rattle.base.specs.Choice.{pick, all}
 use Rattle.base.specs.Bytes.{byte, isIn}
 use Rattle.base.proofs.Bools.{left, right}
-use Rattle.details.specs.Breaking.{opens, Fit, fits, unfit, after, last, breaks, part, noMore, steady}
+use Rattle.details.specs.Breaking.{opens, Fit, fits, unfit, withBreak, last, breaks, part, noMore, steady}
 
 -- ---- parts of a text
 pub part-cons : (f t : ℕ) (l : List ℕ) → f < t → t ≤ length l → part f t l ≡ byte l f ∷ part (suc f) t l
@@ -93,7 +93,7 @@ module _ (ok : ℕ → Bool) (text : List ℕ) where
     stuck : Stuck low high ws → Came low high ws unfit
 
   came-by : (b c : Bool) {low high w : ℕ} {ws : List ℕ} {a : Fit (List ℕ)} → leb (length text) high ≡ b → ltb low (last ok text high) ≡ c
-      → Came (last ok text high) (last ok text high + w) ws a → Came low high (w ∷ ws) (pick b (fits []) (pick c (after (last ok text high) a) unfit))
+      → Came (last ok text high) (last ok text high + w) ws a → Came low high (w ∷ ws) (pick b (fits []) (pick c (withBreak (last ok text high) a) unfit))
   came-by true c q r t = took (done (leb-true _ _ q))
   came-by false true q r (took t) = took (goes (leb-false _ _ q) (ltb-true _ _ r) t)
   came-by false true q r (stuck t) = stuck (later (leb-false _ _ q) (ltb-true _ _ r) t)

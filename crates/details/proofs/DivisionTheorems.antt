@@ -14,15 +14,15 @@ use Rattle.base.specs.Quoted.{bytes}
 use Rattle.base.proofs.CallLaws.{one-answer}
 use Rattle.fields.specs.ByLines.{joined}
 use Rattle.details.specs.Lines.{together, none, line, Division, lines, Most}
-use Rattle.details.specs.Breaking.{opens, Fit, fits, unfit, last, breaks, pieces, cutBy, broken, steady}
-use Rattle.details.specs.Layouts.{Layout, layout, divided, DivisionIn, marked, behind, laid, linesOf, linesFor, laidFor, sizeOf, sizeFor, Lays}
-use Rattle.details.specs.declared.Place.{Place}
-use Rattle.details.specs.declared.Place.the-variants.{In70, In72, BehindRpp}
+use Rattle.details.specs.Breaking.{opens, Fit, fits, unfit, last, breaks, linePieces, cutFit, broken, steady}
+use Rattle.details.specs.Layouts.{Layout, layout, divided, DivisionIn, marked, laterBytes, laid, fitLines, linesFor, laidFor, fitSize, sizeFor, Lays}
+use Rattle.details.specs.declared.DetailsField.{DetailsField}
+use Rattle.details.specs.declared.DetailsField.the-variants.{In70, In72, BehindRpp}
 use Rattle.details.specs.declared.Size.{Size}
 use Rattle.details.specs.declared.Size.the-variants.{Bytes, Unfit}
 use Rattle.details.proofs.BreakLaws.{Took, Came, took, stuck, came, lawful, none-fits, shortened, steadily}
 use Rattle.details.proofs.LineLaws.{breaks-of, division-of, most-of}
-use Rattle.details.proofs.PlaceLaws.{bytes-not}
+use Rattle.details.proofs.LayoutLaws.{bytes-not}
 
 -- ---- over any widths
 pub fits-not : {A : Type 0} {a : A} → fits a ≡ unfit → ⊥
@@ -30,11 +30,11 @@ fits-not e = let z : _≡_ {A = ℕ} 0 1 = cc in omega arith
 
 module _ (ok : ℕ → Bool) (least : ℕ) (text : List ℕ) where
   pub data Ours : List ℕ → List (List ℕ) → Type 0 where
-    ours : {w : ℕ} {ws es : List ℕ} → least - 1 < length text → Took ok text (least - 1) w ws es → Ours (w ∷ ws) (pieces text 0 es)
+    ours : {w : ℕ} {ws es : List ℕ} → least - 1 < length text → Took ok text (least - 1) w ws es → Ours (w ∷ ws) (linePieces text 0 es)
 
   ours-by : (b : Bool) {w : ℕ} {ws : List ℕ} {a : Fit (List ℕ)} {ls : List (List ℕ)} → ltb (least - 1) (length text) ≡ b → Came ok text (least - 1) w ws a
-      → pick b (cutBy text a) unfit ≡ fits ls → Ours (w ∷ ws) ls
-  ours-by true {ls = ls} h (took {es} t) e = let f : ls ≡ pieces text 0 es = cc in rw f (ours (ltb-true _ _ h) t)
+      → pick b (cutFit text a) unfit ≡ fits ls → Ours (w ∷ ws) ls
+  ours-by true {ls = ls} h (took {es} t) e = let f : ls ≡ linePieces text 0 es = cc in rw f (ours (ltb-true _ _ h) t)
   ours-by true h (stuck t) e = absurd (fits-not (sym e))
   ours-by false h t e = absurd (fits-not (sym e))
 
@@ -74,7 +74,7 @@ pub no-division : (barred : List ℕ) (least : ℕ) (text widths : List ℕ) {ls
 unfolding broken
 no-division barred least text (w ∷ ws) s e (lines {l = l} {ls = ls} z p q m j) = go (ltb (least - 1) (length text)) refl (came (opens barred) text ws (least - 1) w) e
   where
-    go : (b : Bool) {a : Fit (List ℕ)} → ltb (least - 1) (length text) ≡ b → Came (opens barred) text (least - 1) w ws a → pick b (cutBy text a) unfit ≡ unfit → ⊥
+    go : (b : Bool) {a : Fit (List ℕ)} → ltb (least - 1) (length text) ≡ b → Came (opens barred) text (least - 1) w ws a → pick b (cutFit text a) unfit ≡ unfit → ⊥
     go true h (took t) r = fits-not r
     go true h (stuck t) r = none-fits (opens barred) text t (breaks-of (opens barred) text m l (least - 1) w (length l) refl j (omega arith) q) (steadily barred ws s)
     go false h t r = omega (arith, ltb-false (least - 1) (length text) h, ap length j, length-append l (together ls))
@@ -85,7 +85,7 @@ pub less-divided : (barred : List ℕ) (least : ℕ) (text less : List ℕ) {wid
 unfolding opens isIn
 less-divided barred least text less e (lines {w = w} {l = l} z p q m j) a b c =
     let d = shortened (opens barred) text less (λ x. ap (λ (bs : List ℕ). opens bs x) e) c (breaks-of (opens barred) text m l (least - 1) w (length l) refl j (omega arith) q) (omega arith) in
-    (pieces less 0 (d .0), division-of (opens barred) less (d .1))
+    (linePieces less 0 (d .0), division-of (opens barred) less (d .1))
 
 -- not for any widths: `aaa:::` in widths of 2, 1 and 4 is a, a and a:::, but once the first line has its most nothing goes on
 abbrev grown : List ℕ
@@ -103,23 +103,23 @@ yet-divided =
 -- ---- the bytes of the lines are the lines joined by CR LF
 laid-joined : (v : Layout) (ls : List (List ℕ)) → laid v ls ≡ joined (marked v ls)
 laid-joined v [] = refl
-laid-joined v (l ∷ ls) = sym (append-assoc (v .mark) l (behind (v .next) ls)) ∙ go (v .mark ++ l) ls
+laid-joined v (l ∷ ls) = sym (append-assoc (v .mark) l (laterBytes (v .next) ls)) ∙ go (v .mark ++ l) ls
   where
-    go : (x : List ℕ) (ls : List (List ℕ)) → x ++ behind (v .next) ls ≡ joined (x ∷ map (λ (k : List ℕ). v .next ++ k) ls)
+    go : (x : List ℕ) (ls : List (List ℕ)) → x ++ laterBytes (v .next) ls ≡ joined (x ∷ map (λ (k : List ℕ). v .next ++ k) ls)
     go x [] = append-nil x
-    go x (l ∷ ls) = ap (λ (r : List ℕ). x ++ 13 ∷ 10 ∷ r) (sym (append-assoc (v .next) l (behind (v .next) ls)) ∙ go (v .next ++ l) ls)
+    go x (l ∷ ls) = ap (λ (r : List ℕ). x ++ 13 ∷ 10 ∷ r) (sym (append-assoc (v .next) l (laterBytes (v .next) ls)) ∙ go (v .next ++ l) ls)
 
 -- ---- the places
-steady-in : (p : Place) → steady (layout p .barred) (tail (layout p .widths)) ≡ true
+steady-in : (p : DetailsField) → steady (layout p .barred) (tail (layout p .widths)) ≡ true
 steady-in In70 = refl
 steady-in In72 = refl
 steady-in BehindRpp = refl
 
 some-laid : {ok : ℕ → Bool} {least : ℕ} {text ws : List ℕ} {ls : List (List ℕ)} (v : Layout) → Division ok least text ws ls → 0 < length (laid v ls)
-some-laid v (lines {l = l} {ls = ls} z q w m j) = omega (arith, length-append (v .mark) (l ++ behind (v .next) ls), length-append l (behind (v .next) ls))
+some-laid v (lines {l = l} {ls = ls} z q w m j) = omega (arith, length-append (v .mark) (l ++ laterBytes (v .next) ls), length-append l (laterBytes (v .next) ls))
 
 -- what fits: its lines are a division, each has the most, and n counts the bytes of these lines with their marks
-pub record Fitted (p : Place) (least : ℕ) (text : List ℕ) (n : ℕ) : Type 0 where
+pub record Fitted (p : DetailsField) (least : ℕ) (text : List ℕ) (n : ℕ) : Type 0 where
   pub ls : List (List ℕ)
   pub is : divided (layout p) least text ≡ fits ls
   pub division : DivisionIn (layout p) least text ls
@@ -127,23 +127,23 @@ pub record Fitted (p : Place) (least : ℕ) (text : List ℕ) (n : ℕ) : Type 0
   pub long : n ≡ length (laidFor p least text)
   pub some : 0 < n
 
-module _ (p : Place) (least : ℕ) (text : List ℕ) where
+module _ (p : DetailsField) (least : ℕ) (text : List ℕ) where
   pub laid-lines : laidFor p least text ≡ joined (linesFor p least text)
   unfolding laidFor linesFor
-  laid-lines = laid-joined (layout p) (linesOf (divided (layout p) least text))
+  laid-lines = laid-joined (layout p) (fitLines (divided (layout p) least text))
 
   -- Unfit exactly if there is no division
   pub unfit-none : sizeFor p least text ≡ Unfit → {ls : List (List ℕ)} → DivisionIn (layout p) least text ls → ⊥
   unfolding sizeFor
   unfit-none e d = no-division (layout p .barred) least text (layout p .widths) (steady-in p) (go (divided (layout p) least text) e) d
     where
-      go : (a : Fit (List (List ℕ))) → sizeOf (layout p) a ≡ Unfit → a ≡ unfit
+      go : (a : Fit (List (List ℕ))) → fitSize (layout p) a ≡ Unfit → a ≡ unfit
       go (fits ls) q = absurd (bytes-not q)
       go unfit q = refl
 
   pub none-unfit : ((ls : List (List ℕ)) → DivisionIn (layout p) least text ls → ⊥) → sizeFor p least text ≡ Unfit
   unfolding sizeFor
-  none-unfit n = ap (sizeOf (layout p)) (no-lines (opens (layout p .barred)) least text (layout p .widths) n)
+  none-unfit n = ap (fitSize (layout p)) (no-lines (opens (layout p .barred)) least text (layout p .widths) n)
 
   pub fitted : (n : ℕ) → sizeFor p least text ≡ Bytes n → Fitted p least text n
   unfolding sizeFor laidFor
@@ -151,7 +151,7 @@ module _ (p : Place) (least : ℕ) (text : List ℕ) where
     where
       go : (a : Fit (List (List ℕ))) → divided (layout p) least text ≡ a → Fitted p least text n
       go (fits ls) i =
-          let f : Bytes (length (laid (layout p) ls)) ≡ Bytes n = ap (sizeOf (layout p)) (sym i) ∙ e in
+          let f : Bytes (length (laid (layout p) ls)) ≡ Bytes n = ap (fitSize (layout p)) (sym i) ∙ e in
           let g : n ≡ length (laid (layout p) ls) = cc in
           let d = lawful-lines (opens (layout p .barred)) least text (layout p .widths) i in
           record {
@@ -159,14 +159,14 @@ module _ (p : Place) (least : ℕ) (text : List ℕ) where
             is = i;
             division = d;
             fullest = most (opens (layout p .barred)) least text (layout p .widths) i;
-            long = g ∙ ap (λ (a : Fit (List (List ℕ))). length (laid (layout p) (linesOf a))) (sym i);
+            long = g ∙ ap (λ (a : Fit (List (List ℕ))). length (laid (layout p) (fitLines a))) (sym i);
             some = omega (arith, some-laid (layout p) d);
           }
-      go unfit i = absurd (bytes-not (sym e ∙ ap (sizeOf (layout p)) i))
+      go unfit i = absurd (bytes-not (sym e ∙ ap (fitSize (layout p)) i))
 
 -- ---- at the contracts: any two outcomes are equal, the room counted
-pub size-one : (p : Place) (least : ℕ) (text : List ℕ) {r s : Size} → r ≡ sizeFor p least text → s ≡ sizeFor p least text → r ≡ s
+pub size-one : (p : DetailsField) (least : ℕ) (text : List ℕ) {r s : Size} → r ≡ sizeFor p least text → s ≡ sizeFor p least text → r ≡ s
 size-one p least text e f = one-answer e f
 
-pub lays-one : {p : Place} {least at r s : ℕ} {text out a b : List ℕ} → Lays p least text out at r a → Lays p least text out at s b → (r ≡ s) × (a ≡ b)
+pub lays-one : {p : DetailsField} {least at r s : ℕ} {text out a b : List ℕ} → Lays p least text out at r a → Lays p least text out at s b → (r ≡ s) × (a ≡ b)
 lays-one u v = (one-answer (u .answers) (v .answers), one-answer (u .leaves) (v .leaves))

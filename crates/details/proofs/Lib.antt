@@ -2,7 +2,7 @@ pub mod BreakLaws
 pub mod LineLaws
 pub mod StepLaws
 pub mod LayLaws
-pub mod PlaceLaws
+pub mod LayoutLaws
 pub mod RoomLaws
 pub mod DivisionTheorems
 pub mod OnceLaws

@@ -8,7 +8,7 @@ use lib.ListN.{length, drop, length-append, length-drop}
 use lib.Seq.{drop-cons, getD-at, getD-drop}
 use Rattle.base.specs.Bytes.{byte}
 use Rattle.details.specs.Lines.{together, Later, none, line, Division, lines, Most, rest, full}
-use Rattle.details.specs.Breaking.{last, part, pieces}
+use Rattle.details.specs.Breaking.{last, part, linePieces}
 use Rattle.details.proofs.BreakLaws.{part-cons, length-part, part-drop, last-le, last-max, Took, done, goes, Lawful, end, next, lawful}
 
 -- the places where the lines behind e begin
@@ -33,7 +33,7 @@ module _ (ok : ℕ → Bool) (text : List ℕ) where
       (breaks-of t (pre ++ (x ∷ l)) e (e + w) (e + suc (length l)) (length-append pre (x ∷ l) ∙ rw f) (append-assoc pre (x ∷ l) (together ls) ∙ g) (omega arith) (omega arith))
 
   -- ---- from breaks to lines
-  later-of : {e w : ℕ} {ws es : List ℕ} → e < length text → ok (byte text e) ≡ true → Lawful ok text e (e + w) ws es → Later ok (w ∷ ws) (pieces text e es)
+  later-of : {e w : ℕ} {ws es : List ℕ} → e < length text → ok (byte text e) ≡ true → Lawful ok text e (e + w) ws es → Later ok (w ∷ ws) (linePieces text e es)
   later-of {e} {w} h o (end p q) =
       let f : suc (length (drop (suc e) text)) ≤ w = simp length-drop (omega arith) in
       rw (drop-cons text e 0 h) (line f o none)
@@ -42,11 +42,11 @@ module _ (ok : ℕ → Bool) (text : List ℕ) where
       let f : suc (length (part (suc e) t text)) ≤ w = omega (arith, length-part (suc e) t text k) in
       rw (part-cons e t text p k) (line f o (later-of r o′ d))
 
-  joins : {low high from : ℕ} {ws es : List ℕ} → Lawful ok text low high ws es → from ≤ low → together (pieces text from es) ≡ drop from text
+  joins : {low high from : ℕ} {ws es : List ℕ} → Lawful ok text low high ws es → from ≤ low → together (linePieces text from es) ≡ drop from text
   joins (end p q) h = append-nil _
   joins {from = from} (next {e = e} p q r o d) h = rw (joins {from = e} d (omega arith)) (part-drop from e text (omega arith))
 
-  pub division-of : {least w : ℕ} {ws es : List ℕ} → Lawful ok text (least - 1) w ws es → Division ok least text (w ∷ ws) (pieces text 0 es)
+  pub division-of : {least w : ℕ} {ws es : List ℕ} → Lawful ok text (least - 1) w ws es → Division ok least text (w ∷ ws) (linePieces text 0 es)
   division-of {least} (end p q) = lines {l = text} (omega arith) (omega arith) q none (append-nil text)
   division-of {least} {w} (next {e = e} p q r o d) =
       let k : e ≤ length text = omega arith in
@@ -54,15 +54,15 @@ module _ (ok : ℕ → Bool) (text : List ℕ) where
       lines {w = w} {l = part 0 e text} (omega arith) (omega arith) (rw m q) (later-of r o d) (rw (joins {from = e} d (omega arith)) (part-drop 0 e text (omega arith)))
 
   -- ---- from the way the breaks came about to the most
-  pub most-of : {low from w : ℕ} {ws es : List ℕ} → Took ok text low (from + w) ws es → from ≤ low → low < length text → Most ok (w ∷ ws) (pieces text from es)
+  pub most-of : {low from w : ℕ} {ws es : List ℕ} → Took ok text low (from + w) ws es → from ≤ low → low < length text → Most ok (w ∷ ws) (linePieces text from es)
   most-of (done k) h i = rest
   most-of {low} {from} {w} (goes {es = es} k m t) h i =
       let e : ℕ = last ok text (from + w) in
       let p = last-le ok text (from + w) in
-      let j : together (pieces text from (e ∷ es)) ≡ drop from text = joins {from = from} (lawful ok text i (goes k m t)) h in
+      let j : together (linePieces text from (e ∷ es)) ≡ drop from text = joins {from = from} (lawful ok text i (goes k m t)) h in
       let n : length (part from e text) ≡ e - from = length-part from e text (omega arith) in
-      let a : w < length (together (pieces text from (e ∷ es))) = rw j (simp length-drop (omega arith)) in
-      let b : (d : ℕ) → d ≤ w → ok (byte (together (pieces text from (e ∷ es))) d) ≡ true → d ≤ length (part from e text) =
+      let a : w < length (together (linePieces text from (e ∷ es))) = rw j (simp length-drop (omega arith)) in
+      let b : (d : ℕ) → d ≤ w → ok (byte (together (linePieces text from (e ∷ es))) d) ≡ true → d ≤ length (part from e text) =
       λ d g o. let o′ : ok (byte text (from + d)) ≡ true = ap ok (sym (ap (λ (l : List ℕ). byte l d) j ∙ getD-drop from text d 0)) ∙ o in
       let z = last-max ok text (from + w) (from + d) (omega arith) o′ in omega arith in
       full a b (most-of t (omega arith) (omega arith))

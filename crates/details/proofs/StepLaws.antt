@@ -10,7 +10,7 @@ use lib.ListN.{length, replicate}
 use borrow.Author.Tests.{lt-ltb, le-ltb, le-leb, lt-leb, ltb-true, ltb-false}
 use Rattle.base.specs.Choice.{pick}
 use Rattle.base.specs.Bytes.{byte}
-use Rattle.details.specs.Breaking.{Fit, fits, unfit, after, last, breaks}
+use Rattle.details.specs.Breaking.{Fit, fits, unfit, withBreak, last, breaks}
 use Rattle.details.specs.Steps.{cutAt, sizeOn, sizeBy}
 use Rattle.details.specs.declared.Size.the-variants.{Bytes}
 use Rattle.details.proofs.BreakLaws.{last-le, last-max}
@@ -65,12 +65,12 @@ module _ (ok : ℕ → Bool) (text : List ℕ) (low : ℕ) where
   no-line-left high left later h e = rw (e, lt-leb (length text) high h)
 
   pub on : (high left later e : ℕ) → high < length text → Found high e → (left ≡ 0 → ⊥)
-      → breaks ok text low high (replicate left later) ≡ after e (breaks ok text e (e + later) (replicate (left - 1) later))
+      → breaks ok text low high (replicate left later) ≡ withBreak e (breaks ok text e (e + later) (replicate (left - 1) later))
   unfolding breaks
   on high zero later e h f n = absurd (n refl)
   on high (suc m) later e h f n = let g : suc m - 1 ≡ m = omega arith in rw (g, lt-leb (length text) high h, f .is, lt-ltb low e (f .further))
 
 -- ---- a break makes the whole longer by `next`
-pub size-on : (size text next e : ℕ) (b : Fit (List ℕ)) → sizeBy (size + text) next (after e b) ≡ sizeBy (size + next + text) next b
+pub size-on : (size text next e : ℕ) (b : Fit (List ℕ)) → sizeBy (size + text) next (withBreak e b) ≡ sizeBy (size + next + text) next b
 size-on size text next e (fits es) = let f : size + text + next ≡ size + next + text = omega arith in ap (λ (n : ℕ). Bytes (sizeOn n next es)) f
 size-on size text next e unfit = refl

@@ -16,9 +16,9 @@ pub data Fit (A : Type 0) : Type 0 where
   fits : A → Fit A
   unfit : Fit A
 
-abbrev pub after : ℕ → Fit (List ℕ) → Fit (List ℕ)
-after e (fits es) = fits (e ∷ es)
-after e unfit = unfit
+abbrev pub withBreak : ℕ → Fit (List ℕ) → Fit (List ℕ)
+withBreak e (fits es) = fits (e ∷ es)
+withBreak e unfit = unfit
 
 -- the last place up to n before which a line may open, and 0 if there is none
 unfoldable pub last : (ℕ → Bool) → List ℕ → ℕ → ℕ
@@ -30,24 +30,24 @@ unfoldable pub breaks : (ℕ → Bool) → List ℕ → ℕ → ℕ → List ℕ
 breaks ok text low high [] = pick (leb (length text) high) (fits []) unfit
 breaks ok text low high (w ∷ ws) =
     pick (leb (length text) high) (fits [])
-    (pick (ltb low (last ok text high)) (after (last ok text high) (breaks ok text (last ok text high) (last ok text high + w) ws)) unfit)
+    (pick (ltb low (last ok text high)) (withBreak (last ok text high) (breaks ok text (last ok text high) (last ok text high + w) ws)) unfit)
 
 -- the bytes from a place up to another, and the lines that breaks make from a place on
 abbrev pub part : ℕ → ℕ → List ℕ → List ℕ
 part from e text = take (e - from) (drop from text)
 
-abbrev pub pieces : List ℕ → ℕ → List ℕ → List (List ℕ)
-pieces text from [] = drop from text ∷ []
-pieces text from (e ∷ es) = part from e text ∷ pieces text e es
+abbrev pub linePieces : List ℕ → ℕ → List ℕ → List (List ℕ)
+linePieces text from [] = drop from text ∷ []
+linePieces text from (e ∷ es) = part from e text ∷ linePieces text e es
 
-abbrev pub cutBy : List ℕ → Fit (List ℕ) → Fit (List (List ℕ))
-cutBy text (fits es) = fits (pieces text 0 es)
-cutBy text unfit = unfit
+abbrev pub cutFit : List ℕ → Fit (List ℕ) → Fit (List (List ℕ))
+cutFit text (fits es) = fits (linePieces text 0 es)
+cutFit text unfit = unfit
 
 -- the text in lines of these widths, the first with one byte and `least` bytes at least
 unfoldable pub broken : (ℕ → Bool) → ℕ → List ℕ → List ℕ → Fit (List (List ℕ))
 broken ok least [] text = unfit
-broken ok least (w ∷ ws) text = pick (ltb (least - 1) (length text)) (cutBy text (breaks ok text (least - 1) w ws)) unfit
+broken ok least (w ∷ ws) text = pick (ltb (least - 1) (length text)) (cutFit text (breaks ok text (least - 1) w ws)) unfit
 
 -- widths after the first for which the most is never too much: where no byte is barred none is 0, else none is greater than one before it
 abbrev pub noMore : ℕ → ℕ → Bool

@@ -6,21 +6,21 @@ use mathlib.Core.List.{List, [], _∷_, _++_, map}
 use lib.ListN.{length, replicate}
 use Rattle.base.specs.Quoted.{bytes}
 use Rattle.details.specs.Layouts.{linesFor, sizeFor, roomFrom}
-use Rattle.details.specs.declared.Place.{Place}
-use Rattle.details.specs.declared.Place.the-variants.{In70, In72, BehindRpp}
+use Rattle.details.specs.declared.DetailsField.{DetailsField}
+use Rattle.details.specs.declared.DetailsField.the-variants.{In70, In72, BehindRpp}
 use Rattle.details.specs.declared.Size.the-variants.{Bytes, Unfit}
 
 pub data Case : Type 0 where
   -- this code and text come to these lines
-  gives : Place → String → String → List String → Case
+  gives : DetailsField → String → String → List String → Case
   -- to lines so long, marks counted, and so many bytes
-  goes : Place → String → List ℕ → List ℕ → ℕ → Case
+  goes : DetailsField → String → List ℕ → List ℕ → ℕ → Case
   -- or do not fit
-  stays : Place → String → List ℕ → Case
+  stays : DetailsField → String → List ℕ → Case
   -- with no code of this length, a text does not fit
-  short : Place → ℕ → String → Case
-  -- from this line on there is a mark of so many bytes, and room for so many of text
-  leaves : Place → ℕ → ℕ → ℕ → Case
+  short : DetailsField → ℕ → String → Case
+  -- from this line on there is a mark of so many bytes, and room of so many of text
+  leaves : DetailsField → ℕ → ℕ → ℕ → Case
 
 abbrev pub Holds : Case → Type 0
 Holds (gives p c t ls) = linesFor p (length (bytes c)) (bytes c ++ bytes t) ≡ map bytes ls

@@ -1,4 +1,4 @@
--- The places of details as data, and their lines as they stand in a field (B1, B3, C70, C72). Assumes nothing.
+-- The fields of details as data, and their lines as they stand in a field (B1, B3, C70, C72). Assumes nothing.
 use Prim.Native.Nat.{ℕ, zero, suc, _+_}
 use mathlib.Core.Path.{_≡_}
 use mathlib.Core.List.{List, [], _∷_, _++_, map}
@@ -9,8 +9,8 @@ use Rattle.base.specs.Quoted.{bytes}
 use Rattle.base.specs.Calls.{placed}
 use Rattle.details.specs.Lines.{Division}
 use Rattle.details.specs.Breaking.{Fit, fits, unfit, opens, broken}
-use Rattle.details.specs.declared.Place.{Place}
-use Rattle.details.specs.declared.Place.the-variants.{In70, In72, BehindRpp}
+use Rattle.details.specs.declared.DetailsField.{DetailsField}
+use Rattle.details.specs.declared.DetailsField.the-variants.{In70, In72, BehindRpp}
 use Rattle.details.specs.declared.Room.{Room}
 use Rattle.details.specs.declared.Size.{Size}
 use Rattle.details.specs.declared.Size.the-variants.{Bytes, Unfit}
@@ -22,7 +22,7 @@ pub record Layout : Type 0 where
   pub mark : List ℕ
   pub next : List ℕ
 
-abbrev pub layout : Place → Layout
+abbrev pub layout : DetailsField → Layout
 layout In70 = record { widths = 35 ∷ replicate 3 35; barred = bytes ":-"; mark = []; next = [] }
 layout In72 = record { widths = 30 ∷ replicate 5 33; barred = []; mark = bytes "/NZP/"; next = bytes "//" }
 layout BehindRpp = record { widths = 30 ∷ replicate 4 33; barred = []; mark = bytes "/NZP/"; next = bytes "//" }
@@ -40,31 +40,31 @@ marked v [] = []
 marked v (l ∷ ls) = (v .mark ++ l) ∷ map (λ (k : List ℕ). v .next ++ k) ls
 
 -- the bytes of the lines in a field: each later one stands behind CR LF and its mark
-abbrev pub behind : List ℕ → List (List ℕ) → List ℕ
-behind next [] = []
-behind next (l ∷ ls) = (13 ∷ 10 ∷ next) ++ (l ++ behind next ls)
+abbrev pub laterBytes : List ℕ → List (List ℕ) → List ℕ
+laterBytes next [] = []
+laterBytes next (l ∷ ls) = (13 ∷ 10 ∷ next) ++ (l ++ laterBytes next ls)
 
 abbrev pub laid : Layout → List (List ℕ) → List ℕ
 laid v [] = []
-laid v (l ∷ ls) = v .mark ++ (l ++ behind (v .next) ls)
+laid v (l ∷ ls) = v .mark ++ (l ++ laterBytes (v .next) ls)
 
-abbrev pub linesOf : Fit (List (List ℕ)) → List (List ℕ)
-linesOf (fits ls) = ls
-linesOf unfit = []
+abbrev pub fitLines : Fit (List (List ℕ)) → List (List ℕ)
+fitLines (fits ls) = ls
+fitLines unfit = []
 
--- ---- a place: the lines of its field, their bytes, and how many these are; none where the text does not fit
-unfoldable pub linesFor : Place → ℕ → List ℕ → List (List ℕ)
-linesFor p least text = marked (layout p) (linesOf (divided (layout p) least text))
+-- ---- a field of details: its lines, their bytes, and how many these are; none where the text does not fit
+unfoldable pub linesFor : DetailsField → ℕ → List ℕ → List (List ℕ)
+linesFor p least text = marked (layout p) (fitLines (divided (layout p) least text))
 
-unfoldable pub laidFor : Place → ℕ → List ℕ → List ℕ
-laidFor p least text = laid (layout p) (linesOf (divided (layout p) least text))
+unfoldable pub laidFor : DetailsField → ℕ → List ℕ → List ℕ
+laidFor p least text = laid (layout p) (fitLines (divided (layout p) least text))
 
-abbrev pub sizeOf : Layout → Fit (List (List ℕ)) → Size
-sizeOf v (fits ls) = Bytes (length (laid v ls))
-sizeOf v unfit = Unfit
+abbrev pub fitSize : Layout → Fit (List (List ℕ)) → Size
+fitSize v (fits ls) = Bytes (length (laid v ls))
+fitSize v unfit = Unfit
 
-unfoldable pub sizeFor : Place → ℕ → List ℕ → Size
-sizeFor p least text = sizeOf (layout p) (divided (layout p) least text)
+unfoldable pub sizeFor : DetailsField → ℕ → List ℕ → Size
+sizeFor p least text = fitSize (layout p) (divided (layout p) least text)
 
 -- the room from a line on, lines counted from 0: the bytes of its mark, and of text what it and the lines behind it hold
 abbrev pub markAt : Layout → ℕ → List ℕ
@@ -75,10 +75,10 @@ abbrev pub sum : List ℕ → ℕ
 sum [] = 0
 sum (w ∷ ws) = w + sum ws
 
-unfoldable pub roomFrom : Place → ℕ → Room
+unfoldable pub roomFrom : DetailsField → ℕ → Room
 roomFrom p i = record { mark = length (markAt (layout p) i); bytes = sum (drop i (layout p .widths)) }
 
 -- the bytes are put in from `at` on, where there is room for them, and r says how many were put
-pub record Lays (p : Place) (least : ℕ) (text out : List ℕ) (at r : ℕ) (now : List ℕ) : Type 0 where
+pub record Lays (p : DetailsField) (least : ℕ) (text out : List ℕ) (at r : ℕ) (now : List ℕ) : Type 0 where
   pub answers : r ≡ pick (leb (at + length (laidFor p least text)) (length out)) (length (laidFor p least text)) 0
   pub leaves : now ≡ placed out at (laidFor p least text)

@@ -6,20 +6,20 @@ use lib.Dec.{ltb}
 use lib.ListN.{length, drop, replicate}
 use Rattle.base.specs.Choice.{pick}
 use Rattle.details.specs.Breaking.{opens, Fit, fits, unfit, last, breaks, part}
-use Rattle.details.specs.declared.Place.{Place}
-use Rattle.details.specs.declared.Place.the-variants.{In70, In72, BehindRpp}
-use Rattle.details.specs.declared.Shape.{Shape}
+use Rattle.details.specs.declared.DetailsField.{DetailsField}
+use Rattle.details.specs.declared.DetailsField.the-variants.{In70, In72, BehindRpp}
+use Rattle.details.specs.declared.LayoutNumbers.{LayoutNumbers}
 use Rattle.details.specs.declared.Size.{Size}
 use Rattle.details.specs.declared.Size.the-variants.{Bytes, Unfit}
 
 -- a layout's numbers; `next` counts CR LF too
-abbrev pub shapeOf : Place → Shape
-shapeOf In70 = record { barred = true; first = 35; later = 35; more = 3; mark = 0; next = 2 }
-shapeOf In72 = record { barred = false; first = 30; later = 33; more = 5; mark = 5; next = 4 }
-shapeOf BehindRpp = record { barred = false; first = 30; later = 33; more = 4; mark = 5; next = 4 }
+abbrev pub layoutNumbers : DetailsField → LayoutNumbers
+layoutNumbers In70 = record { barred = true; first = 35; later = 35; more = 3; mark = 0; next = 2 }
+layoutNumbers In72 = record { barred = false; first = 30; later = 33; more = 5; mark = 5; next = 4 }
+layoutNumbers BehindRpp = record { barred = false; first = 30; later = 33; more = 4; mark = 5; next = 4 }
 
 -- numbers so small that no sum of them is too great
-pub record Small (s : Shape) : Type 0 where
+pub record Small (s : LayoutNumbers) : Type 0 where
   pub few-first : s .first ≤ 1000
   pub few-later : s .later ≤ 1000
   pub few-more : s .more ≤ 1000
@@ -38,7 +38,7 @@ cutAt ok text low high = pick (ltb low (last ok text high)) (last ok text high) 
 abbrev pub breaksBy : Bool → List ℕ → ℕ → ℕ → ℕ → ℕ → Fit (List ℕ)
 breaksBy barred text low high later more = breaks (opens (barredBy barred)) text low high (replicate more later)
 
-abbrev pub breaksIn : Shape → List ℕ → ℕ → Fit (List ℕ)
+abbrev pub breaksIn : LayoutNumbers → List ℕ → ℕ → Fit (List ℕ)
 breaksIn s text low = breaksBy (s .barred) text low (s .first) (s .later) (s .more)
 
 -- n bytes, and `next` more for each break

@@ -7,14 +7,14 @@ ghost use lib.Seq.{sets};
 ghost use Rattle.base.specs.Calls.{placed};
 ghost use Rattle.details.specs.Breaking.{opens};
 ghost use Rattle.details.specs.Layouts.{sizeFor, roomFrom, Lays};
-ghost use Rattle.details.specs.Steps.{shapeOf, Small, barredBy, cutAt, breaksIn, sizeBy, wholeBy, RoomFor};
+ghost use Rattle.details.specs.Steps.{layoutNumbers, Small, barredBy, cutAt, breaksIn, sizeBy, wholeBy, RoomFor};
 use base::bytes::put;
 
 // The bytes of CR LF.
 const LINE_END: usize = 2;
 
 // Where details stand: in 70; in the 72 of a 202, alone or behind its RPP line.
-pub enum Place {
+pub enum DetailsField {
     In70,
     In72,
     BehindRpp,
@@ -26,15 +26,15 @@ pub enum Size {
     Unfit,
 }
 
-// The room of a place from one of its lines on: the bytes of that line's mark, and those of text that it and the lines behind it hold.
+// The room of a field from one of its lines on: the bytes of that line's mark, and those of text that it and the lines behind it hold.
 pub struct Room {
     pub mark: usize,
     pub bytes: usize,
 }
 
-// A place in numbers: whether a later line may not open with `:` or `-`; the room of the first line and of each later one, and how many of
+// Such a field in numbers: whether a later line may not open with `:` or `-`; the room of the first line and of each later one, and how many of
 // these there may be; the bytes before the first line and before each later one.
-struct Shape {
+struct LayoutNumbers {
     barred: bool,
     first: usize,
     later: usize,
@@ -43,11 +43,11 @@ struct Shape {
     next: usize,
 }
 
-fn shape_of(place: Place) -> Shape
-    ensures { λ r. ⌜ r ≡ shapeOf place ⌝ }
+fn layout_numbers(into: DetailsField) -> LayoutNumbers
+    ensures { λ r. ⌜ r ≡ layoutNumbers into ⌝ }
 {
-    match place {
-        Place::In70 => Shape {
+    match into {
+        DetailsField::In70 => LayoutNumbers {
             barred: true,
             first: 35,
             later: 35,
@@ -55,7 +55,7 @@ fn shape_of(place: Place) -> Shape
             mark: 0,
             next: 2,
         },
-        Place::In72 => Shape {
+        DetailsField::In72 => LayoutNumbers {
             barred: false,
             first: 30,
             later: 33,
@@ -63,7 +63,7 @@ fn shape_of(place: Place) -> Shape
             mark: 5,
             next: 4,
         },
-        Place::BehindRpp => Shape {
+        DetailsField::BehindRpp => LayoutNumbers {
             barred: false,
             first: 30,
             later: 33,
@@ -102,7 +102,7 @@ fn cut(text: &[u8], low: usize, high: usize, barred: bool) -> usize
 }
 
 // The size of a text whose first line ends behind low.
-fn measure(text: &[u8], low: usize, s: Shape) -> Size
+fn measure(text: &[u8], low: usize, s: LayoutNumbers) -> Size
     requires { ⌜ Small s ⌝ }
     ensures { λ r. ⌜ r ≡ sizeBy (s .mark + length (now (text .entry))) (s .next) (breaksIn s (now (text .entry)) low) ⌝ }
 {
@@ -138,7 +138,15 @@ fn put_both(out: &mut [u8], at: usize, one: &[u8], two: &[u8]) -> usize
 }
 
 // The mark, then the text with sep at each break.
-fn put_lines(text: &[u8], low: usize, s: Shape, mark: &[u8], sep: &[u8], out: &mut [u8], at: usize)
+fn put_lines(
+    text: &[u8],
+    low: usize,
+    s: LayoutNumbers,
+    mark: &[u8],
+    sep: &[u8],
+    out: &mut [u8],
+    at: usize,
+)
     requires { ⌜ (low < length (now text)) × Small s ⌝ }
     requires { ⌜ RoomFor (now mark) (now sep) (now text) (breaksIn s (now text) low) at (length (now out)) ⌝ }
     ensures { λ _. ⌜ now (out .exit) ≡ placed (now (out .entry)) at (wholeBy (now (mark .entry)) (now (sep .entry)) (now (text .entry)) (breaksIn s (now (text .entry)) low)) ⌝ }
@@ -167,11 +175,11 @@ fn one_less(n: usize) -> usize
     n - 1
 }
 
-// Lines are counted from 0, and behind the last there is no room. A shape's `next` counts CR LF too.
-pub fn room_from(place: Place, line: usize) -> Room
-    ensures { λ r. ⌜ r ≡ roomFrom place line ⌝ }
+// Lines are counted from 0, and behind the last there is no room. A layout's `next` counts CR LF too.
+pub fn room_from(into: DetailsField, line: usize) -> Room
+    ensures { λ r. ⌜ r ≡ roomFrom into line ⌝ }
 {
-    let s = shape_of(place);
+    let s = layout_numbers(into);
     if line == 0 {
         return Room {
             mark: s.mark,
@@ -189,21 +197,21 @@ pub fn room_from(place: Place, line: usize) -> Room
 }
 
 // How many bytes the lines of a text come to, whose first `least` bytes are the code.
-pub fn size_of(place: Place, least: usize, text: &[u8]) -> Size
-    ensures { λ r. ⌜ r ≡ sizeFor place least (now (text .entry)) ⌝ }
+pub fn size_of(into: DetailsField, least: usize, text: &[u8]) -> Size
+    ensures { λ r. ⌜ r ≡ sizeFor into least (now (text .entry)) ⌝ }
 {
     let low = one_less(least);
     if text.len() <= low {
         return Size::Unfit;
     }
-    measure(text, low, shape_of(place))
+    measure(text, low, layout_numbers(into))
 }
 
 // The lines put into out from `at` on, where they fit: how many bytes these are, else 0.
-pub fn lay(place: Place, least: usize, text: &[u8], out: &mut [u8], at: usize) -> usize
-    ensures { λ r. ⌜ Lays place least (now (text .entry)) (now (out .entry)) at r (now (out .exit)) ⌝ }
+pub fn lay(into: DetailsField, least: usize, text: &[u8], out: &mut [u8], at: usize) -> usize
+    ensures { λ r. ⌜ Lays into least (now (text .entry)) (now (out .entry)) at r (now (out .exit)) ⌝ }
 {
-    let size = size_of(place, least, text);
+    let size = size_of(into, least, text);
     let Size::Bytes(n) = size else {
         return 0;
     };
@@ -214,8 +222,8 @@ pub fn lay(place: Place, least: usize, text: &[u8], out: &mut [u8], at: usize) -
         return 0;
     }
     let low = one_less(least);
-    let s = shape_of(place);
-    if let Place::In70 = place {
+    let s = layout_numbers(into);
+    if let DetailsField::In70 = into {
         put_lines(text, low, s, b"", b"\r\n", out, at);
     } else {
         put_lines(text, low, s, b"/NZP/", b"\r\n//", out, at);

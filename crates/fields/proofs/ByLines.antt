@@ -10,7 +10,7 @@ use Rattle.base.specs.Bytes.{begins}
 use Rattle.base.specs.declared.Verdict.the-variants.{Fine}
 use Rattle.fields.specs.Field.{Field, field, body, lines, upto, past, Group, group, add, grouped, fields}
 use Rattle.fields.specs.Frame.{rule4}
-use Rattle.fields.specs.Places.{sizeOf, nextOf, colonsOf}
+use Rattle.fields.specs.Places.{linesSize, nextOf, colonsOf}
 use Rattle.fields.specs.Sentences.{Good}
 use Rattle.fields.specs.ByLines.{colonsAt, byFields, byLines}
 use Rattle.fields.proofs.TagLaws.{Headed, head-tag, head-rest}
@@ -23,23 +23,23 @@ head-line h = ap₂ (λ (x y : List ℕ). 58 ∷ (x ++ 58 ∷ y)) (head-tag h) (
 module _ {S R : Type 0} (end : S → ℕ → R) (step : S → ℕ → List ℕ → (S → R) → R) where
   -- the lines w wait, and the fields begin behind them
   abbrev Walks : List (List ℕ) → Group → Type 0
-  Walks ls (group w fs) = (s : S) (o : ℕ) → byLines end step s o ls ≡ byFields end step s (o + sizeOf w) fs
+  Walks ls (group w fs) = (s : S) (o : ℕ) → byLines end step s o ls ≡ byFields end step s (o + linesSize w) fs
 
   open-line : (l : List ℕ) (ls w : List (List ℕ)) (fs : List Field) → Headed l → Walks ls (group w fs) → Walks (l ∷ ls) (group [] (field (upto 58 (tail l)) (past 58 (tail l) ∷ w) ∷ fs))
   unfolding byFields byLines
   open-line l ls w fs h k s o =
       let t = upto 58 (tail l) in
       let n : length (58 ∷ (t ++ 58 ∷ past 58 (tail l))) ≡ length l = ap length (head-line h) in
-      let z : o + length l + 2 + sizeOf w ≡ o + 0 + (length (58 ∷ (t ++ 58 ∷ past 58 (tail l))) + 2 + sizeOf w) = omega arith in
+      let z : o + length l + 2 + linesSize w ≡ o + 0 + (length (58 ∷ (t ++ 58 ∷ past 58 (tail l))) + 2 + linesSize w) = omega arith in
       let z₀ : o ≡ o + 0 = omega arith in
       ap (λ (b : Bool). pick b (step s o t (λ q. byLines end step q (o + length l + 2) ls)) (byLines end step s (o + length l + 2) ls)) (headed-begins h)
       ∙ ap (step s o t) (fun-ext (λ q. k q (o + length l + 2) ∙ ap (λ (p : ℕ). byFields end step q p fs) z))
-      ∙ ap (λ (p : ℕ). step s p t (λ q. byFields end step q (o + 0 + (length (58 ∷ (t ++ 58 ∷ past 58 (tail l))) + 2 + sizeOf w)) fs)) z₀
+      ∙ ap (λ (p : ℕ). step s p t (λ q. byFields end step q (o + 0 + (length (58 ∷ (t ++ 58 ∷ past 58 (tail l))) + 2 + linesSize w)) fs)) z₀
 
   pass-line : (l : List ℕ) (ls w : List (List ℕ)) (fs : List Field) → begins 58 l ≡ false → Walks ls (group w fs) → Walks (l ∷ ls) (group (l ∷ w) fs)
   unfolding byLines
   pass-line l ls w fs e k s o =
-      let z : o + length l + 2 + sizeOf w ≡ o + (length l + 2 + sizeOf w) = omega arith in
+      let z : o + length l + 2 + linesSize w ≡ o + (length l + 2 + linesSize w) = omega arith in
       ap (λ (b : Bool). pick b (step s o (upto 58 (tail l)) (λ q. byLines end step q (o + length l + 2) ls)) (byLines end step s (o + length l + 2) ls)) e
       ∙ k s (o + length l + 2) ∙ ap (λ (p : ℕ). byFields end step s p fs) z
 
@@ -56,7 +56,7 @@ module _ {S R : Type 0} (end : S → ℕ → R) (step : S → ℕ → List ℕ �
 
   -- a walk over the lines is the walk over the fields that they hold; the first opens behind the lines that wait
   pub walk-lines : (isFirst : Bool) (ls w : List (List ℕ)) (fs : List Field) → Good isFirst ls → grouped ls ≡ group w fs → (s : S) (o : ℕ)
-      → byLines end step s o ls ≡ byFields end step s (o + sizeOf w) fs
+      → byLines end step s o ls ≡ byFields end step s (o + linesSize w) fs
   walk-lines f ls w fs g e = subst (Walks ls) e (walks f ls g)
 
 -- ---- the colons

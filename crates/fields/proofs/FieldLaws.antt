@@ -9,13 +9,13 @@ use lib.Seq.{take-at}
 use Rattle.base.specs.Choice.{pick, all}
 use Rattle.base.specs.Bytes.{xset, begins, empty, other, without}
 use Rattle.base.specs.declared.Verdict.the-variants.{Fine}
-use Rattle.fields.specs.Field.{Field, field, opening, closing, laid, linesOf, message, body, lines, Group, group, opened, add, grouped, fields}
+use Rattle.fields.specs.Field.{Field, field, opening, closing, withCrLf, linesOf, message, body, lines, Group, group, opened, add, grouped, fields}
 use Rattle.fields.specs.Frame.{tagged, lineBad, rule2, rule3, rule4}
-use Rattle.fields.specs.Places.{sizeOf}
+use Rattle.fields.specs.Places.{linesSize}
 use Rattle.fields.specs.Shapes.{shaped, shapedTag, follows, lineable, goesOn, proper}
 use Rattle.fields.specs.Sentences.{Framed, Good}
 use Rattle.base.proofs.Bools.{left, right, both, isnt, all-append, all-behind, all-imp}
-use Rattle.fields.proofs.LineLaws.{lines-laid, laid-lines, lines-no-cr, lines-in}
+use Rattle.fields.proofs.LineLaws.{lines-crlf, crlf-lines, lines-no-cr, lines-in}
 use Rattle.fields.proofs.TagLaws.{upto-at, past-at, shaped-no-colon, shaped-no-cr, Headed, headed}
 use Rattle.fields.proofs.FrameLaws.{rule2-fine, body-length, body-ended, around-body, rule4-fine}
 
@@ -73,10 +73,10 @@ fields-no-cr (field t (l ∷ ls) ∷ fs) e =
     both (all-append (other 13) t (58 ∷ l) (w .tag-cr) (w .line-cr))
     (all-append (without 13) ls (linesOf fs) (w .lines-cr) (fields-no-cr fs (right (lineable (field t (l ∷ ls))) (all lineable fs) e)))
 
-pub body-message : (fs : List Field) → body (message fs) ≡ laid (linesOf fs)
+pub body-message : (fs : List Field) → body (message fs) ≡ withCrLf (linesOf fs)
 unfolding body message
 body-message fs =
-    let b = laid (linesOf fs) in
+    let b = withCrLf (linesOf fs) in
     let n = length-append b closing in
     let z : length (opening ++ (b ++ closing)) - 7 ≡ length b = omega arith in
     ap (λ (k : ℕ). take k (b ++ closing)) z ∙ take-at b closing (length b) refl
@@ -85,7 +85,7 @@ pub fields-message : (fs : List Field) → all lineable fs ≡ true → fields (
 unfolding fields
 fields-message fs e =
     ap (λ (b : List ℕ). opened (grouped (lines b))) (body-message fs)
-    ∙ ap (λ (k : List (List ℕ)). opened (grouped k)) (lines-laid (linesOf fs) (fields-no-cr fs e))
+    ∙ ap (λ (k : List (List ℕ)). opened (grouped k)) (lines-crlf (linesOf fs) (fields-no-cr fs e))
     ∙ ap opened (grouped-lines fs e)
 
 -- ---- a good line opens a field by its tag, or follows
@@ -182,9 +182,9 @@ first-opens (l ∷ ls) g = go (stands true l (g .0))
     go (opens h) = none-waits l (grouped ls) (headed-begins h)
     go (goes e q) = absurd (true≢false q)
 
-pub laid-size : (ls : List (List ℕ)) → length (laid ls) ≡ sizeOf ls
-laid-size [] = refl
-laid-size (l ∷ ls) = let h = laid-size ls in let n = length-append l (13 ∷ 10 ∷ laid ls) in omega arith
+pub crlf-size : (ls : List (List ℕ)) → length (withCrLf ls) ≡ linesSize ls
+crlf-size [] = refl
+crlf-size (l ∷ ls) = let h = crlf-size ls in let n = length-append l (13 ∷ 10 ∷ withCrLf ls) in omega arith
 
 pub proper-shaped : (f : Field) → proper f ≡ true → shapedTag f ≡ true
 proper-shaped (field t []) e = absurd (false≢true e)
@@ -227,17 +227,17 @@ module _ (m : List ℕ) (e2 : rule2 m ≡ Fine) (e3 : rule3 m ≡ Fine) (e4 : ru
   unfolding rule3
   fields-in = ap (all (all xset)) (lines-fields m e4) ∙ lines-in false 5 (body m) e3
 
-  pub laid-fields : laid (linesOf (fields m)) ≡ body m
+  pub crlf-fields : withCrLf (linesOf (fields m)) ≡ body m
   unfolding rule3
-  laid-fields = ap laid (lines-fields m e4) ∙ laid-lines 5 (body m) (body-ended m frame) e3
+  crlf-fields = ap withCrLf (lines-fields m e4) ∙ crlf-lines 5 (body m) (body-ended m frame) e3
 
   pub message-fields : message (fields m) ≡ m
   unfolding message
-  message-fields = ap (λ (b : List ℕ). opening ++ (b ++ closing)) laid-fields ∙ around-body m frame
+  message-fields = ap (λ (b : List ℕ). opening ++ (b ++ closing)) crlf-fields ∙ around-body m frame
 
   -- the - stands behind the last line
-  pub fields-dash : 5 + sizeOf (linesOf (fields m)) ≡ length m - 2
+  pub fields-dash : 5 + linesSize (linesOf (fields m)) ≡ length m - 2
   fields-dash =
-      let a = sym (laid-size (linesOf (fields m))) ∙ ap length laid-fields in
+      let a = sym (crlf-size (linesOf (fields m))) ∙ ap length crlf-fields in
       let b = body-length m frame in
       omega arith

@@ -17,9 +17,9 @@ use Rattle.base.proofs.ByteLaws.{same-is, same-refl}
 use Rattle.base.proofs.RuleLaws.{fine-broken}
 use Rattle.fields.specs.Field.{opening, closing, body, lines}
 use Rattle.fields.specs.Frame.{framed, rule2, lineBad, badLine, rule4}
-use Rattle.fields.specs.Places.{sizeOf}
+use Rattle.fields.specs.Places.{linesSize}
 use Rattle.fields.specs.Shapes.{ended}
-use Rattle.fields.specs.Sentences.{Framed, Good, BadAt}
+use Rattle.fields.specs.Sentences.{Framed, Good, BadLineAt}
 use Rattle.base.proofs.Bools.{left, right, both}
 
 -- ---- 2
@@ -28,7 +28,7 @@ module _ (m : List ℕ) where
   unfolding framed
   framed-is e =
       record {
-        behind = drop 5 m;
+        rest = drop 5 m;
         starts = sym (take-append-drop 5 m) ∙ ap (λ (k : List ℕ). k ++ drop 5 m) (same-is (take 5 m) opening (left (same (take 5 m) opening) _ e));
         front = take (length m - 4) m;
         ends =
@@ -45,7 +45,7 @@ module _ (m : List ℕ) where
 
   pub framed-long : Framed m → 7 ≤ length m
   framed-long w =
-      let h = front-long (w .front) (w .behind) (sym (w .starts) ∙ w .ends) in
+      let h = front-long (w .front) (w .rest) (sym (w .starts) ∙ w .ends) in
       let e = ap length (w .ends) ∙ length-append (w .front) (13 ∷ 10 ∷ closing) in
       omega arith
 
@@ -143,7 +143,7 @@ module _ (m : List ℕ) (w : Framed m) where
       let c : drop (length m - 7) (drop 5 m) ≡ closing =
       drop-drop (length m - 7) 5 m ∙ ap (λ (j : ℕ). drop j m) p ∙ sym (drop-drop 2 (length m - 4) m) ∙ ap (drop 2) (last-four m w) in
       let b : body m ++ closing ≡ drop 5 m = ap (λ (k : List ℕ). take (length m - 7) (drop 5 m) ++ k) (sym c) ∙ take-append-drop (length m - 7) (drop 5 m) in
-      let s : drop 5 m ≡ w .behind = ap (drop 5) (w .starts) in
+      let s : drop 5 m ≡ w .rest = ap (drop 5) (w .starts) in
       ap (λ (k : List ℕ). opening ++ k) (b ∙ s) ∙ sym (w .starts)
 
 -- ---- 4
@@ -166,13 +166,13 @@ of-good f o (l ∷ ls) g = rw (g .0) (of-good false (o + length l + 2) ls (g .1)
 pub lines-fine : (isFirst : Bool) (o : ℕ) (ls : List (List ℕ)) → (badLine isFirst o ls ≡ Fine) ↔ Good isFirst ls
 lines-fine f o ls = (good-of f o ls, of-good f o ls)
 
-bad-of : (isFirst : Bool) (o : ℕ) (ls : List (List ℕ)) (p : ℕ) → badLine isFirst o ls ≡ Broken 4 p → BadAt isFirst o ls p
+bad-of : (isFirst : Bool) (o : ℕ) (ls : List (List ℕ)) (p : ℕ) → badLine isFirst o ls ≡ Broken 4 p → BadLineAt isFirst o ls p
 unfolding badLine
 bad-of f o [] p e = absurd (fine-broken 4 p e)
 bad-of f o (l ∷ ls) p e = go (lineBad f l) refl (bad-of false (o + length l + 2) ls p) e
   where
-    go : (b : Bool) → lineBad f l ≡ b → (badLine false (o + length l + 2) ls ≡ Broken 4 p → BadAt false (o + length l + 2) ls p)
-        → pick b (Broken 4 o) (badLine false (o + length l + 2) ls) ≡ Broken 4 p → BadAt f o (l ∷ ls) p
+    go : (b : Bool) → lineBad f l ≡ b → (badLine false (o + length l + 2) ls ≡ Broken 4 p → BadLineAt false (o + length l + 2) ls p)
+        → pick b (Broken 4 o) (badLine false (o + length l + 2) ls) ≡ Broken 4 p → BadLineAt f o (l ∷ ls) p
     go true q h e =
         let z : o ≡ p = cc in
         record { before = []; line = l; behind = ls; list = refl; good = tt; bad = rw and-true q; place = omega arith }
@@ -190,7 +190,7 @@ bad-of f o (l ∷ ls) p e = go (lineBad f l) refl (bad-of false (o + length l + 
         }
 
 of-bad : (isFirst : Bool) (o : ℕ) (ks : List (List ℕ)) (l : List ℕ) (ls : List (List ℕ)) → Good isFirst ks → lineBad (isFirst && empty ks) l ≡ true
-    → badLine isFirst o (ks ++ l ∷ ls) ≡ Broken 4 (o + sizeOf ks)
+    → badLine isFirst o (ks ++ l ∷ ls) ≡ Broken 4 (o + linesSize ks)
 unfolding badLine
 of-bad f o [] l ls g b =
     let e : lineBad f l ≡ true = rw and-true at b in
@@ -198,11 +198,11 @@ of-bad f o [] l ls g b =
     rw e (ap (Broken 4) z)
 of-bad f o (k ∷ ks) l ls g b =
     let e : lineBad false l ≡ true = rw and-false at b in
-    let z : o + length k + 2 + sizeOf ks ≡ o + (length k + 2 + sizeOf ks) = omega arith in
+    let z : o + length k + 2 + linesSize ks ≡ o + (length k + 2 + linesSize ks) = omega arith in
     rw (g .0) (of-bad false (o + length k + 2) ks l ls (g .1) e ∙ ap (Broken 4) z)
 
 -- and it is given exactly at the first bad line
-pub lines-broken : (isFirst : Bool) (o : ℕ) (ls : List (List ℕ)) (p : ℕ) → (badLine isFirst o ls ≡ Broken 4 p) ↔ BadAt isFirst o ls p
+pub lines-broken : (isFirst : Bool) (o : ℕ) (ls : List (List ℕ)) (p : ℕ) → (badLine isFirst o ls ≡ Broken 4 p) ↔ BadLineAt isFirst o ls p
 lines-broken f o ls p =
     (bad-of f o ls p, λ w. ap (badLine f o) (w .list) ∙ of-bad f o (w .before) (w .line) (w .behind) (w .good) (w .bad) ∙ ap (Broken 4) (sym (w .place)))
 
@@ -211,6 +211,6 @@ pub rule4-fine : (m : List ℕ) → (rule4 m ≡ Fine) ↔ Good true (lines (bod
 unfolding rule4
 rule4-fine m = lines-fine true 5 (lines (body m))
 
-pub rule4-broken : (m : List ℕ) (p : ℕ) → (rule4 m ≡ Broken 4 p) ↔ BadAt true 5 (lines (body m)) p
+pub rule4-broken : (m : List ℕ) (p : ℕ) → (rule4 m ≡ Broken 4 p) ↔ BadLineAt true 5 (lines (body m)) p
 unfolding rule4
 rule4-broken m p = lines-broken true 5 (lines (body m)) p

@@ -11,39 +11,39 @@ use Rattle.base.specs.Choice.{pick, all}
 use Rattle.base.specs.Bytes.{xset, begins, other, without}
 use Rattle.base.specs.declared.Verdict.the-variants.{Fine, Broken}
 use Rattle.base.proofs.RuleLaws.{fine-broken}
-use Rattle.fields.specs.Field.{laid, onto, cut, lines}
+use Rattle.fields.specs.Field.{withCrLf, onto, cutLines, lines}
 use Rattle.fields.specs.Frame.{scan}
 use Rattle.fields.specs.Shapes.{ended}
 use Rattle.base.proofs.Bools.{left, right, both, isnt, all-imp}
 
 -- ---- written, then found
 pub one-line : (l r : List ℕ) → without 13 l ≡ true → lines (l ++ 13 ∷ 10 ∷ r) ≡ l ∷ lines r
-unfolding cut
+unfolding cutLines
 one-line [] r e = refl
 one-line (x ∷ l) r e = rw (isnt (eqb x 13) (left (other 13 x) (without 13 l) e), one-line l r (right (other 13 x) (without 13 l) e))
 
-pub lines-laid : (ls : List (List ℕ)) → all (without 13) ls ≡ true → lines (laid ls) ≡ ls
-unfolding cut
-lines-laid [] e = refl
-lines-laid (l ∷ ls) e =
-    one-line l (laid ls) (left (without 13 l) (all (without 13) ls) e)
-    ∙ ap (λ (k : List (List ℕ)). l ∷ k) (lines-laid ls (right (without 13 l) (all (without 13) ls) e))
+pub lines-crlf : (ls : List (List ℕ)) → all (without 13) ls ≡ true → lines (withCrLf ls) ≡ ls
+unfolding cutLines
+lines-crlf [] e = refl
+lines-crlf (l ∷ ls) e =
+    one-line l (withCrLf ls) (left (without 13 l) (all (without 13) ls) e)
+    ∙ ap (λ (k : List (List ℕ)). l ∷ k) (lines-crlf ls (right (without 13 l) (all (without 13) ls) e))
 
 -- ---- a line found has no CR
 pub onto-all : (t : ℕ → Bool) (x : ℕ) (ls : List (List ℕ)) → t x ≡ true → all (all t) ls ≡ true → all (all t) (onto x ls) ≡ true
 onto-all t x [] e h = both (both e refl) refl
 onto-all t x (l ∷ ls) e h = both (both e (left (all t l) (all (all t) ls) h)) (right (all t l) (all (all t) ls) h)
 
-pub lines-no-cr : (lf : Bool) (b : List ℕ) → all (without 13) (cut lf b) ≡ true
-unfolding cut
+pub lines-no-cr : (lf : Bool) (b : List ℕ) → all (without 13) (cutLines lf b) ≡ true
+unfolding cutLines
 lines-no-cr lf [] = refl
 lines-no-cr true (x ∷ b) = lines-no-cr false b
 lines-no-cr false (x ∷ b) = go (eqb x 13) refl (lines-no-cr true b) (lines-no-cr false b)
   where
-    go : (q : Bool) → eqb x 13 ≡ q → all (without 13) (cut true b) ≡ true → all (without 13) (cut false b) ≡ true
-        → all (without 13) (pick q ([] ∷ cut true b) (onto x (cut false b))) ≡ true
+    go : (q : Bool) → eqb x 13 ≡ q → all (without 13) (cutLines true b) ≡ true → all (without 13) (cutLines false b) ≡ true
+        → all (without 13) (pick q ([] ∷ cutLines true b) (onto x (cutLines false b))) ≡ true
     go true e h k = h
-    go false e h k = onto-all (other 13) x (cut false b) (ap not e) k
+    go false e h k = onto-all (other 13) x (cutLines false b) (ap not e) k
 
 -- ---- bytes of the set
 -- a byte outside the set is none of the set's
@@ -77,44 +77,44 @@ came x o b h = go (eqb x 13) (begins 10 b) (xset x) refl refl refl h
     go false r true eq er ez h = inner eq ez h
     go false r false eq er ez h = absurd (fine-broken 3 o (sym h))
 
-pub lines-in : (lf : Bool) (o : ℕ) (b : List ℕ) → scan lf o b ≡ Fine → all (all xset) (cut lf b) ≡ true
-unfolding cut scan
+pub lines-in : (lf : Bool) (o : ℕ) (b : List ℕ) → scan lf o b ≡ Fine → all (all xset) (cutLines lf b) ≡ true
+unfolding cutLines scan
 lines-in lf o [] h = refl
 lines-in true o (x ∷ b) h = lines-in false (suc o) b h
 lines-in false o (x ∷ b) h = go (came x o b h) (lines-in true (suc o) b) (lines-in false (suc o) b)
   where
-    go : Came x o b → (scan true (suc o) b ≡ Fine → all (all xset) (cut true b) ≡ true) → (scan false (suc o) b ≡ Fine → all (all xset) (cut false b) ≡ true)
-        → all (all xset) (pick (eqb x 13) ([] ∷ cut true b) (onto x (cut false b))) ≡ true
+    go : Came x o b → (scan true (suc o) b ≡ Fine → all (all xset) (cutLines true b) ≡ true) → (scan false (suc o) b ≡ Fine → all (all xset) (cutLines false b) ≡ true)
+        → all (all xset) (pick (eqb x 13) ([] ∷ cutLines true b) (onto x (cutLines false b))) ≡ true
     go (turned q r s) ht hf = rw q (ht s)
-    go (inner q i s) ht hf = rw q (onto-all xset x (cut false b) i (hf s))
+    go (inner q i s) ht hf = rw q (onto-all xset x (cutLines false b) i (hf s))
 
 -- ---- found, then written
 pub ended-tail : (x : ℕ) (b : List ℕ) → ended (x ∷ b) ≡ true → ended b ≡ true
 ended-tail x [] e = refl
 ended-tail x (y ∷ r) e = e
 
-onto-laid : (x : ℕ) (b : List ℕ) (ls : List (List ℕ)) → xset x ≡ true → ended (x ∷ b) ≡ true → laid ls ≡ b → laid (onto x ls) ≡ x ∷ b
-onto-laid x b [] i e h = absurd (true≢false (sym (ap (λ (r : List ℕ). ended (x ∷ r)) h ∙ e) ∙ no-lf x i))
-onto-laid x b (l ∷ ls) i e h = ap (λ (r : List ℕ). x ∷ r) h
+onto-crlf : (x : ℕ) (b : List ℕ) (ls : List (List ℕ)) → xset x ≡ true → ended (x ∷ b) ≡ true → withCrLf ls ≡ b → withCrLf (onto x ls) ≡ x ∷ b
+onto-crlf x b [] i e h = absurd (true≢false (sym (ap (λ (r : List ℕ). ended (x ∷ r)) h ∙ e) ∙ no-lf x i))
+onto-crlf x b (l ∷ ls) i e h = ap (λ (r : List ℕ). x ∷ r) h
 
 abbrev Back : Bool → List ℕ → Type 0
-Back true b = begins 10 b ≡ true → 10 ∷ laid (cut true b) ≡ b
-Back false b = laid (cut false b) ≡ b
+Back true b = begins 10 b ≡ true → 10 ∷ withCrLf (cutLines true b) ≡ b
+Back false b = withCrLf (cutLines false b) ≡ b
 
 back : (lf : Bool) (o : ℕ) (b : List ℕ) → ended b ≡ true → scan lf o b ≡ Fine → Back lf b
-unfolding cut scan
+unfolding cutLines scan
 back false o [] e h = refl
 back true o [] e h = λ q. absurd (false≢true q)
 back true o (x ∷ b) e h = λ q. ap (λ (r : List ℕ). 10 ∷ r) (back false (suc o) b (ended-tail x b e) h) ∙ ap (λ (y : ℕ). y ∷ b) (sym (eqb-true x 10 q))
 back false o (x ∷ b) e h = go (came x o b h) (back true (suc o) b (ended-tail x b e)) (back false (suc o) b (ended-tail x b e))
   where
     go : Came x o b → (scan true (suc o) b ≡ Fine → Back true b) → (scan false (suc o) b ≡ Fine → Back false b)
-        → laid (pick (eqb x 13) ([] ∷ cut true b) (onto x (cut false b))) ≡ x ∷ b
+        → withCrLf (pick (eqb x 13) ([] ∷ cutLines true b) (onto x (cutLines false b))) ≡ x ∷ b
     go (turned q r s) ht hf = rw q (ap (λ (k : List ℕ). 13 ∷ k) (ht s r) ∙ ap (λ (y : ℕ). y ∷ b) (sym (eqb-true x 13 q)))
-    go (inner q i s) ht hf = rw q (onto-laid x b (cut false b) i e (hf s))
+    go (inner q i s) ht hf = rw q (onto-crlf x b (cutLines false b) i e (hf s))
 
-pub laid-lines : (o : ℕ) (b : List ℕ) → ended b ≡ true → scan false o b ≡ Fine → laid (lines b) ≡ b
-laid-lines o b e h = back false o b e h
+pub crlf-lines : (o : ℕ) (b : List ℕ) → ended b ≡ true → scan false o b ≡ Fine → withCrLf (lines b) ≡ b
+crlf-lines o b e h = back false o b e h
 
 -- ---- 3, run by run: bytes of the set, a line's end, and where it stops
 pub scan-run : (o : ℕ) (l r : List ℕ) → all xset l ≡ true → scan false o (l ++ r) ≡ scan false (o + length l) r
@@ -138,9 +138,9 @@ scan-stop o x r i e = rw i (go (eqb x 13) (begins 10 r) e)
     go false b e = refl
 
 -- lines of the set are not refused
-pub scan-laid : (o : ℕ) (ls : List (List ℕ)) → all (all xset) ls ≡ true → scan false o (laid ls) ≡ Fine
+pub scan-crlf : (o : ℕ) (ls : List (List ℕ)) → all (all xset) ls ≡ true → scan false o (withCrLf ls) ≡ Fine
 unfolding scan
-scan-laid o [] e = refl
-scan-laid o (l ∷ ls) e =
-    scan-run o l (13 ∷ 10 ∷ laid ls) (left (all xset l) (all (all xset) ls) e) ∙ scan-turn (o + length l) (laid ls)
-    ∙ scan-laid (o + length l + 2) ls (right (all xset l) (all (all xset) ls) e)
+scan-crlf o [] e = refl
+scan-crlf o (l ∷ ls) e =
+    scan-run o l (13 ∷ 10 ∷ withCrLf ls) (left (all xset l) (all (all xset) ls) e) ∙ scan-turn (o + length l) (withCrLf ls)
+    ∙ scan-crlf (o + length l + 2) ls (right (all xset l) (all (all xset) ls) e)

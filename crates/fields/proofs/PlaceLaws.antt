@@ -12,32 +12,32 @@ use lib.Seq.{take-at, drop-at, drop-drop, getD-drop}
 use Rattle.base.specs.Choice.{pick, all}
 use Rattle.base.specs.Bytes.{byte}
 use Rattle.base.specs.declared.Verdict.the-variants.{Fine}
-use Rattle.fields.specs.Field.{Field, field, closing, laid, lined, linesOf, message, body, lines, fields}
+use Rattle.fields.specs.Field.{Field, field, closing, withCrLf, lined, linesOf, message, body, lines, fields}
 use Rattle.fields.specs.Frame.{rule2, rule3, rule4}
-use Rattle.fields.specs.Places.{sizeOf, startOf, nextOf, endOf, colonsOf, listed}
+use Rattle.fields.specs.Places.{linesSize, startOf, nextOf, endOf, colonsOf, listed}
 use Rattle.fields.specs.Shapes.{shaped, shapedTag, lineable, pack}
 use Rattle.fields.specs.ByLines.{colonsAt, joined, startAt, tagAt, firstOr, listedBy, Standing}
 use Rattle.base.proofs.Bools.{left, right}
 use Rattle.fields.proofs.TagLaws.{Shape, plain, lettered, shape-of, tag-long, no-colon}
 use Rattle.fields.proofs.ByLines.{colons-body}
-use Rattle.fields.proofs.FieldLaws.{message-fields, fields-lineable, fields-shaped, fields-dash, laid-size}
+use Rattle.fields.proofs.FieldLaws.{message-fields, fields-lineable, fields-shaped, fields-dash, crlf-size}
 
 -- ---- fields that stand in a message from o on
-pub laid-append : (ks ls : List (List ℕ)) → laid (ks ++ ls) ≡ laid ks ++ laid ls
-laid-append [] ls = refl
-laid-append (k ∷ ks) ls = ap (λ (x : List ℕ). k ++ 13 ∷ 10 ∷ x) (laid-append ks ls) ∙ sym (append-assoc k (13 ∷ 10 ∷ laid ks) (laid ls))
+pub crlf-append : (ks ls : List (List ℕ)) → withCrLf (ks ++ ls) ≡ withCrLf ks ++ withCrLf ls
+crlf-append [] ls = refl
+crlf-append (k ∷ ks) ls = ap (λ (x : List ℕ). k ++ 13 ∷ 10 ∷ x) (crlf-append ks ls) ∙ sym (append-assoc k (13 ∷ 10 ∷ withCrLf ks) (withCrLf ls))
 
-pub size-append : (ks ls : List (List ℕ)) → sizeOf (ks ++ ls) ≡ sizeOf ks + sizeOf ls
-size-append [] ls = sym (zero-add (sizeOf ls))
+pub size-append : (ks ls : List (List ℕ)) → linesSize (ks ++ ls) ≡ linesSize ks + linesSize ls
+size-append [] ls = sym (zero-add (linesSize ls))
 size-append (k ∷ ks) ls = let h = size-append ks ls in omega arith
 
-pub laid-joined : (l : List ℕ) (ls : List (List ℕ)) → laid (l ∷ ls) ≡ joined (l ∷ ls) ++ 13 ∷ 10 ∷ []
-laid-joined l [] = refl
-laid-joined l (k ∷ ls) = ap (λ (x : List ℕ). l ++ 13 ∷ 10 ∷ x) (laid-joined k ls) ∙ sym (append-assoc l (13 ∷ 10 ∷ joined (k ∷ ls)) (13 ∷ 10 ∷ []))
+pub crlf-joined : (l : List ℕ) (ls : List (List ℕ)) → withCrLf (l ∷ ls) ≡ joined (l ∷ ls) ++ 13 ∷ 10 ∷ []
+crlf-joined l [] = refl
+crlf-joined l (k ∷ ls) = ap (λ (x : List ℕ). l ++ 13 ∷ 10 ∷ x) (crlf-joined k ls) ∙ sym (append-assoc l (13 ∷ 10 ∷ joined (k ∷ ls)) (13 ∷ 10 ∷ []))
 
 -- how many bytes a content takes
-pub joined-length : (l : List ℕ) (ls : List (List ℕ)) → length (joined (l ∷ ls)) + 2 ≡ sizeOf (l ∷ ls)
-joined-length l ls = let a = length-append (joined (l ∷ ls)) (13 ∷ 10 ∷ []) in let b = ap length (laid-joined l ls) in omega (arith, laid-size (l ∷ ls))
+pub joined-length : (l : List ℕ) (ls : List (List ℕ)) → length (joined (l ∷ ls)) + 2 ≡ linesSize (l ∷ ls)
+joined-length l ls = let a = length-append (joined (l ∷ ls)) (13 ∷ 10 ∷ []) in let b = ap length (crlf-joined l ls) in omega (arith, crlf-size (l ∷ ls))
 
 -- the bytes from a tag's colon on
 tag-byte : (m : List ℕ) (o : ℕ) (t r : List ℕ) → drop o m ≡ 58 ∷ (t ++ 58 ∷ r) → (u : List ℕ) (i : ℕ) → t ≡ u → byte m (o + i) ≡ byte (58 ∷ (u ++ 58 ∷ r)) i
@@ -61,15 +61,15 @@ start-at m o t r e d = go (shape-of t e)
 -- and the tag stands behind its colon
 pub tag-at : (m : List ℕ) (o : ℕ) (t r : List ℕ) → shaped t ≡ true → drop o m ≡ 58 ∷ (t ++ 58 ∷ r) → tagAt m o ≡ pack t
 unfolding tagAt
-tag-at m o t r e d = ap (λ (b : Bool). pick b (told (byte m (o + 1)) (byte m (o + 2)) (byte m (o + 3))) 0) (lt-ltb (o + 3) (length m) (omega (arith, tag-long t (shape-of t e), length-drop o m, ap length d, length-append t (58 ∷ r)))) ∙ go (shape-of t e)
+tag-at m o t r e d = ap (λ (b : Bool). pick b (tagNumber (byte m (o + 1)) (byte m (o + 2)) (byte m (o + 3))) 0) (lt-ltb (o + 3) (length m) (omega (arith, tag-long t (shape-of t e), length-drop o m, ap length d, length-append t (58 ∷ r)))) ∙ go (shape-of t e)
   where
-    told : ℕ → ℕ → ℕ → ℕ
-    told x y z = x * 65536 + y * 256 + pick (eqb z 58) 0 z
+    tagNumber : ℕ → ℕ → ℕ → ℕ
+    tagNumber x y z = x * 65536 + y * 256 + pick (eqb z 58) 0 z
 
-    by : (u : List ℕ) → t ≡ u → told (byte m (o + 1)) (byte m (o + 2)) (byte m (o + 3)) ≡ told (byte (u ++ 58 ∷ r) 0) (byte (u ++ 58 ∷ r) 1) (byte (u ++ 58 ∷ r) 2)
-    by u q = ap₂ (λ (x y : ℕ). told x y (byte m (o + 3))) (tag-byte m o t r d u 1 q) (tag-byte m o t r d u 2 q) ∙ ap (told (byte (u ++ 58 ∷ r) 0) (byte (u ++ 58 ∷ r) 1)) (tag-byte m o t r d u 3 q)
+    by : (u : List ℕ) → t ≡ u → tagNumber (byte m (o + 1)) (byte m (o + 2)) (byte m (o + 3)) ≡ tagNumber (byte (u ++ 58 ∷ r) 0) (byte (u ++ 58 ∷ r) 1) (byte (u ++ 58 ∷ r) 2)
+    by u q = ap₂ (λ (x y : ℕ). tagNumber x y (byte m (o + 3))) (tag-byte m o t r d u 1 q) (tag-byte m o t r d u 2 q) ∙ ap (tagNumber (byte (u ++ 58 ∷ r) 0) (byte (u ++ 58 ∷ r) 1)) (tag-byte m o t r d u 3 q)
 
-    go : Shape t → told (byte m (o + 1)) (byte m (o + 2)) (byte m (o + 3)) ≡ pack t
+    go : Shape t → tagNumber (byte m (o + 1)) (byte m (o + 2)) (byte m (o + 3)) ≡ pack t
     go (plain a b q x y) = by (a ∷ b ∷ []) q ∙ ap pack (sym q)
     go (lettered a b c q x y k) =
         by (a ∷ b ∷ c ∷ []) q ∙ ap (λ (p : Bool). a * 65536 + b * 256 + pick p 0 c) (no-colon c k) ∙ ap pack (sym q)
@@ -91,26 +91,26 @@ module _ (m : List ℕ) (o : ℕ) (h : o + 3 < length m) {a b : ℕ} (p : a ≡ 
   tag-letter r n = sym (tag-by (ap (λ (t : Bool). pick t 0 (byte m (o + 3))) (ne-eqb (byte m (o + 3)) 58 n) ∙ sym r))
 
 module _ (m : List ℕ) (o : ℕ) (t l : List ℕ) (ls : List (List ℕ)) (fs : List Field) (w : Standing m o (field t (l ∷ ls) ∷ fs)) where
-  pub field-bytes : drop o m ≡ 58 ∷ (t ++ 58 ∷ (laid (l ∷ ls) ++ (laid (linesOf fs) ++ closing)))
-  field-bytes = w .bytes ∙ ap (λ (x : List ℕ). ((58 ∷ (t ++ 58 ∷ l)) ++ 13 ∷ 10 ∷ x) ++ closing) (laid-append ls (linesOf fs)) ∙ simp append-assoc
+  pub field-bytes : drop o m ≡ 58 ∷ (t ++ 58 ∷ (withCrLf (l ∷ ls) ++ (withCrLf (linesOf fs) ++ closing)))
+  field-bytes = w .bytes ∙ ap (λ (x : List ℕ). ((58 ∷ (t ++ 58 ∷ l)) ++ 13 ∷ 10 ∷ x) ++ closing) (crlf-append ls (linesOf fs)) ∙ simp append-assoc
 
   pub next-standing : Standing m (nextOf o (field t (l ∷ ls))) fs
   next-standing =
-      let n : ℕ = sizeOf (lined (field t (l ∷ ls))) in
+      let n : ℕ = linesSize (lined (field t (l ∷ ls))) in
       let z = size-append (lined (field t (l ∷ ls))) (linesOf fs) in
       let d = w .dash in
       record {
         bytes =
-            sym (drop-drop n o m) ∙ ap (drop n) (w .bytes ∙ ap (λ (x : List ℕ). x ++ closing) (laid-append (lined (field t (l ∷ ls))) (linesOf fs)) ∙ append-assoc (laid (lined (field t (l ∷ ls)))) (laid (linesOf fs)) closing)
-            ∙ drop-at (laid (lined (field t (l ∷ ls)))) (laid (linesOf fs) ++ closing) n (laid-size (lined (field t (l ∷ ls))));
+            sym (drop-drop n o m) ∙ ap (drop n) (w .bytes ∙ ap (λ (x : List ℕ). x ++ closing) (crlf-append (lined (field t (l ∷ ls))) (linesOf fs)) ∙ append-assoc (withCrLf (lined (field t (l ∷ ls)))) (withCrLf (linesOf fs)) closing)
+            ∙ drop-at (withCrLf (lined (field t (l ∷ ls)))) (withCrLf (linesOf fs) ++ closing) n (crlf-size (lined (field t (l ∷ ls))));
         dash = omega arith;
         able = right (lineable (field t (l ∷ ls))) (all lineable fs) (w .able);
         tags = right (shaped t) (all shapedTag fs) (w .tags);
       }
 
-  pub content-bytes : drop (startOf o (field t (l ∷ ls))) m ≡ laid (l ∷ ls) ++ (laid (linesOf fs) ++ closing)
+  pub content-bytes : drop (startOf o (field t (l ∷ ls))) m ≡ withCrLf (l ∷ ls) ++ (withCrLf (linesOf fs) ++ closing)
   content-bytes =
-      let r = laid (l ∷ ls) ++ (laid (linesOf fs) ++ closing) in
+      let r = withCrLf (l ∷ ls) ++ (withCrLf (linesOf fs) ++ closing) in
       let n : length (58 ∷ (t ++ 58 ∷ [])) ≡ 2 + length t = let h = length-append t (58 ∷ []) in omega arith in
       let z : o + 2 + length t ≡ o + (2 + length t) = omega arith in
       ap (λ (k : ℕ). drop k m) z ∙ sym (drop-drop (2 + length t) o m)
@@ -121,10 +121,10 @@ module _ (m : List ℕ) (o : ℕ) (t l : List ℕ) (ls : List (List ℕ)) (fs : 
   pub content-part : take (endOf o (field t (l ∷ ls)) - startOf o (field t (l ∷ ls))) (drop (startOf o (field t (l ∷ ls))) m) ≡ joined (l ∷ ls)
   content-part =
       let j = joined (l ∷ ls) in
-      let r = laid (linesOf fs) ++ closing in
-      let a = laid-joined l ls in
+      let r = withCrLf (linesOf fs) ++ closing in
+      let a = crlf-joined l ls in
       let b = ap length a ∙ length-append j (13 ∷ 10 ∷ []) in
-      let c = laid-size (l ∷ ls) in
+      let c = crlf-size (l ∷ ls) in
       let h = length-append t (58 ∷ l) in
       let n : length j ≡ endOf o (field t (l ∷ ls)) - startOf o (field t (l ∷ ls)) = omega arith in
       ap (take (endOf o (field t (l ∷ ls)) - startOf o (field t (l ∷ ls)))) (content-bytes ∙ ap (λ (x : List ℕ). x ++ r) a ∙ append-assoc j (13 ∷ 10 ∷ []) r)
@@ -136,7 +136,7 @@ listed-standing m [] o w = refl
 listed-standing m (field t [] ∷ fs) o w = absurd (false≢true (w .able))
 listed-standing m (field t (l ∷ ls) ∷ fs) o w =
     let v = next-standing m o t l ls fs w in
-    let a = start-at m o t (laid (l ∷ ls) ++ (laid (linesOf fs) ++ closing)) (left (shaped t) (all shapedTag fs) (w .tags)) (field-bytes m o t l ls fs w) in
+    let a = start-at m o t (withCrLf (l ∷ ls) ++ (withCrLf (linesOf fs) ++ closing)) (left (shaped t) (all shapedTag fs) (w .tags)) (field-bytes m o t l ls fs w) in
     let b = ap (λ (n : ℕ). n - 2) (go fs v) in
     let h = listed-standing m fs (nextOf o (field t (l ∷ ls))) v in
     sym (ap₂ (λ (x : ℕ) (xs : List ℕ). o ∷ x ∷ xs) a (ap₂ (λ (x : ℕ) (xs : List ℕ). x ∷ xs) b (sym h)))
@@ -152,7 +152,7 @@ listed-length o [] = refl
 listed-length o (f ∷ fs) = let h = listed-length (nextOf o f) fs in omega arith
 
 -- the colons, and the - behind them, stand within the lines
-pub colons-within : (fs : List Field) (o e k : ℕ) → o + sizeOf (linesOf fs) ≡ e → k ≤ length fs → (o ≤ byte (colonsOf o fs ++ e ∷ []) k) × (byte (colonsOf o fs ++ e ∷ []) k ≤ e)
+pub colons-within : (fs : List Field) (o e k : ℕ) → o + linesSize (linesOf fs) ≡ e → k ≤ length fs → (o ≤ byte (colonsOf o fs ++ e ∷ []) k) × (byte (colonsOf o fs ++ e ∷ []) k ≤ e)
 colons-within [] o e zero z h = (omega arith, omega arith)
 colons-within [] o e (suc k) z h = absurd (omega arith)
 colons-within (f ∷ fs) o e zero z h = (omega arith, omega arith)

@@ -22,12 +22,12 @@ use Rattle.fields.specs.Sentences.{byteBad, Nowhere, FirstAt}
 use Rattle.fields.proofs.LineLaws.{no-lf}
 
 -- ---- the test at each byte; cr: the byte before the text is a CR
-abbrev behind : Bool → List ℕ → ℕ → Bool
-behind cr b zero = cr
-behind cr b (suc k) = eqb (byte b k) 13
+abbrev afterCr : Bool → List ℕ → ℕ → Bool
+afterCr cr b zero = cr
+afterCr cr b (suc k) = eqb (byte b k) 13
 
 abbrev bad : Bool → List ℕ → ℕ → Bool
-bad cr b k = pick (eqb (byte b k) 13) (not (eqb (byte b (suc k)) 10)) (pick (eqb (byte b k) 10) (not (behind cr b k)) (not (xset (byte b k))))
+bad cr b k = pick (eqb (byte b k) 13) (not (eqb (byte b (suc k)) 10)) (pick (eqb (byte b k) 10) (not (afterCr cr b k)) (not (xset (byte b k))))
 
 bad-is : (b : List ℕ) (k : ℕ) → byteBad b k ≡ bad false b k
 unfolding byteBad

@@ -8,37 +8,37 @@ use mathlib.Core.Logic.{_↔_}
 use Rattle.base.specs.Choice.{all}
 use Rattle.base.specs.Bytes.{xset, begins, empty, without}
 use Rattle.base.specs.declared.Verdict.the-variants.{Fine}
-use Rattle.fields.specs.Field.{Field, field, opening, closing, laid, linesOf, message, lines, fields}
+use Rattle.fields.specs.Field.{Field, field, opening, closing, withCrLf, linesOf, message, lines, fields}
 use Rattle.fields.specs.Frame.{scan, lineBad, badLine, rule2, rule3, rule4}
 use Rattle.fields.specs.Shapes.{shaped, follows, lineable, goesOn, proper}
 use Rattle.fields.specs.Sentences.{Framed, Written, Good}
 use Rattle.fields.specs.ByLines.{joined}
 use Rattle.base.proofs.Bools.{left, right, both, isnt, all-front, all-behind, all-imp}
-use Rattle.fields.proofs.LineLaws.{lines-laid, set-no-cr, scan-laid}
+use Rattle.fields.proofs.LineLaws.{lines-crlf, set-no-cr, scan-crlf}
 use Rattle.fields.proofs.TagLaws.{tagged-headed, shaped-no-colon, shaped-no-cr}
 use Rattle.fields.proofs.FrameLaws.{rule2-fine, of-good}
 use Rattle.fields.proofs.FieldLaws.{Lineable, lineable-is, on-follows, body-message, fields-message, message-fields, fields-in, fields-proper}
-use Rattle.fields.proofs.PlaceLaws.{laid-joined}
+use Rattle.fields.proofs.PlaceLaws.{crlf-joined}
 
 -- ---- 2
-laid-framed : (ls : List (List ℕ)) → Framed (opening ++ (laid ls ++ closing))
-laid-framed [] = record { behind = closing; starts = refl; front = 123 ∷ 52 ∷ 58 ∷ []; ends = refl }
-laid-framed (l ∷ ls) =
+crlf-framed : (ls : List (List ℕ)) → Framed (opening ++ (withCrLf ls ++ closing))
+crlf-framed [] = record { rest = closing; starts = refl; front = 123 ∷ 52 ∷ 58 ∷ []; ends = refl }
+crlf-framed (l ∷ ls) =
     record {
-      behind = laid (l ∷ ls) ++ closing;
+      rest = withCrLf (l ∷ ls) ++ closing;
       starts = refl;
       front = opening ++ joined (l ∷ ls);
-      ends = ap (λ (x : List ℕ). opening ++ x) (ap (λ (x : List ℕ). x ++ closing) (laid-joined l ls) ∙ append-assoc (joined (l ∷ ls)) (13 ∷ 10 ∷ []) closing);
+      ends = ap (λ (x : List ℕ). opening ++ x) (ap (λ (x : List ℕ). x ++ closing) (crlf-joined l ls) ∙ append-assoc (joined (l ∷ ls)) (13 ∷ 10 ∷ []) closing);
     }
 
 pub rule2-message : (fs : List Field) → rule2 (message fs) ≡ Fine
 unfolding message
-rule2-message fs = rule2-fine (message fs) .1 (laid-framed (linesOf fs))
+rule2-message fs = rule2-fine (message fs) .1 (crlf-framed (linesOf fs))
 
 -- ---- 3
 pub rule3-message : (fs : List Field) → all (all xset) (linesOf fs) ≡ true → rule3 (message fs) ≡ Fine
 unfolding rule3
-rule3-message fs e = ap (scan false 5) (body-message fs) ∙ scan-laid 5 (linesOf fs) e
+rule3-message fs e = ap (scan false 5) (body-message fs) ∙ scan-crlf 5 (linesOf fs) e
 
 -- ---- 4
 line-on : (l : List ℕ) → goesOn l ≡ true → lineBad false l ≡ false
@@ -66,7 +66,7 @@ pub rule4-message : (fs : List Field) → all (all xset) (linesOf fs) ≡ true �
 unfolding rule4
 rule4-message fs x e =
     ap (λ (b : List ℕ). badLine true 5 (lines b)) (body-message fs)
-    ∙ ap (badLine true 5) (lines-laid (linesOf fs) (all-imp (all xset) (without 13) set-no-cr (linesOf fs) x))
+    ∙ ap (badLine true 5) (lines-crlf (linesOf fs) (all-imp (all xset) (without 13) set-no-cr (linesOf fs) x))
     ∙ of-good true 5 (linesOf fs) (good-fields true fs e)
 
 -- ---- proper fields over the set are read again

@@ -7,8 +7,8 @@ use lib.Dec.{eqb, ltb}
 use lib.ListN.{length, drop}
 use Rattle.base.specs.Choice.{pick, all}
 use Rattle.base.specs.Bytes.{byte, begins}
-use Rattle.fields.specs.Field.{Field, closing, laid, linesOf, tagOf, upto}
-use Rattle.fields.specs.Places.{sizeOf, nextOf}
+use Rattle.fields.specs.Field.{Field, closing, withCrLf, linesOf, tagOf, upto}
+use Rattle.fields.specs.Places.{linesSize, nextOf}
 use Rattle.fields.specs.Shapes.{shapedTag, lineable}
 
 -- the colons that open a field, in lines that stand from o on
@@ -54,7 +54,7 @@ listedBy m e (o ∷ os) = o ∷ startAt m o ∷ (firstOr e os - 2) ∷ listedBy 
 
 -- ---- from o on these fields stand in a message, and the - behind them
 pub record Standing (m : List ℕ) (o : ℕ) (fs : List Field) : Type 0 where
-  pub bytes : drop o m ≡ laid (linesOf fs) ++ closing
-  pub dash : o + sizeOf (linesOf fs) ≡ length m - 2
+  pub bytes : drop o m ≡ withCrLf (linesOf fs) ++ closing
+  pub dash : o + linesSize (linesOf fs) ≡ length m - 2
   pub able : all lineable fs ≡ true
   pub tags : all shapedTag fs ≡ true

@@ -22,9 +22,9 @@ abbrev pub closing : List ℕ
 closing = 45 ∷ 125 ∷ []
 
 -- lines that each end in CR LF
-abbrev pub laid : List (List ℕ) → List ℕ
-laid [] = []
-laid (l ∷ ls) = l ++ 13 ∷ 10 ∷ laid ls
+abbrev pub withCrLf : List (List ℕ) → List ℕ
+withCrLf [] = []
+withCrLf (l ∷ ls) = l ++ 13 ∷ 10 ∷ withCrLf ls
 
 -- the lines of a field: its first begins with colon, tag, colon
 abbrev pub lined : Field → List (List ℕ)
@@ -36,7 +36,7 @@ linesOf [] = []
 linesOf (f ∷ fs) = lined f ++ linesOf fs
 
 unfoldable pub message : List Field → List ℕ
-message fs = opening ++ (laid (linesOf fs) ++ closing)
+message fs = opening ++ (withCrLf (linesOf fs) ++ closing)
 
 -- ---- from bytes to fields
 -- what stands between {4: CR LF and -}
@@ -48,13 +48,13 @@ onto x [] = (x ∷ []) ∷ []
 onto x (l ∷ ls) = (x ∷ l) ∷ ls
 
 -- a CR ends a line, and the byte behind it (true) is its LF
-unfoldable pub cut : Bool → List ℕ → List (List ℕ)
-cut lf [] = []
-cut true (x ∷ xs) = cut false xs
-cut false (x ∷ xs) = pick (eqb x 13) ([] ∷ cut true xs) (onto x (cut false xs))
+unfoldable pub cutLines : Bool → List ℕ → List (List ℕ)
+cutLines lf [] = []
+cutLines true (x ∷ xs) = cutLines false xs
+cutLines false (x ∷ xs) = pick (eqb x 13) ([] ∷ cutLines true xs) (onto x (cutLines false xs))
 
 abbrev pub lines : List ℕ → List (List ℕ)
-lines b = cut false b
+lines b = cutLines false b
 
 -- up to the first c, and behind it
 unfoldable pub upto : ℕ → List ℕ → List ℕ

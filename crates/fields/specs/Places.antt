@@ -5,9 +5,9 @@ use lib.ListN.{length}
 use Rattle.fields.specs.Field.{Field, field, lined}
 
 -- how many bytes lines take, with their CR LF
-abbrev pub sizeOf : List (List ℕ) → ℕ
-sizeOf [] = 0
-sizeOf (l ∷ ls) = length l + 2 + sizeOf ls
+abbrev pub linesSize : List (List ℕ) → ℕ
+linesSize [] = 0
+linesSize (l ∷ ls) = length l + 2 + linesSize ls
 
 -- the content of a field whose colon stands at o starts behind its tag's second colon
 abbrev pub startOf : ℕ → Field → ℕ
@@ -15,7 +15,7 @@ startOf o (field t ls) = o + 2 + length t
 
 -- where the next field's colon, or the -, stands; the content ends before the CR LF in front of it
 abbrev pub nextOf : ℕ → Field → ℕ
-nextOf o f = o + sizeOf (lined f)
+nextOf o f = o + linesSize (lined f)
 
 abbrev pub endOf : ℕ → Field → ℕ
 endOf o f = nextOf o f - 2

@@ -8,13 +8,13 @@ use Rattle.base.specs.Choice.{pick, all}
 use Rattle.base.specs.Bytes.{xset, byte, empty}
 use Rattle.fields.specs.Field.{Field, opening, closing, linesOf, message}
 use Rattle.fields.specs.Frame.{lineBad}
-use Rattle.fields.specs.Places.{sizeOf}
+use Rattle.fields.specs.Places.{linesSize}
 use Rattle.fields.specs.Shapes.{proper}
 
 -- ---- 2: {4: CR LF stands at the start, and CR LF -} at the end
 pub record Framed (m : List ℕ) : Type 0 where
-  pub behind : List ℕ
-  pub starts : m ≡ opening ++ behind
+  pub rest : List ℕ
+  pub starts : m ≡ opening ++ rest
   pub front : List ℕ
   pub ends : m ≡ front ++ 13 ∷ 10 ∷ closing
 
@@ -55,11 +55,11 @@ Good isFirst [] = Unit {0}
 Good isFirst (l ∷ ls) = (lineBad isFirst l ≡ false) × Good false ls
 
 -- of lines that stand from o on, the one at p is bad, and all before it are good
-pub record BadAt (isFirst : Bool) (o : ℕ) (ls : List (List ℕ)) (p : ℕ) : Type 0 where
+pub record BadLineAt (isFirst : Bool) (o : ℕ) (ls : List (List ℕ)) (p : ℕ) : Type 0 where
   pub before : List (List ℕ)
   pub line : List ℕ
   pub behind : List (List ℕ)
   pub list : ls ≡ before ++ line ∷ behind
   pub good : Good isFirst before
   pub bad : lineBad (isFirst && empty before) line ≡ true
-  pub place : p ≡ o + sizeOf before
+  pub place : p ≡ o + linesSize before

@@ -24,7 +24,7 @@ use Rattle.frame.specs.declared.Frame.{Frame}
 use Rattle.frame.specs.Frame.{refusal, wordOf, capacity, spotsOf, bare, frameBy, frameOf}
 use Rattle.frame.proofs.PassLaws.{body567, bare-broken}
 use Rattle.frame.proofs.RuleLaws.{frame-rules}
-use Rattle.types.specs.Sentences.{AllRight, Sound}
+use Rattle.types.specs.Sentences.{AllRight, SoundWalk}
 
 -- ---- a message that is not refused
 pub record Taken (form : Form) (m : List ℕ) : Type 0 where
@@ -35,7 +35,7 @@ pub record Taken (form : Form) (m : List ℕ) : Type 0 where
   pub walk-fine : walked form m ≡ Fine
   pub long : 7 ≤ length m
   pub right : AllRight (placesOf form) 0 (fields m)
-  pub sound : Sound (placesOf form) (fields m)
+  pub sound : SoundWalk (placesOf form) (fields m)
   pub few : length (fields m) ≤ most
 
 pub taken : (form : Form) (m : List ℕ) → refusal form m ≡ Fine → Taken form m

@@ -35,7 +35,7 @@ use Rattle.types.specs.declared.Step.{Step}
 use Rattle.types.proofs.TableLaws.{few-places}
 use Rattle.types.proofs.WalkLaws.{wrong-seated}
 use Rattle.frame.specs.Frame.{capacity, wordOf, spotsOf, bare, frameBy}
-use Rattle.frame.specs.Rest.{rest, Tail, Line, after3, after4}
+use Rattle.frame.specs.Rest.{bodyFrom, Tail, LineAt, after3, after4}
 use Rattle.frame.proofs.RunLaws.{line-scan, line-lines, line-next, rest-end}
 use Rattle.types.specs.Sentences.{Seated}
 
@@ -76,48 +76,48 @@ judgedFrom ps isFirst next o b = then (scan false o b) (then (badLine isFirst o 
 abbrev pub body567 : Form → List ℕ → Verdict
 body567 form m = then (rule3 m) (then (rule4 m) (walked form m))
 
-module _ {m : List ℕ} {at end : ℕ} {l : List ℕ} (w : Line m at end l) where
-  pub bad-on : (f : Bool) → lineBad f l ≡ false → badLine f at (lines (rest m at)) ≡ badLine false (end + 2) (lines (rest m (end + 2)))
+module _ {m : List ℕ} {at end : ℕ} {l : List ℕ} (w : LineAt m at end l) where
+  pub bad-on : (f : Bool) → lineBad f l ≡ false → badLine f at (lines (bodyFrom m at)) ≡ badLine false (end + 2) (lines (bodyFrom m (end + 2)))
   unfolding badLine
   bad-on f q =
-      ap (badLine f at) (line-lines w) ∙ ap (λ (b : Bool). pick b (Broken 4 at) (badLine false (at + length l + 2) (lines (rest m (end + 2))))) q
-      ∙ ap (λ (o : ℕ). badLine false o (lines (rest m (end + 2)))) (line-next w)
+      ap (badLine f at) (line-lines w) ∙ ap (λ (b : Bool). pick b (Broken 4 at) (badLine false (at + length l + 2) (lines (bodyFrom m (end + 2))))) q
+      ∙ ap (λ (o : ℕ). badLine false o (lines (bodyFrom m (end + 2)))) (line-next w)
 
-  pub bad-stop : (f : Bool) → lineBad f l ≡ true → badLine f at (lines (rest m at)) ≡ Broken 4 at
+  pub bad-stop : (f : Bool) → lineBad f l ≡ true → badLine f at (lines (bodyFrom m at)) ≡ Broken 4 at
   unfolding badLine
-  bad-stop f q = ap (badLine f at) (line-lines w) ∙ ap (λ (b : Bool). pick b (Broken 4 at) (badLine false (at + length l + 2) (lines (rest m (end + 2))))) q
+  bad-stop f q = ap (badLine f at) (line-lines w) ∙ ap (λ (b : Bool). pick b (Broken 4 at) (badLine false (at + length l + 2) (lines (bodyFrom m (end + 2))))) q
 
   module _ {S R : Type 0} (done : S → ℕ → R) (step : S → ℕ → List ℕ → (S → R) → R) (s : S) where
-    pass-on : begins 58 l ≡ false → byLines done step s at (lines (rest m at)) ≡ byLines done step s (end + 2) (lines (rest m (end + 2)))
+    pass-on : begins 58 l ≡ false → byLines done step s at (lines (bodyFrom m at)) ≡ byLines done step s (end + 2) (lines (bodyFrom m (end + 2)))
     unfolding byLines
     pass-on q =
         ap (byLines done step s at) (line-lines w)
-        ∙ ap (λ (b : Bool). pick b (step s at (upto 58 (tail l)) (λ q. byLines done step q (at + length l + 2) (lines (rest m (end + 2))))) (byLines done step s (at + length l + 2) (lines (rest m (end + 2))))) q
-        ∙ ap (λ (o : ℕ). byLines done step s o (lines (rest m (end + 2)))) (line-next w)
+        ∙ ap (λ (b : Bool). pick b (step s at (upto 58 (tail l)) (λ q. byLines done step q (at + length l + 2) (lines (bodyFrom m (end + 2))))) (byLines done step s (at + length l + 2) (lines (bodyFrom m (end + 2))))) q
+        ∙ ap (λ (o : ℕ). byLines done step s o (lines (bodyFrom m (end + 2)))) (line-next w)
 
-    open-on : begins 58 l ≡ true → byLines done step s at (lines (rest m at)) ≡ step s at (upto 58 (tail l)) (λ q. byLines done step q (end + 2) (lines (rest m (end + 2))))
+    open-on : begins 58 l ≡ true → byLines done step s at (lines (bodyFrom m at)) ≡ step s at (upto 58 (tail l)) (λ q. byLines done step q (end + 2) (lines (bodyFrom m (end + 2))))
     unfolding byLines
     open-on q =
         ap (byLines done step s at) (line-lines w)
-        ∙ ap (λ (b : Bool). pick b (step s at (upto 58 (tail l)) (λ q. byLines done step q (at + length l + 2) (lines (rest m (end + 2))))) (byLines done step s (at + length l + 2) (lines (rest m (end + 2))))) q
-        ∙ ap (λ (o : ℕ). step s at (upto 58 (tail l)) (λ q. byLines done step q o (lines (rest m (end + 2))))) (line-next w)
+        ∙ ap (λ (b : Bool). pick b (step s at (upto 58 (tail l)) (λ q. byLines done step q (at + length l + 2) (lines (bodyFrom m (end + 2))))) (byLines done step s (at + length l + 2) (lines (bodyFrom m (end + 2))))) q
+        ∙ ap (λ (o : ℕ). step s at (upto 58 (tail l)) (λ q. byLines done step q o (lines (bodyFrom m (end + 2))))) (line-next w)
 
-  colons-pass : begins 58 l ≡ false → colonsAt at (lines (rest m at)) ≡ colonsAt (end + 2) (lines (rest m (end + 2)))
+  colons-pass : begins 58 l ≡ false → colonsAt at (lines (bodyFrom m at)) ≡ colonsAt (end + 2) (lines (bodyFrom m (end + 2)))
   unfolding colonsAt
   colons-pass q =
       ap (colonsAt at) (line-lines w)
-      ∙ ap (λ (b : Bool). pick b (at ∷ colonsAt (at + length l + 2) (lines (rest m (end + 2)))) (colonsAt (at + length l + 2) (lines (rest m (end + 2))))) q
-      ∙ ap (λ (o : ℕ). colonsAt o (lines (rest m (end + 2)))) (line-next w)
+      ∙ ap (λ (b : Bool). pick b (at ∷ colonsAt (at + length l + 2) (lines (bodyFrom m (end + 2)))) (colonsAt (at + length l + 2) (lines (bodyFrom m (end + 2))))) q
+      ∙ ap (λ (o : ℕ). colonsAt o (lines (bodyFrom m (end + 2)))) (line-next w)
 
-  colons-open : begins 58 l ≡ true → colonsAt at (lines (rest m at)) ≡ at ∷ colonsAt (end + 2) (lines (rest m (end + 2)))
+  colons-open : begins 58 l ≡ true → colonsAt at (lines (bodyFrom m at)) ≡ at ∷ colonsAt (end + 2) (lines (bodyFrom m (end + 2)))
   unfolding colonsAt
   colons-open q =
       ap (colonsAt at) (line-lines w)
-      ∙ ap (λ (b : Bool). pick b (at ∷ colonsAt (at + length l + 2) (lines (rest m (end + 2)))) (colonsAt (at + length l + 2) (lines (rest m (end + 2))))) q
-      ∙ ap (λ (o : ℕ). at ∷ colonsAt o (lines (rest m (end + 2)))) (line-next w)
+      ∙ ap (λ (b : Bool). pick b (at ∷ colonsAt (at + length l + 2) (lines (bodyFrom m (end + 2)))) (colonsAt (at + length l + 2) (lines (bodyFrom m (end + 2))))) q
+      ∙ ap (λ (o : ℕ). at ∷ colonsAt o (lines (bodyFrom m (end + 2)))) (line-next w)
 
 -- ---- the whole body
-rest-body : (m : List ℕ) → rest m 5 ≡ body m
+rest-body : (m : List ℕ) → bodyFrom m 5 ≡ body m
 unfolding body
 rest-body m = let z : length m - 2 - 5 ≡ length m - 7 = omega arith in ap (λ (n : ℕ). take n (drop 5 m)) z
 
@@ -133,7 +133,7 @@ zeros = replicate capacity 0
 
 -- the colons in lines from o on, and the - behind them
 abbrev marks : List ℕ → ℕ → List ℕ
-marks m o = colonsAt o (lines (rest m o)) ++ (length m - 2) ∷ []
+marks m o = colonsAt o (lines (bodyFrom m o)) ++ (length m - 2) ∷ []
 
 pub record Going (form : Form) (m s : List ℕ) (at n next w : ℕ) : Type 0 where
   pub tail : Tail m at
@@ -141,10 +141,10 @@ pub record Going (form : Form) (m s : List ℕ) (at n next w : ℕ) : Type 0 whe
   pub few : n ≤ next
   pub many : next ≤ length (placesOf form)
   pub small : w < 2 ^ next
-  pub judged : body567 form m ≡ judgedFrom (placesOf form) (eqb at 5) next at (rest m at)
-  pub bits : wordLines (placesOf form) 5 (lines (body m)) ≡ w + wordLines (placesOf form) at (lines (rest m at))
+  pub judged : body567 form m ≡ judgedFrom (placesOf form) (eqb at 5) next at (bodyFrom m at)
+  pub bits : wordLines (placesOf form) 5 (lines (body m)) ≡ w + wordLines (placesOf form) at (lines (bodyFrom m at))
   pub kept : sets zeros 0 (marks m 5) ≡ sets s n (marks m at)
-  pub met : length (colonsAt 5 (lines (rest m 5))) ≡ n + length (colonsAt at (lines (rest m at)))
+  pub met : length (colonsAt 5 (lines (bodyFrom m 5))) ≡ n + length (colonsAt at (lines (bodyFrom m at)))
 
 pub begin : (form : Form) (m : List ℕ) → rule2 m ≡ Fine → Going form m zeros 5 0 0 0
 begin form m e2 =
@@ -157,9 +157,9 @@ begin form m e2 =
       many = omega arith;
       small = omega arith;
       judged = by-lines form m ∙ ap (judgedFrom (placesOf form) true 0 5) (sym (rest-body m));
-      bits = ap (λ (b : List ℕ). wordLines (placesOf form) 5 (lines b)) (sym (rest-body m)) ∙ sym (zero-add (wordLines (placesOf form) 5 (lines (rest m 5))));
+      bits = ap (λ (b : List ℕ). wordLines (placesOf form) 5 (lines b)) (sym (rest-body m)) ∙ sym (zero-add (wordLines (placesOf form) 5 (lines (bodyFrom m 5))));
       kept = refl;
-      met = sym (zero-add (length (colonsAt 5 (lines (rest m 5)))));
+      met = sym (zero-add (length (colonsAt 5 (lines (bodyFrom m 5)))));
     }
 
 -- ---- a good line by its tag
@@ -195,13 +195,13 @@ bare-then form m (Broken n p) w e = refl
 pub bare-after3 : (form : Form) (m : List ℕ) {v u : Verdict} (i n p : ℕ) → v ≡ after3 m i (Broken n p) → u ≡ after3 m i (Broken n p) → bare u ≡ frameBy v form m
 unfolding after3
 bare-after3 form m i n p e q =
-    ap bare q ∙ bare-then form m (scan false i (rest m i)) (Broken n p) (bare-broken form m refl) ∙ ap (λ (u : Verdict). frameBy u form m) (sym e)
+    ap bare q ∙ bare-then form m (scan false i (bodyFrom m i)) (Broken n p) (bare-broken form m refl) ∙ ap (λ (u : Verdict). frameBy u form m) (sym e)
 
 pub bare-after4 : (form : Form) (m : List ℕ) {v u : Verdict} (i n p : ℕ) → v ≡ after4 m i (Broken n p) → u ≡ after4 m i (Broken n p) → bare u ≡ frameBy v form m
 unfolding after3 after4
 bare-after4 form m i n p e q =
-    ap bare q ∙ bare-then form m (scan false i (rest m i)) (then (badLine false i (lines (rest m i))) (Broken n p))
-    (bare-then form m (badLine false i (lines (rest m i))) (Broken n p) (bare-broken form m refl)) ∙ ap (λ (u : Verdict). frameBy u form m) (sym e)
+    ap bare q ∙ bare-then form m (scan false i (bodyFrom m i)) (then (badLine false i (lines (bodyFrom m i))) (Broken n p))
+    (bare-then form m (badLine false i (lines (bodyFrom m i))) (Broken n p) (bare-broken form m refl)) ∙ ap (λ (u : Verdict). frameBy u form m) (sym e)
 
 -- ---- the spots, zeros behind
 drop-same : (x j n : ℕ) → drop j (replicate n x) ≡ replicate (n - j) x
@@ -219,29 +219,29 @@ module _ {form : Form} {m s : List ℕ} {at n next w : ℕ} (g : Going form m s 
   abbrev ps : List Place
   ps = placesOf form
 
-  pub stop-3 : {end : ℕ} → scan false at (rest m at) ≡ Broken 3 end → body567 form m ≡ Broken 3 end
-  stop-3 q = g .judged ∙ ap (λ (v : Verdict). then v (then (badLine (eqb at 5) at (lines (rest m at))) (walkLines ps next at (lines (rest m at))))) q
+  pub stop-3 : {end : ℕ} → scan false at (bodyFrom m at) ≡ Broken 3 end → body567 form m ≡ Broken 3 end
+  stop-3 q = g .judged ∙ ap (λ (v : Verdict). then v (then (badLine (eqb at 5) at (lines (bodyFrom m at))) (walkLines ps next at (lines (bodyFrom m at))))) q
 
-  module _ {end : ℕ} {l : List ℕ} (r : Line m at end l) where
+  module _ {end : ℕ} {l : List ℕ} (r : LineAt m at end l) where
     -- a bad line
     pub stop-4 : lineBad (eqb at 5) l ≡ true → body567 form m ≡ after3 m (end + 2) (Broken 4 at)
     unfolding after3
-    stop-4 b = g .judged ∙ ap₂ (λ (u v : Verdict). then u (then v (walkLines ps next at (lines (rest m at))))) (line-scan r) (bad-stop r (eqb at 5) b)
+    stop-4 b = g .judged ∙ ap₂ (λ (u v : Verdict). then u (then v (walkLines ps next at (lines (bodyFrom m at))))) (line-scan r) (bad-stop r (eqb at 5) b)
 
     -- 3 and 4 go on behind a good one
     goes-on : lineBad (eqb at 5) l ≡ false
-        → body567 form m ≡ then (scan false (end + 2) (rest m (end + 2))) (then (badLine false (end + 2) (lines (rest m (end + 2)))) (walkLines ps next at (lines (rest m at))))
-    goes-on b = g .judged ∙ ap₂ (λ (u v : Verdict). then u (then v (walkLines ps next at (lines (rest m at))))) (line-scan r) (bad-on r (eqb at 5) b)
+        → body567 form m ≡ then (scan false (end + 2) (bodyFrom m (end + 2))) (then (badLine false (end + 2) (lines (bodyFrom m (end + 2)))) (walkLines ps next at (lines (bodyFrom m at))))
+    goes-on b = g .judged ∙ ap₂ (λ (u v : Verdict). then u (then v (walkLines ps next at (lines (bodyFrom m at))))) (line-scan r) (bad-on r (eqb at 5) b)
 
     abbrev then-walk : Verdict → Verdict
-    then-walk v = then (scan false (end + 2) (rest m (end + 2))) (then (badLine false (end + 2) (lines (rest m (end + 2)))) v)
+    then-walk v = then (scan false (end + 2) (bodyFrom m (end + 2))) (then (badLine false (end + 2) (lines (bodyFrom m (end + 2)))) v)
 
     -- a field with which something is wrong
     pub stop-5 : {x : ℕ} → lineBad (eqb at 5) l ≡ false → begins 58 l ≡ true → x ≡ wrong ps next (find ps (upto 58 (tail l))) → (x ≡ 0 → ⊥) → body567 form m ≡ after4 m (end + 2) (Broken x at)
     unfolding after3 after4
     stop-5 {x} b o e z =
         goes-on b ∙ ap then-walk (open-on r (walkEnd ps) (walkStep ps) next o
-        ∙ ap (λ (q : Bool). pick q (walkLines ps (suc (find ps (upto 58 (tail l)))) (end + 2) (lines (rest m (end + 2)))) (Broken (wrong ps next (find ps (upto 58 (tail l)))) at))
+        ∙ ap (λ (q : Bool). pick q (walkLines ps (suc (find ps (upto 58 (tail l)))) (end + 2) (lines (bodyFrom m (end + 2)))) (Broken (wrong ps next (find ps (upto 58 (tail l)))) at))
         (ne-eqb (wrong ps next (find ps (upto 58 (tail l)))) 0 (λ q. z (e ∙ q))) ∙ ap (λ (k : ℕ). Broken k at) (sym e))
 
     later : eqb (end + 2) 5 ≡ false
@@ -260,7 +260,7 @@ module _ {form : Form} {m s : List ℕ} {at n next w : ℕ} (g : Going form m s 
           few = g .few;
           many = g .many;
           small = g .small;
-          judged = goes-on b ∙ ap then-walk (pass-on r (walkEnd ps) (walkStep ps) next o) ∙ ap (λ (f : Bool). judgedFrom ps f next (end + 2) (rest m (end + 2))) (sym later);
+          judged = goes-on b ∙ ap then-walk (pass-on r (walkEnd ps) (walkStep ps) next o) ∙ ap (λ (f : Bool). judgedFrom ps f next (end + 2) (bodyFrom m (end + 2))) (sym later);
           bits = g .bits ∙ ap (λ (x : ℕ). w + x) (pass-on r noBit (addBit ps) tt o);
           kept = g .kept ∙ ap (λ (os : List ℕ). sets s n (os ++ (length m - 2) ∷ [])) c;
           met = omega (arith, g .met, ap length c);
@@ -282,12 +282,12 @@ module _ {form : Form} {m s : List ℕ} {at n next w : ℕ} (g : Going form m s 
           small = subst (λ (x : ℕ). w + x < 2 ^ (q + 1)) (sym y) (word-on w next q (g .small) (k .low));
           judged =
               goes-on b ∙ ap then-walk (open-on r (walkEnd ps) (walkStep ps) next o
-              ∙ ap (λ (t : Bool). pick t (walkLines ps (suc (find ps (upto 58 (tail l)))) (end + 2) (lines (rest m (end + 2)))) (Broken (wrong ps next (find ps (upto 58 (tail l)))) at)) z′
-              ∙ ap (λ (i : ℕ). walkLines ps i (end + 2) (lines (rest m (end + 2)))) u)
-              ∙ ap (λ (f : Bool). judgedFrom ps f (q + 1) (end + 2) (rest m (end + 2))) (sym later);
+              ∙ ap (λ (t : Bool). pick t (walkLines ps (suc (find ps (upto 58 (tail l)))) (end + 2) (lines (bodyFrom m (end + 2)))) (Broken (wrong ps next (find ps (upto 58 (tail l)))) at)) z′
+              ∙ ap (λ (i : ℕ). walkLines ps i (end + 2) (lines (bodyFrom m (end + 2)))) u)
+              ∙ ap (λ (f : Bool). judgedFrom ps f (q + 1) (end + 2) (bodyFrom m (end + 2))) (sym later);
           bits =
-              g .bits ∙ ap (λ (x : ℕ). w + x) (open-on r noBit (addBit ps) tt o ∙ ap (λ (x : ℕ). x + wordLines ps (end + 2) (lines (rest m (end + 2)))) (ap (λ (i : ℕ). 2 ^ i) (sym p) ∙ sym y))
-              ∙ sym (add-assoc w v (wordLines ps (end + 2) (lines (rest m (end + 2)))));
+              g .bits ∙ ap (λ (x : ℕ). w + x) (open-on r noBit (addBit ps) tt o ∙ ap (λ (x : ℕ). x + wordLines ps (end + 2) (lines (bodyFrom m (end + 2)))) (ap (λ (i : ℕ). 2 ^ i) (sym p) ∙ sym y))
+              ∙ sym (add-assoc w v (wordLines ps (end + 2) (lines (bodyFrom m (end + 2)))));
           kept =
               g .kept ∙ ap (λ (os : List ℕ). sets s n (os ++ (length m - 2) ∷ [])) c
               ∙ ap (λ (i : ℕ). sets (set s n at) i (marks m (end + 2))) (sym (add-one n));
@@ -296,31 +296,31 @@ module _ {form : Form} {m s : List ℕ} {at n next w : ℕ} (g : Going form m s 
 
   -- at the end
   module _ (h : length m - 2 ≤ at) where
-    none-left : rest m at ≡ []
+    none-left : bodyFrom m at ≡ []
     none-left = rest-end m at h
 
     dash : at ≡ length m - 2
     dash = let t = g .tail .within in omega arith
 
     pub finish : {t : Bool} → skips ps next (length ps) ≡ t → body567 form m ≡ pick t (Broken 7 (length m - 2)) Fine
-    unfolding scan badLine byLines Rattle.fields.specs.Field.cut
+    unfolding scan badLine byLines Rattle.fields.specs.Field.cutLines
     finish {t} q =
         g .judged ∙ ap (judgedFrom ps (eqb at 5) next at) none-left
         ∙ ap₂ (λ (o : ℕ) (b : Bool). pick b (Broken 7 o) Fine) dash q
 
-    no-colons : colonsAt at (lines (rest m at)) ≡ []
-    unfolding colonsAt Rattle.fields.specs.Field.cut
+    no-colons : colonsAt at (lines (bodyFrom m at)) ≡ []
+    unfolding colonsAt Rattle.fields.specs.Field.cutLines
     no-colons = ap (λ (b : List ℕ). colonsAt at (lines b)) none-left
 
-    no-bits : wordLines ps at (lines (rest m at)) ≡ 0
-    unfolding byLines Rattle.fields.specs.Field.cut
+    no-bits : wordLines ps at (lines (bodyFrom m at)) ≡ 0
+    unfolding byLines Rattle.fields.specs.Field.cutLines
     no-bits = ap (λ (b : List ℕ). wordLines ps at (lines b)) none-left
 
     module _ (fine : body567 form m ≡ Fine) where
       lines-fine : rule4 m ≡ Fine
       lines-fine = then-clean (rule4 m) (walked form m) (then-clean (rule3 m) (then (rule4 m) (walked form m)) fine .1) .0
 
-      colons-are : colonsAt 5 (lines (rest m 5)) ≡ colonsOf 5 (fields m)
+      colons-are : colonsAt 5 (lines (bodyFrom m 5)) ≡ colonsOf 5 (fields m)
       colons-are = ap (λ (b : List ℕ). colonsAt 5 (lines b)) (rest-body m) ∙ colons-body m lines-fine
 
       count-is : n ≡ length (fields m)
@@ -345,7 +345,7 @@ module _ {form : Form} {m s : List ℕ} {at n next w : ℕ} (g : Going form m s 
           let k = g .few in
           let j = g .many in
           let c = ap length (ap (λ (os : List ℕ). os ++ (length m - 2) ∷ []) colons-are) in
-          let d = length-append (colonsAt 5 (lines (rest m 5))) ((length m - 2) ∷ []) in
+          let d = length-append (colonsAt 5 (lines (bodyFrom m 5))) ((length m - 2) ∷ []) in
           let b = ap length no-colons in
           let a = g .met in
           sym (sym (ap (λ (os : List ℕ). sets zeros 0 (os ++ (length m - 2) ∷ [])) colons-are) ∙ g .kept ∙ ap (λ (os : List ℕ). sets s n (os ++ (length m - 2) ∷ [])) no-colons)

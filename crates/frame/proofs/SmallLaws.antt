@@ -15,10 +15,10 @@ use Rattle.base.specs.declared.Verdict.the-variants.{Fine, Broken}
 use Rattle.base.proofs.CallLaws.{within-limit}
 use Rattle.fields.specs.Field.{Field, tagOf, lined, linesOf, body, lines, fields}
 use Rattle.fields.specs.Frame.{limit, rule1, rule2, rule3, rule4, framed, scan, lineBad, badLine}
-use Rattle.fields.specs.Places.{sizeOf, nextOf}
+use Rattle.fields.specs.Places.{linesSize, nextOf}
 use Rattle.fields.proofs.FrameLaws.{rule2-fine, body-length, body-ended}
-use Rattle.fields.proofs.LineLaws.{laid-lines}
-use Rattle.fields.proofs.FieldLaws.{laid-size, fields-dash}
+use Rattle.fields.proofs.LineLaws.{crlf-lines}
+use Rattle.fields.proofs.FieldLaws.{crlf-size, fields-dash}
 use Rattle.fields.proofs.PlaceLaws.{size-append}
 use Rattle.types.specs.declared.Form.{Form}
 use Rattle.types.specs.Form.{Place, placesOf}
@@ -46,7 +46,7 @@ scan-small b false o (x ∷ xs) h =
     let t : Small b (Broken 3 o) = (omega arith, omega arith) in
     pick-small b (eqb x 13) _ _ (pick-small b (begins 10 xs) _ _ (scan-small b true (suc o) xs (omega arith)) t) (pick-small b (xset x) _ _ (scan-small b false (suc o) xs (omega arith)) t)
 
-line-small : (b : ℕ) (f : Bool) (o : ℕ) (ls : List (List ℕ)) → o + sizeOf ls ≤ b → Small b (badLine f o ls)
+line-small : (b : ℕ) (f : Bool) (o : ℕ) (ls : List (List ℕ)) → o + linesSize ls ≤ b → Small b (badLine f o ls)
 unfolding badLine
 line-small b f o [] h = tt
 line-small b f o (l ∷ ls) h = pick-small b (lineBad f l) (Broken 4 o) (badLine false (o + length l + 2) ls) (omega arith, omega arith) (line-small b false (o + length l + 2) ls (omega arith))
@@ -61,7 +61,7 @@ wrong-small ps next q = go (leb (length ps) q) (ltb q next) (skips ps next q)
     go false false true = omega arith
     go false false false = omega arith
 
-walk-small : (b : ℕ) (ps : List Place) (next o : ℕ) (fs : List Field) → o + sizeOf (linesOf fs) ≤ b → Small b (walk ps next o fs)
+walk-small : (b : ℕ) (ps : List Place) (next o : ℕ) (fs : List Field) → o + linesSize (linesOf fs) ≤ b → Small b (walk ps next o fs)
 unfolding walk
 walk-small b ps next o [] h = pick-small b (skips ps next (length ps)) (Broken 7 o) Fine (omega arith, omega arith) tt
 walk-small b ps next o (f ∷ fs) h =
@@ -80,7 +80,7 @@ refusal-small form m =
     let w = rule2-fine m .0 e2 in
     let c : length (body m) + 7 ≡ length m = body-length m w in
     then-small limit (rule3 m) _ (scan-small limit false 5 (body m) (omega arith)) (λ e3.
-    let d : sizeOf (lines (body m)) ≡ length (body m) = sym (laid-size (lines (body m))) ∙ ap length (laid-lines 5 (body m) (body-ended m w) e3) in
+    let d : linesSize (lines (body m)) ≡ length (body m) = sym (crlf-size (lines (body m))) ∙ ap length (crlf-lines 5 (body m) (body-ended m w) e3) in
     then-small limit (rule4 m) _ (line-small limit true 5 (lines (body m)) (omega arith)) (λ e4.
-    let f : 5 + sizeOf (linesOf (fields m)) ≡ length m - 2 = fields-dash m e2 e3 e4 in
+    let f : 5 + linesSize (linesOf (fields m)) ≡ length m - 2 = fields-dash m e2 e3 e4 in
     then-small limit (walked form m) Fine (walk-small limit (placesOf form) 0 5 (fields m) (omega arith)) (λ e5. tt))))))

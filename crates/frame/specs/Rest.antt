@@ -15,17 +15,17 @@ use Rattle.fields.specs.Frame.{scan, badLine}
 use Rattle.fields.specs.Shapes.{ended}
 
 -- the bytes from a place up to the -
-abbrev pub rest : List ℕ → ℕ → List ℕ
-rest m at = take (length m - 2 - at) (drop at m)
+abbrev pub bodyFrom : List ℕ → ℕ → List ℕ
+bodyFrom m at = take (length m - 2 - at) (drop at m)
 
 -- they end in LF, if there are any
 pub record Tail (m : List ℕ) (at : ℕ) : Type 0 where
   pub within : at + 2 ≤ length m
-  pub closed : ended (rest m at) ≡ true
+  pub closed : ended (bodyFrom m at) ≡ true
 
 -- a line from a place on: bytes of the set, its CR LF, and what is left
-pub record Line (m : List ℕ) (at end : ℕ) (l : List ℕ) : Type 0 where
-  pub is : rest m at ≡ l ++ 13 ∷ 10 ∷ rest m (end + 2)
+pub record LineAt (m : List ℕ) (at end : ℕ) (l : List ℕ) : Type 0 where
+  pub is : bodyFrom m at ≡ l ++ 13 ∷ 10 ∷ bodyFrom m (end + 2)
   pub size : end ≡ at + length l
   pub inside : all xset l ≡ true
   pub behind : Tail m (end + 2)
@@ -33,12 +33,12 @@ pub record Line (m : List ℕ) (at end : ℕ) (l : List ℕ) : Type 0 where
 -- where the bytes of the set stop: a line ends there, or 3 is broken there
 pub record Stop (m : List ℕ) (at end : ℕ) : Type 0 where
   pub short : end < length m - 2
-  pub line : (eqb (byte m end) 13 && eqb (byte m (end + 1)) 10) ≡ true → Line m at end (take (end - at) (drop at m))
-  pub broken : (eqb (byte m end) 13 && eqb (byte m (end + 1)) 10) ≡ false → scan false at (rest m at) ≡ Broken 3 end
+  pub line : (eqb (byte m end) 13 && eqb (byte m (end + 1)) 10) ≡ true → LineAt m at end (take (end - at) (drop at m))
+  pub broken : (eqb (byte m end) 13 && eqb (byte m (end + 1)) 10) ≡ false → scan false at (bodyFrom m at) ≡ Broken 3 end
 
 -- a refusal that waits for 3, and one that waits for 3 and 4, in lines from a place on
 unfoldable pub after3 : List ℕ → ℕ → Verdict → Verdict
-after3 m at v = then (scan false at (rest m at)) v
+after3 m at v = then (scan false at (bodyFrom m at)) v
 
 unfoldable pub after4 : List ℕ → ℕ → Verdict → Verdict
-after4 m at v = after3 m at (then (badLine false at (lines (rest m at))) v)
+after4 m at v = after3 m at (then (badLine false at (lines (bodyFrom m at))) v)

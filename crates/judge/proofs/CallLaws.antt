@@ -19,13 +19,13 @@ use Rattle.frame.specs.Frame.{frameRules, refusal, bare, frameBy, frameOf}
 use Rattle.contents.specs.Rule8.{firstWrong, rightField, rule8}
 use Rattle.contents.proofs.RuleLaws.{firstOf, sign-first}
 use Rattle.values.specs.Judged.{rule9, rule10, rule11, rule12, rule13}
-use Rattle.roles.specs.Rule14.{unheard, spoken, rule14}
+use Rattle.roles.specs.Rule14.{unheard, speechesOf, rule14}
 use Rattle.judge.specs.declared.facts.Facts.{Facts}
 use Rattle.judge.specs.declared.facts.Read.{Read}
 use Rattle.judge.specs.declared.facts.Read.the-variants.{Wrong, Right}
 use Rattle.judge.specs.Facts.{nothingYet, factsFrom, ReadOf, valueRules}
 use Rattle.judge.specs.Message.{innerRules, contentRules, verdictOf, judgedOf}
-use Rattle.judge.proofs.FactLaws.{values-told}
+use Rattle.judge.proofs.FactLaws.{values-verdict}
 
 -- ---- what was read, by its cases
 module _ (form : Form) (sign : Bool) (fs : List Field) {r : Read} (e : ReadOf form sign fs r) where
@@ -40,21 +40,21 @@ module _ (form : Form) (fs : List Field) {f : Facts} (e : f ≡ factsFrom form n
   inner-by : first (innerRules form fs) ≡ then v (rule14 form fs)
   inner-by =
       first-last (rule9 form fs ∷ rule10 form fs ∷ rule11 form fs ∷ rule12 form fs ∷ rule13 form fs ∷ []) (rule14 form fs)
-      ∙ ap (λ (u : Verdict). then u (rule14 form fs)) (sym (q ∙ ap valueRules e ∙ values-told form fs))
+      ∙ ap (λ (u : Verdict). then u (rule14 form fs)) (sym (q ∙ ap valueRules e ∙ values-verdict form fs))
 
   pub inner-refused : {n p : ℕ} → v ≡ Broken n p → Broken n p ≡ first (innerRules form fs)
   inner-refused z = sym (inner-by ∙ ap (λ (u : Verdict). then u (rule14 form fs)) z)
 
   module _ (z : v ≡ Fine) {s : Bool} (g : s ≡ signOf fs) where
-    texts-left : first (innerRules form fs) ≡ pick s (unheard (spoken form 5 fs)) Fine
+    texts-left : first (innerRules form fs) ≡ pick s (unheard (speechesOf form 5 fs)) Fine
     unfolding rule14
-    texts-left = inner-by ∙ ap (λ (u : Verdict). then u (rule14 form fs)) z ∙ ap (λ (b : Bool). pick b (unheard (spoken form 5 fs)) Fine) (sym g)
+    texts-left = inner-by ∙ ap (λ (u : Verdict). then u (rule14 form fs)) z ∙ ap (λ (b : Bool). pick b (unheard (speechesOf form 5 fs)) Fine) (sym g)
 
     pub inner-plain : s ≡ false → Fine ≡ first (innerRules form fs)
-    inner-plain h = sym (texts-left ∙ ap (λ (b : Bool). pick b (unheard (spoken form 5 fs)) Fine) h)
+    inner-plain h = sym (texts-left ∙ ap (λ (b : Bool). pick b (unheard (speechesOf form 5 fs)) Fine) h)
 
-    pub inner-signed : s ≡ true → unheard (spoken form 5 fs) ≡ first (innerRules form fs)
-    inner-signed h = sym (texts-left ∙ ap (λ (b : Bool). pick b (unheard (spoken form 5 fs)) Fine) h)
+    pub inner-signed : s ≡ true → unheard (speechesOf form 5 fs) ≡ first (innerRules form fs)
+    inner-signed h = sym (texts-left ∙ ap (λ (b : Bool). pick b (unheard (speechesOf form 5 fs)) Fine) h)
 
 module _ (form : Form) (m : List ℕ) where
   pub sign-is : {s : Bool} → walked form m ≡ Fine → s ≡ begins 43 (firstOf (fields m)) → s ≡ signOf (fields m)

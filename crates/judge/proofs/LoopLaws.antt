@@ -12,10 +12,10 @@ use Rattle.base.specs.Says.{Not}
 use Rattle.base.specs.declared.Verdict.{Verdict}
 use Rattle.base.specs.declared.Verdict.the-variants.{Broken}
 use Rattle.base.proofs.SaysLaws.{says-so, says-not, says-same}
-use Rattle.alphabets.specs.Steps.{codes}
+use Rattle.alphabets.specs.Steps.{backTable}
 use Rattle.fields.specs.Field.{Field, fields, linesOf}
 use Rattle.fields.specs.Frame.{limit}
-use Rattle.fields.specs.Places.{sizeOf, startOf, nextOf}
+use Rattle.fields.specs.Places.{linesSize, startOf, nextOf}
 use Rattle.fields.specs.Shapes.{unpack}
 use Rattle.fields.specs.ByLines.{joined}
 use Rattle.fields.specs.Lines.{linesIn}
@@ -28,22 +28,22 @@ use Rattle.contents.specs.Tests as tests
 use Rattle.contents.specs.Rule8.{firstWrong, rightField}
 use Rattle.contents.proofs.FieldTests.{right-says}
 use Rattle.values.specs.declared.Finds.{Finds}
-use Rattle.values.specs.Values.{Kind, Value, valuesOf}
-use Rattle.values.specs.Judged.{has, noDay, foreign, apart, hasKpp}
+use Rattle.values.specs.Values.{ValueKind, Value, valuesOf}
+use Rattle.values.specs.Judged.{has, noDay, foreign, bikDiffers, hasKpp}
 use Rattle.values.specs.Answers.{faultOf, nothing, Finding, FoundIn}
 use Rattle.values.specs.declared.Found.{Found}
 use Rattle.values.specs.declared.Found.the-variants.{Wrong, Plain, Has}
 use Rattle.values.specs.Steps.{finds}
 use Rattle.roles.specs.declared.Spot.{Spot}
 use Rattle.roles.specs.declared.Spot.the-variants.{Nowhere, At}
-use Rattle.roles.specs.Rule14.{unheard, spoken}
+use Rattle.roles.specs.Rule14.{unheard, speechesOf}
 use Rattle.roles.specs.Found.{brokenIn, verdictAt}
 use Rattle.roles.proofs.BreachLaws.{unheard-within, spoken-within}
-use Rattle.roles.proofs.CodeLaws.{field-found, spoken-next}
+use Rattle.roles.proofs.BackTableLaws.{field-found, spoken-next}
 use Rattle.judge.specs.declared.parts.Part.{Part}
 use Rattle.judge.specs.declared.facts.Facts.{Facts}
 use Rattle.judge.specs.Parts.{Settled, Here}
-use Rattle.judge.specs.Facts.{markedBy, notedBy, valuesFor, findsIn, noted, factsFrom}
+use Rattle.judge.specs.Facts.{withTag, withFinds, valuesFor, findsIn, withField, factsFrom}
 use Rattle.judge.proofs.FactLaws.{faults-in}
 use Rattle.judge.proofs.PartLaws.{fieldOf, at-field, next-field}
 
@@ -94,18 +94,18 @@ module _ {m spots : List ℕ} {k : ℕ} {p : Part} (h : Here m spots k p) where
         pub finds-are : x ≡ findsIn form (fieldOf h)
         finds-are =
             let t = h .tag in
-            let e : x ≡ finds (faultOf noDay here) (faultOf foreign here) (faultOf apart here) (has hasKpp here) = rw (sym (w .day-is t), sym (w .currency-is t), sym (w .party-is t), sym (w .kpp-is t)) refl in
-            e ∙ ap (λ (vs : List Value). finds (faultOf noDay vs) (faultOf foreign vs) (faultOf apart vs) (has hasKpp vs)) values-are
+            let e : x ≡ finds (faultOf noDay here) (faultOf foreign here) (faultOf bikDiffers here) (has hasKpp here) = rw (sym (w .day-is t), sym (w .currency-is t), sym (w .party-is t), sym (w .kpp-is t)) refl in
+            e ∙ ap (λ (vs : List Value). finds (faultOf noDay vs) (faultOf foreign vs) (faultOf bikDiffers vs) (has hasKpp vs)) values-are
 
         -- they stand in the message
-        inside : (bad : Kind → Bool) → p .start + faultOf bad (valuesFor form (fieldOf h)) ≤ length m + 1
+        inside : (bad : ValueKind → Bool) → p .start + faultOf bad (valuesFor form (fieldOf h)) ≤ length m + 1
         inside bad =
             omega (arith, faults-in bad (h .tag) (heldBy form (h .tag)) (h .line ∷ h .more), ap length (h .content-is), length-take (p .end - p .start) (drop (p .start) m), h .low, h .high)
 
         pub found-small : length m ≤ limit → (p .start + x .day ≤ 100000) × (p .start + x .currency ≤ 100000) × (p .start + x .party ≤ 100000)
         found-small z =
             let e = finds-are in
-            (omega (arith, z, inside noDay, ap (λ (f : Finds). f .day) e), omega (arith, z, inside foreign, ap (λ (f : Finds). f .currency) e), omega (arith, z, inside apart, ap (λ (f : Finds). f .party) e))
+            (omega (arith, z, inside noDay, ap (λ (f : Finds). f .day) e), omega (arith, z, inside foreign, ap (λ (f : Finds). f .currency) e), omega (arith, z, inside bikDiffers, ap (λ (f : Finds). f .party) e))
 
     pub wrong-here : rightField form sign (fieldOf h) ≡ false → Broken 8 (p .start) ≡ wrong8 (byte spots k) (drop k (fields m))
     unfolding firstWrong
@@ -122,17 +122,17 @@ module _ {m spots : List ℕ} {k : ℕ} {p : Part} (h : Here m spots k p) where
   -- ---- 14
   module _ (form : Form) where
     abbrev unheard14 : ℕ → List Field → Verdict
-    unheard14 o fs = unheard (spoken form o fs)
+    unheard14 o fs = unheard (speechesOf form o fs)
 
-    heard-here : {b : List ℕ} {s : Spot} → b ≡ codes → s ≡ brokenIn b form (unpack (p .tag)) content
+    heard-here : {b : List ℕ} {s : Spot} → b ≡ backTable → s ≡ brokenIn b form (unpack (p .tag)) content
         → unheard14 (byte spots k) (drop k (fields m)) ≡ then (verdictAt (p .start) s) (unheard14 (byte spots (k + 1)) (drop (k + 1) (fields m)))
     heard-here {b} {s} x e =
         let f = fieldOf h in
-        let same : s ≡ brokenIn codes form (h .tag) (joined (h .line ∷ h .more)) = e ∙ ap (λ (u : List ℕ). brokenIn u form (unpack (p .tag)) content) x ∙ ap₂ (brokenIn codes form) (h .tag-is) (h .content-is) in
+        let same : s ≡ brokenIn backTable form (h .tag) (joined (h .line ∷ h .more)) = e ∙ ap (λ (u : List ℕ). brokenIn u form (unpack (p .tag)) content) x ∙ ap₂ (brokenIn backTable form) (h .tag-is) (h .content-is) in
         at-field h unheard14 ∙ spoken-next form (p .colon) f (drop (k + 1) (fields m))
         ∙ ap₂ then (field-found form (p .colon) (h .tag) (h .line) (h .more) (h .no-cr) ∙ ap₂ verdictAt (sym (h .start-is)) (sym same)) (next-field h unheard14)
 
-    module _ {b : List ℕ} (x : b ≡ codes) where
+    module _ {b : List ℕ} (x : b ≡ backTable) where
       pub unheard-here : {i : ℕ} → At i ≡ brokenIn b form (unpack (p .tag)) content → Broken 14 (p .start + i) ≡ unheard14 (byte spots k) (drop k (fields m))
       unheard-here e = sym (heard-here x e)
 
@@ -140,18 +140,18 @@ module _ {m spots : List ℕ} {k : ℕ} {p : Part} (h : Here m spots k p) where
       heard-on e = heard-here x e
 
 -- a text that breaks 14 stands in the message
-pub place-small : {m spots : List ℕ} → Settled m spots → (form : Form) (k n q : ℕ) → k ≤ length (fields m) → Broken n q ≡ unheard (spoken form (byte spots k) (drop k (fields m))) → q ≤ length m + 2
+pub place-small : {m spots : List ℕ} → Settled m spots → (form : Form) (k n q : ℕ) → k ≤ length (fields m) → Broken n q ≡ unheard (speechesOf form (byte spots k) (drop k (fields m))) → q ≤ length m + 2
 place-small {m} {spots} s form k n q h e =
     let fs = drop k (fields m) in
     let o : ℕ = byte spots k in
-    omega (arith, s .stand k h .dash, unheard-within (spoken form o fs) (o + 2) (o + sizeOf (linesOf fs) + 2) n q (spoken-within form o fs) (sym e))
+    omega (arith, s .stand k h .dash, unheard-within (speechesOf form o fs) (o + 2) (o + linesSize (linesOf fs) + 2) n q (spoken-within form o fs) (sym e))
 
 -- ---- 9 to 13: one field more
-pub noted-on : {m spots : List ℕ} {k : ℕ} {p : Part} (h : Here m spots k p) (form : Form) (f : Facts) {e g : Facts} {x : Finds} → x ≡ findsIn form (fieldOf h)
-    → e ≡ markedBy f (p .colon) (unpack (p .tag)) → g ≡ notedBy e (p .start) (unpack (p .tag)) x
+pub field-on : {m spots : List ℕ} {k : ℕ} {p : Part} (h : Here m spots k p) (form : Form) (f : Facts) {e g : Facts} {x : Finds} → x ≡ findsIn form (fieldOf h)
+    → e ≡ withTag f (p .colon) (unpack (p .tag)) → g ≡ withFinds e (p .start) (unpack (p .tag)) x
     → factsFrom form f (byte spots k) (drop k (fields m)) ≡ factsFrom form g (byte spots (k + 1)) (drop (k + 1) (fields m))
 unfolding factsFrom
-noted-on {m} {spots} {k} {p} h form f {e} {g} {x} i a b =
-    let same : noted form f (p .colon) (fieldOf h) ≡ g =
-    sym (b ∙ ap (λ (y : Facts). notedBy y (p .start) (unpack (p .tag)) x) a ∙ ap₂ (λ (t : List ℕ) (s : ℕ). notedBy (markedBy f (p .colon) t) s t x) (h .tag-is) (h .start-is) ∙ ap (notedBy (markedBy f (p .colon) (h .tag)) (startOf (p .colon) (fieldOf h)) (h .tag)) i) in
+field-on {m} {spots} {k} {p} h form f {e} {g} {x} i a b =
+    let same : withField form f (p .colon) (fieldOf h) ≡ g =
+    sym (b ∙ ap (λ (y : Facts). withFinds y (p .start) (unpack (p .tag)) x) a ∙ ap₂ (λ (t : List ℕ) (s : ℕ). withFinds (withTag f (p .colon) t) s t x) (h .tag-is) (h .start-is) ∙ ap (withFinds (withTag f (p .colon) (h .tag)) (startOf (p .colon) (fieldOf h)) (h .tag)) i) in
     at-field h (factsFrom form f) ∙ ap (λ (y : Facts). factsFrom form y (nextOf (p .colon) (fieldOf h)) (drop (k + 1) (fields m))) same ∙ next-field h (factsFrom form g)

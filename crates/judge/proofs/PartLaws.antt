@@ -13,7 +13,7 @@ use Rattle.base.specs.Choice.{pick, all}
 use Rattle.base.specs.Bytes.{byte, begins, without}
 use Rattle.base.proofs.Bools.{left, right}
 use Rattle.base.proofs.ByteLaws.{begins-byte}
-use Rattle.fields.specs.Field.{Field, field, closing, laid, linesOf, fields}
+use Rattle.fields.specs.Field.{Field, field, closing, withCrLf, linesOf, fields}
 use Rattle.fields.specs.Places.{startOf, nextOf, endOf, colonsOf}
 use Rattle.fields.specs.Shapes.{shaped, shapedTag, follows, lineable, unpack}
 use Rattle.fields.specs.ByLines.{startAt, tagAt, Standing}
@@ -97,14 +97,14 @@ module _ {m spots : List ℕ} (s : Settled m spots) (k : ℕ) (h : k < length (f
       go w =
           let o : ℕ = byte spots k in
           let rest = drop (k + 1) (fields m) in
-          let behind = laid (w .line ∷ w .more) ++ (laid (linesOf rest) ++ closing) in
+          let behind = withCrLf (w .line ∷ w .more) ++ (withCrLf (linesOf rest) ++ closing) in
           let d = field-bytes m o (w .tag) (w .line) (w .more) rest (w .here) in
           let st : a ≡ startOf o (field (w .tag) (w .line ∷ w .more)) = r ∙ ap (startAt m) p ∙ start-at m o (w .tag) behind (w .shape) d in
           let en : e ≡ endOf o (field (w .tag) (w .line ∷ w .more)) = z ∙ ap (λ (x : ℕ). x - 2) (w .next) in
           let able = left (lineable (field (w .tag) (w .line ∷ w .more))) (all lineable rest) (w .here .able) in
           let n = length-append (w .tag) (58 ∷ w .line) in
-          let content : drop (startOf o (field (w .tag) (w .line ∷ w .more))) m ≡ w .line ++ 13 ∷ ((10 ∷ laid (w .more)) ++ (laid (linesOf rest) ++ closing)) =
-          content-bytes m o (w .tag) (w .line) (w .more) rest (w .here) ∙ append-assoc (w .line) (13 ∷ 10 ∷ laid (w .more)) (laid (linesOf rest) ++ closing) in
+          let content : drop (startOf o (field (w .tag) (w .line ∷ w .more))) m ≡ w .line ++ 13 ∷ ((10 ∷ withCrLf (w .more)) ++ (withCrLf (linesOf rest) ++ closing)) =
+          content-bytes m o (w .tag) (w .line) (w .more) rest (w .here) ∙ append-assoc (w .line) (13 ∷ 10 ∷ withCrLf (w .more)) (withCrLf (linesOf rest) ++ closing) in
           record {
             tag = w .tag;
             line = w .line;
@@ -116,7 +116,7 @@ module _ {m spots : List ℕ} (s : Settled m spots) (k : ℕ) (h : k < length (f
             start-is = st ∙ ap (λ (i : ℕ). startOf i (field (w .tag) (w .line ∷ w .more))) (sym p);
             content-is = ap₂ (λ (x y : ℕ). take (x - y) (drop y m)) en st ∙ content-part m o (w .tag) (w .line) (w .more) rest (w .here);
             no-cr = left (all (without 13) (w .line ∷ w .more)) (all follows (w .more)) (right (without 13 (w .tag)) _ (right (without 58 (w .tag)) _ able));
-            sign-is = ap (λ (x : ℕ). eqb x 43) (first-byte m a) ∙ ap (λ (x : List ℕ). eqb (byte x 0) 43) (ap (λ (i : ℕ). drop i m) st ∙ content) ∙ sign-at (w .line) ((10 ∷ laid (w .more)) ++ (laid (linesOf rest) ++ closing));
+            sign-is = ap (λ (x : ℕ). eqb x 43) (first-byte m a) ∙ ap (λ (x : List ℕ). eqb (byte x 0) 43) (ap (λ (i : ℕ). drop i m) st ∙ content) ∙ sign-at (w .line) ((10 ∷ withCrLf (w .more)) ++ (withCrLf (linesOf rest) ++ closing));
             low = omega (arith, w .next, w .end);
             high = omega (arith, w .end);
           }

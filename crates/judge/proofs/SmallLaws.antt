@@ -12,29 +12,29 @@ use Rattle.base.specs.declared.Verdict.the-variants.{Fine, Broken}
 use Rattle.base.proofs.Bools.{right}
 use Rattle.fields.specs.Field.{Field, field, lined, linesOf, fields}
 use Rattle.fields.specs.Frame.{limit}
-use Rattle.fields.specs.Places.{sizeOf, startOf, nextOf}
+use Rattle.fields.specs.Places.{linesSize, startOf, nextOf}
 use Rattle.fields.specs.Shapes.{lineable}
 use Rattle.fields.proofs.FieldLaws.{fields-lineable, fields-dash}
 use Rattle.fields.proofs.PlaceLaws.{size-append}
 use Rattle.types.specs.declared.Form.{Form}
 use Rattle.types.specs.Sign.{signOf}
-use Rattle.types.specs.Sentences.{after}
+use Rattle.types.specs.Sentences.{endOfFields}
 use Rattle.frame.specs.Frame.{refusal}
 use Rattle.frame.proofs.CallLaws.{Taken, taken}
 use Rattle.frame.proofs.SmallLaws.{Small, refusal-small}
 use Rattle.contents.specs.Rule8.{firstWrong, rightField, rule8}
-use Rattle.values.specs.Values.{Kind, Value, kindOf, placeOf, valuesIn}
+use Rattle.values.specs.Values.{ValueKind, Value, kindOf, placeOf, valuesIn}
 use Rattle.values.specs.Judged.{firstBad, rule9, rule10, rule11, rule12, rule13}
 use Rattle.values.proofs.JudgedLaws.{Ordered, none, next}
 use Rattle.values.proofs.ValueLaws.{in-order}
-use Rattle.roles.specs.Rule14.{unheard, spoken, rule14}
+use Rattle.roles.specs.Rule14.{unheard, speechesOf, rule14}
 use Rattle.roles.proofs.BreachLaws.{unheard-within, unheard-number, spoken-within}
 use Rattle.judge.specs.Message.{contentRules, verdictOf}
 use Rattle.judge.proofs.CallLaws.{verdict-by}
 use Rattle.judge.proofs.RuleLaws.{content-holds}
 
 -- ---- 8: a content starts within its field
-wrong-small : (b : ℕ) (test : Field → Bool) (o : ℕ) (fs : List Field) → all lineable fs ≡ true → o + sizeOf (linesOf fs) ≤ b → Small b (firstWrong 8 test startOf o fs)
+wrong-small : (b : ℕ) (test : Field → Bool) (o : ℕ) (fs : List Field) → all lineable fs ≡ true → o + linesSize (linesOf fs) ≤ b → Small b (firstWrong 8 test startOf o fs)
 unfolding firstWrong
 wrong-small b test o [] a h = tt
 wrong-small b test o (field t [] ∷ fs) a h = absurd (false≢true a)
@@ -53,7 +53,7 @@ ordered-through : {o e : ℕ} {vs : List Value} → Ordered o vs e → o ≤ e
 ordered-through (none h) = h
 ordered-through (next h r) = omega (arith, ordered-through r)
 
-bad-small : (number : ℕ) (bad : Kind → Bool) → number ≤ lastNumber → {o e : ℕ} {vs : List Value} → Ordered o vs e → Small e (firstBad number bad vs)
+bad-small : (number : ℕ) (bad : ValueKind → Bool) → number ≤ lastNumber → {o e : ℕ} {vs : List Value} → Ordered o vs e → Small e (firstBad number bad vs)
 unfolding firstBad
 bad-small number bad k (none h) = tt
 bad-small number bad k {e = e} (next {v = v} {vs = vs} h r) = go (bad (kindOf v)) (bad-small number bad k r)
@@ -62,20 +62,20 @@ bad-small number bad k {e = e} (next {v = v} {vs = vs} h r) = go (bad (kindOf v)
     go true s = (k, ordered-through r)
     go false s = s
 
-after-size : (o : ℕ) (fs : List Field) → after o fs ≡ o + sizeOf (linesOf fs)
+after-size : (o : ℕ) (fs : List Field) → endOfFields o fs ≡ o + linesSize (linesOf fs)
 after-size o [] = omega arith
 after-size o (f ∷ fs) = let s = size-append (lined f) (linesOf fs) in omega (arith, after-size (nextOf o f) fs)
 
 -- ---- 14: texts stand in the message
-texts-small : (b : ℕ) (form : Form) (fs : List Field) → 5 + sizeOf (linesOf fs) + 2 ≤ b → Small b (rule14 form fs)
+texts-small : (b : ℕ) (form : Form) (fs : List Field) → 5 + linesSize (linesOf fs) + 2 ≤ b → Small b (rule14 form fs)
 unfolding rule14
-texts-small b form fs h = go (signOf fs) (unheard (spoken form 5 fs)) refl
+texts-small b form fs h = go (signOf fs) (unheard (speechesOf form 5 fs)) refl
   where
-    go : (q : Bool) (v : Verdict) → unheard (spoken form 5 fs) ≡ v → Small b (pick q v Fine)
+    go : (q : Bool) (v : Verdict) → unheard (speechesOf form 5 fs) ≡ v → Small b (pick q v Fine)
     go false v e = tt
     go true Fine e = tt
     go true (Broken n p) e =
-        (omega (arith, unheard-number (spoken form 5 fs) n p e), omega (arith, unheard-within (spoken form 5 fs) 7 (5 + sizeOf (linesOf fs) + 2) n p (spoken-within form 5 fs) e))
+        (omega (arith, unheard-number (speechesOf form 5 fs) n p e), omega (arith, unheard-within (speechesOf form 5 fs) 7 (5 + linesSize (linesOf fs) + 2) n p (spoken-within form 5 fs) e))
 
 -- ---- the whole
 widened : (a b : ℕ) (v : Verdict) → a ≤ b → Small a v → Small b v
@@ -86,12 +86,12 @@ content-small : (form : Form) (m : List ℕ) → Taken form m → Small limit (f
 unfolding rule8 rule9 rule10 rule11 rule12 rule13
 content-small form m t =
     let fs = fields m in
-    let d : 5 + sizeOf (linesOf fs) ≡ length m - 2 = fields-dash m (t .frame-fine) (t .bytes-fine) (t .lines-fine) in
+    let d : 5 + linesSize (linesOf fs) ≡ length m - 2 = fields-dash m (t .frame-fine) (t .bytes-fine) (t .lines-fine) in
     let w = t .within in
     let g = t .long in
-    let e : after 5 fs ≤ limit = omega (arith, after-size 5 fs) in
-    let value : (number : ℕ) (bad : Kind → Bool) → number ≤ lastNumber → Small limit (firstBad number bad (valuesIn form 5 fs)) =
-    λ number bad k. widened (after 5 fs) limit (firstBad number bad (valuesIn form 5 fs)) e (bad-small number bad k (in-order form 5 fs)) in
+    let e : endOfFields 5 fs ≤ limit = omega (arith, after-size 5 fs) in
+    let value : (number : ℕ) (bad : ValueKind → Bool) → number ≤ lastNumber → Small limit (firstBad number bad (valuesIn form 5 fs)) =
+    λ number bad k. widened (endOfFields 5 fs) limit (firstBad number bad (valuesIn form 5 fs)) e (bad-small number bad k (in-order form 5 fs)) in
     content-holds (Small limit) form m tt (record {
       contents = wrong-small limit (rightField form (signOf fs)) 5 fs (fields-lineable m (t .lines-fine)) (omega arith);
       days = value 9 _ (omega arith);

@@ -1,4 +1,4 @@
--- What 9 to 13 need of the fields, found in one turn a field. A place is told as one more than it is, 0 for none. Assumes nothing.
+-- What 9 to 13 need of the fields, found in one turn a field. A place is kept as one more than it is, 0 for none. Assumes nothing.
 use Prim.Native.Nat.{ℕ, zero, suc, _+_}
 use mathlib.Core.Path.{_≡_}
 use mathlib.Core.Bool.{Bool, false, _&&_, _||_}
@@ -17,7 +17,7 @@ use Rattle.types.specs.Walk.{among}
 use Rattle.contents.specs.Tags.{heldBy}
 use Rattle.contents.specs.Rule8.{firstWrong, rightField}
 use Rattle.values.specs.Values.{Value, valuesOf}
-use Rattle.values.specs.Judged.{noDay, foreign, apart, hasKpp, has, tags56, tags57}
+use Rattle.values.specs.Judged.{noDay, foreign, bikDiffers, hasKpp, has, tags56, tags57}
 use Rattle.values.specs.Answers.{faultOf}
 use Rattle.values.specs.Steps.{finds}
 use Rattle.values.specs.declared.Finds.{Finds}
@@ -36,17 +36,17 @@ within s zero = zero
 within s (suc k) = suc (s + k)
 
 -- a field's own place, where a test holds of it
-unfoldable pub marked : Bool → ℕ → ℕ
-marked b o = pick b (suc o) 0
+unfoldable pub placeIf : Bool → ℕ → ℕ
+placeIf b o = pick b (suc o) 0
 
 -- a KPP, in a field with the tag that is wanted
 abbrev pub kppAt : Bool → List ℕ → List ℕ → Bool
 kppAt kpp t u = same t u && kpp
 
 -- as a rule's answer
-abbrev pub toldAs : ℕ → ℕ → Verdict
-toldAs number zero = Fine
-toldAs number (suc p) = Broken number p
+abbrev pub asVerdict : ℕ → ℕ → Verdict
+asVerdict number zero = Fine
+asVerdict number (suc p) = Broken number p
 
 -- ---- field by field
 unfoldable pub nothingYet : Facts
@@ -54,23 +54,23 @@ nothingYet =
     record { day = 0; currency = 0; bank = 0; through = false; party = 0; payer = false; payee = false; purpose = 0; budget = 0 }
 
 -- a field with that tag, its colon at o
-unfoldable pub markedBy : Facts → ℕ → List ℕ → Facts
-markedBy f o t =
+unfoldable pub withTag : Facts → ℕ → List ℕ → Facts
+withTag f o t =
     record {
       day = f .day;
       currency = f .currency;
-      bank = orElse (f .bank) (marked (among t tags56) o);
+      bank = orElse (f .bank) (placeIf (among t tags56) o);
       through = f .through || among t tags57;
       party = f .party;
       payer = f .payer;
       payee = f .payee;
-      purpose = orElse (f .purpose) (marked (same t (bytes "26T")) o);
-      budget = orElse (f .budget) (marked (same t (bytes "77B")) o);
+      purpose = orElse (f .purpose) (placeIf (same t (bytes "26T")) o);
+      budget = orElse (f .budget) (placeIf (same t (bytes "77B")) o);
     }
 
 -- what is found in its content, which starts at s
-unfoldable pub notedBy : Facts → ℕ → List ℕ → Finds → Facts
-notedBy f s t x =
+unfoldable pub withFinds : Facts → ℕ → List ℕ → Finds → Facts
+withFinds f s t x =
     record {
       day = orElse (f .day) (within s (x .day));
       currency = orElse (f .currency) (within s (x .currency));
@@ -85,20 +85,20 @@ notedBy f s t x =
 
 -- nothing is marked of a field with that tag
 abbrev pub Unmarked : List ℕ → Type 0
-Unmarked t = (f : Facts) (o : ℕ) → f ≡ markedBy f o t
+Unmarked t = (f : Facts) (o : ℕ) → f ≡ withTag f o t
 
 abbrev pub valuesFor : Form → Field → List Value
 valuesFor form (field t ls) = valuesOf t (heldBy form t) ls
 
 abbrev pub findsIn : Form → Field → Finds
-findsIn form g = finds (faultOf noDay (valuesFor form g)) (faultOf foreign (valuesFor form g)) (faultOf apart (valuesFor form g)) (has hasKpp (valuesFor form g))
+findsIn form g = finds (faultOf noDay (valuesFor form g)) (faultOf foreign (valuesFor form g)) (faultOf bikDiffers (valuesFor form g)) (has hasKpp (valuesFor form g))
 
-abbrev pub noted : Form → Facts → ℕ → Field → Facts
-noted form f o g = notedBy (markedBy f o (tagOf g)) (startOf o g) (tagOf g) (findsIn form g)
+abbrev pub withField : Form → Facts → ℕ → Field → Facts
+withField form f o g = withFinds (withTag f o (tagOf g)) (startOf o g) (tagOf g) (findsIn form g)
 
 unfoldable pub factsFrom : Form → Facts → ℕ → List Field → Facts
 factsFrom form f o [] = f
-factsFrom form f o (g ∷ gs) = factsFrom form (noted form f o g) (nextOf o g) gs
+factsFrom form f o (g ∷ gs) = factsFrom form (withField form f o g) (nextOf o g) gs
 
 -- 8 at the first content that isn't right, or the facts of all
 abbrev pub ReadOf : Form → Bool → List Field → Read → Type 0
@@ -112,8 +112,8 @@ openBank through bank = pick through 0 bank
 
 -- 13: a 26T with 77B and what is whole, a KPP in 50K and 59; a 77B with 26T
 unfoldable pub taxRule : ℕ → ℕ → Bool → Verdict
-taxRule purpose budget whole = pick (eqb purpose 0) (toldAs 13 budget) (pick (eqb budget 0) (toldAs 13 purpose) (pick whole Fine (toldAs 13 purpose)))
+taxRule purpose budget whole = pick (eqb purpose 0) (asVerdict 13 budget) (pick (eqb budget 0) (asVerdict 13 purpose) (pick whole Fine (asVerdict 13 purpose)))
 
 unfoldable pub valueRules : Facts → Verdict
 valueRules f =
-    first (toldAs 9 (f .day) ∷ toldAs 10 (f .currency) ∷ toldAs 11 (openBank (f .through) (f .bank)) ∷ toldAs 12 (f .party) ∷ taxRule (f .purpose) (f .budget) (f .payer && f .payee) ∷ [])
+    first (asVerdict 9 (f .day) ∷ asVerdict 10 (f .currency) ∷ asVerdict 11 (openBank (f .through) (f .bank)) ∷ asVerdict 12 (f .party) ∷ taxRule (f .purpose) (f .budget) (f .payer && f .payee) ∷ [])

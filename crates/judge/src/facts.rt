@@ -1,4 +1,4 @@
-// 8 to 13: each content is read once; 8 at the first that isn't right, else what 9 to 13 need of the fields. A place is told as one more than it
+// 8 to 13: each content is read once; 8 at the first that isn't right, else what 9 to 13 need of the fields. A place is kept as one more than it
 // is, 0 for none.
 ghost use mathlib.Core.Path.{_≡_};
 ghost use mathlib.Core.Bool.{true, false, _||_};
@@ -7,7 +7,7 @@ ghost use lib.ListN.{length};
 ghost use Rattle.fields.specs.Field.{fields};
 ghost use Rattle.fields.specs.Shapes.{unpack};
 ghost use Rattle.judge.specs.Parts.{Settled};
-ghost use Rattle.judge.specs.Facts.{orElse, within, marked, nothingYet, markedBy, notedBy, kppAt, Unmarked, ReadOf};
+ghost use Rattle.judge.specs.Facts.{orElse, within, placeIf, nothingYet, withTag, withFinds, kppAt, Unmarked, ReadOf};
 use super::parts::field_at;
 use contents::tags::held_by;
 use frame::SPOTS;
@@ -63,7 +63,7 @@ fn fault_of(old: usize, s: usize, fault: usize) -> usize
 // The first colon: an older one, or this field's where it counts.
 fn colon_of(old: usize, hit: bool, o: usize) -> usize
     requires { ⌜ o ≤ 10000 ⌝ }
-    ensures { λ r. ⌜ r ≡ orElse old (marked hit o) ⌝ }
+    ensures { λ r. ⌜ r ≡ orElse old (placeIf hit o) ⌝ }
 {
     if old != 0 {
         return old;
@@ -117,7 +117,7 @@ fn is_marked(tag: u32) -> bool
 // 11 and 13: the field itself, its colon at o.
 fn mark(f: Facts, o: usize, tag: u32) -> Facts
     requires { ⌜ o ≤ 10000 ⌝ }
-    ensures { λ r. ⌜ r ≡ markedBy f o (unpack tag) ⌝ }
+    ensures { λ r. ⌜ r ≡ withTag f o (unpack tag) ⌝ }
 {
     if !is_marked(tag) {
         return f;
@@ -148,7 +148,7 @@ fn is_kpp(kpp: bool, tag: u32, want: u32) -> bool
 // 9, 10, 12 and 13: what is found in its content, which starts at s.
 fn note(f: Facts, s: usize, tag: u32, x: Finds) -> Facts
     requires { ⌜ (s + x .day ≤ 100000) × (s + x .currency ≤ 100000) × (s + x .party ≤ 100000) ⌝ }
-    ensures { λ r. ⌜ r ≡ notedBy f s (unpack tag) x ⌝ }
+    ensures { λ r. ⌜ r ≡ withFinds f s (unpack tag) x ⌝ }
 {
     Facts {
         day: fault_of(f.day, s, x.day),

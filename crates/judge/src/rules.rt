@@ -1,7 +1,7 @@
 // 9 to 13, from what they need of the fields.
 ghost use mathlib.Core.Path.{_≡_};
 ghost use mathlib.Core.Bool.{_&&_};
-ghost use Rattle.judge.specs.Facts.{toldAs, openBank, taxRule, valueRules};
+ghost use Rattle.judge.specs.Facts.{asVerdict, openBank, taxRule, valueRules};
 use super::facts::Facts;
 use base::Verdict;
 
@@ -12,8 +12,8 @@ fn open_bank(through: bool, bank: usize) -> usize
     if through { 0 } else { bank }
 }
 
-fn told(number: u32, place: usize) -> Verdict
-    ensures { λ r. ⌜ r ≡ toldAs number place ⌝ }
+fn as_verdict(number: u32, place: usize) -> Verdict
+    ensures { λ r. ⌜ r ≡ asVerdict number place ⌝ }
 {
     if place == 0 {
         return Verdict::Fine;
@@ -38,15 +38,15 @@ fn tax_rule(purpose: usize, budget: usize, whole: bool) -> Verdict
     ensures { λ r. ⌜ r ≡ taxRule purpose budget whole ⌝ }
 {
     if purpose == 0 {
-        return told(13, budget);
+        return as_verdict(13, budget);
     }
     if budget == 0 {
-        return told(13, purpose);
+        return as_verdict(13, purpose);
     }
     if whole {
         return Verdict::Fine;
     }
-    told(13, purpose)
+    as_verdict(13, purpose)
 }
 
 pub(crate) fn values_rule(f: Facts) -> Verdict
@@ -54,16 +54,16 @@ pub(crate) fn values_rule(f: Facts) -> Verdict
 {
     let bank = open_bank(f.through, f.bank);
     if f.day != 0 {
-        return told(9, f.day);
+        return as_verdict(9, f.day);
     }
     if f.currency != 0 {
-        return told(10, f.currency);
+        return as_verdict(10, f.currency);
     }
     if bank != 0 {
-        return told(11, bank);
+        return as_verdict(11, bank);
     }
     if f.party != 0 {
-        return told(12, f.party);
+        return as_verdict(12, f.party);
     }
     tax_rule(f.purpose, f.budget, are_both(f.payer, f.payee))
 }

@@ -1,9 +1,9 @@
 // 14: each text can be read, and hides nothing.
 ghost use mathlib.Core.Path.{_≡_};
 ghost use lib.ListN.{length};
-ghost use Rattle.alphabets.specs.Steps.{codes};
+ghost use Rattle.alphabets.specs.Steps.{backTable};
 ghost use Rattle.fields.specs.Field.{fields};
-ghost use Rattle.roles.specs.Rule14.{unheard, spoken};
+ghost use Rattle.roles.specs.Rule14.{unheard, speechesOf};
 ghost use Rattle.judge.specs.Parts.{Settled};
 use super::parts::field_at;
 use base::Verdict;
@@ -19,8 +19,8 @@ pub(crate) fn speeches_rule(
     spots: &[u32; SPOTS],
     n: usize,
 ) -> Verdict
-    requires { ⌜ (now back ≡ codes) × Settled (now m) (now spots) × (n ≡ length (fields (now m))) ⌝ }
-    ensures { λ v. ⌜ v ≡ unheard (spoken form 5 (fields (now (m .entry)))) ⌝ }
+    requires { ⌜ (now back ≡ backTable) × Settled (now m) (now spots) × (n ≡ length (fields (now m))) ⌝ }
+    ensures { λ v. ⌜ v ≡ unheard (speechesOf form 5 (fields (now (m .entry)))) ⌝ }
 {
     let mut k = 0;
     while k < n {

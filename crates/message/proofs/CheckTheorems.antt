@@ -15,7 +15,7 @@ use Rattle.base.specs.Calls.{short, over, room}
 use Rattle.base.specs.declared.Verdict.{Verdict}
 use Rattle.base.specs.declared.Verdict.the-variants.{Fine, Broken}
 use Rattle.base.proofs.RuleLaws.{then-clean, first-last, first-clean, accepted-iff, refused-iff}
-use Rattle.base.proofs.CallLaws.{one-answer, enough}
+use Rattle.base.proofs.CallLaws.{one-answer, short-within}
 use Rattle.fields.specs.Field.{fields}
 use Rattle.fields.specs.Places.{listed}
 use Rattle.fields.proofs.PlaceLaws.{listed-length}
@@ -72,7 +72,7 @@ module _ (form : Form) (m list : List ℕ) where
         as-many-ones = t .sound .as-many;
         bits = t .sound .bits;
         few = t .sound .few-fields;
-        room = omega (arith, enough (listed 5 (fields m)) list (b .1));
+        room = omega (arith, short-within (listed 5 (fields m)) list (b .1));
         filled = l;
         behind = ap (drop (3 * length (fields m))) l ∙ drop-at (listed 5 (fields m)) (drop (length (listed 5 (fields m))) list) (3 * length (fields m)) n ∙ ap (λ (k : ℕ). drop k list) n;
       }

@@ -11,7 +11,7 @@ use Rattle.base.specs.declared.Verdict.{Verdict}
 use Rattle.base.specs.declared.Verdict.the-variants.{Fine, Broken}
 use Rattle.base.specs.Calls.{long, short, over, room}
 use Rattle.base.specs.Bytes.{isIn, digit, capital, letter, marks, shared, xset, same}
-use Rattle.fields.specs.Field.{Field, message, body, cut, upto, past, grouped, fields}
+use Rattle.fields.specs.Field.{Field, message, body, cutLines, upto, past, grouped, fields}
 use Rattle.fields.specs.Frame.{rule1, framed, rule2, scan, rule3, tagged, lineBad, badLine, rule4}
 use Rattle.fields.specs.Places.{listed}
 use Rattle.types.specs.declared.Form.{Form}
@@ -36,11 +36,11 @@ use Rattle.values.specs.Judged.{firstBad, rule9, rule10, rule11, rule12, rule13
 use Rattle.values.specs.Answers.{dateOf, kopecksOf, faultOf}
 use Rattle.contents.specs.Tags.{tags103, tags202, heldBy}
 use Rattle.roles.specs.Role.{shapeOf, cast}
-use Rattle.roles.specs.Speech.{named, told, speech, names, details, noted, speeches}
+use Rattle.roles.specs.Speech.{asName, asDetails, speech, nameSpeeches, detailsSpeech, noteSpeeches, speeches}
 use Rattle.roles.specs.Speech as roles-speech
 use Rattle.roles.specs.Sentences.{Heard}
 use Rattle.roles.proofs.BreachLaws.{rule14-fine}
-use Rattle.roles.specs.Rule14.{mute, hidden, isInn, taxLike, breaks, unheard, spoken, rule14}
+use Rattle.roles.specs.Rule14.{mute, hidden, isCyrillicInn, taxLike, breaks14, unheard, speechesOf, rule14}
 use Rattle.alphabets.specs.Grid.{grid, kind}
 use Rattle.alphabets.specs.Grid as alphabets-grid
 use Rattle.alphabets.specs.Bank.{reads}
@@ -121,27 +121,27 @@ all-hold (c ∷ cs) h = (case-holds c (h .0), all-hold cs (h .1))
 
 -- ---- the signed 202: its details are spelt as they would be written
 signed-easy : rule14 Mt202 (fields (bytes signed202)) ≡ Fine → NoneBroken Mt202 (bytes signed202)
-unfolding rule18 places103 places202 long rule1 framed body same rule2 scan xset isIn digit capital letter marks shared rule3 cut tagged lineBad badLine rule4 upto past grouped fields find wrong walk walked signOf firstWrong rightField rule8 onward leap daysIn isDay yearOf realDay dated payment parties tests.looksTax taxes valuesOf firstBad rule9 rule10 rule11 rule12 rule13 capitalOrDigit tests.lead tests.ends tests.pair tests.isReference tests.isPurpose tests.isPayment tests.isOwnAccount tests.isPartyByBik tests.isParty tests.isBic tests.isAccount tests.isTax tests.isRpp tests.details tests.right tags103 tags202 heldBy rppDates customerTaxes payerTaxes
+unfolding rule18 places103 places202 long rule1 framed body same rule2 scan xset isIn digit capital letter marks shared rule3 cutLines tagged lineBad badLine rule4 upto past grouped fields find wrong walk walked signOf firstWrong rightField rule8 onward leap daysIn isDay yearOf realDay dated payment parties tests.looksTax taxes valuesOf firstBad rule9 rule10 rule11 rule12 rule13 capitalOrDigit tests.leadDigits tests.ends tests.hasPair tests.isReference tests.isPurpose tests.isPayment tests.isOwnAccount tests.isPartyByBik tests.isParty tests.isBic tests.isAccount tests.isTax tests.isRpp tests.isDetails tests.right tags103 tags202 heldBy rppDates customerTaxes payerTaxes
 signed-easy e =
     record {
       pass = record { type = refl; size = refl; frame = refl; bytes = refl; lines = refl; walk = refl };
       inside = record { contents = refl; days = refl; currency = refl; banks = refl; parties = refl; taxes = refl; texts = e };
     }
 
-signed-texts : spoken Mt202 5 (fields (bytes signed202)) ≡ speech named 120 (bytes "'OOO' SBERBANK") ∷ speech told 185 (bytes "PEREVOD SREDSTVPO DOGOVORU 'A'") ∷ []
-unfolding spoken speeches names details noted roles-speech.behind shapeOf heldBy tags103 tags202 cast tests.looksTax same digit body cut upto past grouped fields isIn
+signed-texts : speechesOf Mt202 5 (fields (bytes signed202)) ≡ speech asName 120 (bytes "'OOO' SBERBANK") ∷ speech asDetails 185 (bytes "PEREVOD SREDSTVPO DOGOVORU 'A'") ∷ []
+unfolding speechesOf speeches nameSpeeches detailsSpeech noteSpeeches roles-speech.laterText shapeOf heldBy tags103 tags202 cast tests.looksTax same digit body cutLines upto past grouped fields isIn
 signed-texts = refl
 
-name-heard : breaks named (bytes "'OOO' SBERBANK") ≡ false
-unfolding breaks hidden isIn reads alphabets-grid.sign grid marks digit capital letter shared
+name-heard : breaks14 asName (bytes "'OOO' SBERBANK") ≡ false
+unfolding breaks14 hidden isIn reads alphabets-grid.character grid marks digit capital letter shared
 name-heard = refl
 
 -- ПЕРЕВОД СРЕДСТВПО ДОГОВОРУ A
 abbrev details-read : List ℕ
 details-read = 207 ∷ 197 ∷ 208 ∷ 197 ∷ 194 ∷ 206 ∷ 196 ∷ 32 ∷ 209 ∷ 208 ∷ 197 ∷ 196 ∷ 209 ∷ 210 ∷ 194 ∷ 207 ∷ 206 ∷ 32 ∷ 196 ∷ 206 ∷ 195 ∷ 206 ∷ 194 ∷ 206 ∷ 208 ∷ 211 ∷ 32 ∷ 65 ∷ []
 
-details-heard : breaks told (bytes "PEREVOD SREDSTVPO DOGOVORU 'A'") ≡ false
-unfolding breaks best bad latinNext kind grid marks isIn digit capital letter shared
+details-heard : breaks14 asDetails (bytes "PEREVOD SREDSTVPO DOGOVORU 'A'") ≡ false
+unfolding breaks14 best bad latinNext kind grid marks isIn digit capital letter shared
 details-heard = ap mute (reads-best false details-read refl)
 
 signed-fine : verdictOf Mt202 (bytes signed202) ≡ Fine
@@ -150,11 +150,11 @@ signed-fine =
 
 -- ---- the example of the rules, as a 103 and as a 202
 sample-verdicts : (verdictOf Mt103 (bytes sample) ≡ Fine) × (verdictOf Mt202 (bytes sample) ≡ Broken 5 15)
-unfolding verdictOf rule18 places103 places202 long rule1 framed body same rule2 scan xset isIn digit capital letter marks shared rule3 cut tagged lineBad badLine rule4 upto past grouped fields find wrong walk walked signOf firstWrong rightField rule8 onward leap daysIn isDay yearOf realDay dated payment parties tests.looksTax taxes valuesOf firstBad rule9 rule10 rule11 rule12 rule13 spoken speeches names details noted roles-speech.behind shapeOf heldBy tags103 tags202 cast hidden isInn taxLike breaks unheard rule14 grid alphabets-grid.sign reads capitalOrDigit tests.lead tests.ends tests.pair tests.isReference tests.isPurpose tests.isPayment tests.isOwnAccount tests.isPartyByBik tests.isParty tests.isBic tests.isAccount tests.isTax tests.isRpp tests.details tests.right rppDates customerTaxes payerTaxes
+unfolding verdictOf rule18 places103 places202 long rule1 framed body same rule2 scan xset isIn digit capital letter marks shared rule3 cutLines tagged lineBad badLine rule4 upto past grouped fields find wrong walk walked signOf firstWrong rightField rule8 onward leap daysIn isDay yearOf realDay dated payment parties tests.looksTax taxes valuesOf firstBad rule9 rule10 rule11 rule12 rule13 speechesOf speeches nameSpeeches detailsSpeech noteSpeeches roles-speech.laterText shapeOf heldBy tags103 tags202 cast hidden isCyrillicInn taxLike breaks14 unheard rule14 grid alphabets-grid.character reads capitalOrDigit tests.leadDigits tests.ends tests.hasPair tests.isReference tests.isPurpose tests.isPayment tests.isOwnAccount tests.isPartyByBik tests.isParty tests.isBic tests.isAccount tests.isTax tests.isRpp tests.isDetails tests.right rppDates customerTaxes payerTaxes
 sample-verdicts = (refl, refl)
 
 computed : AllHold Computed cases
-unfolding cases verdictOf rule18 places103 places202 long rule1 framed body same rule2 scan xset isIn digit capital letter marks shared rule3 cut tagged lineBad badLine rule4 upto past grouped fields find wrong walk walked signOf firstWrong rightField rule8 onward leap daysIn isDay yearOf realDay dated payment parties tests.looksTax taxes valuesOf firstBad rule9 rule10 rule11 rule12 rule13 spoken speeches names details noted roles-speech.behind shapeOf heldBy tags103 tags202 cast hidden isInn taxLike breaks unheard rule14 grid alphabets-grid.sign reads message listed word partAt short dateOf kopecksOf kopecks faultOf capitalOrDigit tests.lead tests.ends tests.pair tests.isReference tests.isPurpose tests.isPayment tests.isOwnAccount tests.isPartyByBik tests.isParty tests.isBic tests.isAccount tests.isTax tests.isRpp tests.details tests.right rppDates customerTaxes payerTaxes
+unfolding cases verdictOf rule18 places103 places202 long rule1 framed body same rule2 scan xset isIn digit capital letter marks shared rule3 cutLines tagged lineBad badLine rule4 upto past grouped fields find wrong walk walked signOf firstWrong rightField rule8 onward leap daysIn isDay yearOf realDay dated payment parties tests.looksTax taxes valuesOf firstBad rule9 rule10 rule11 rule12 rule13 speechesOf speeches nameSpeeches detailsSpeech noteSpeeches roles-speech.laterText shapeOf heldBy tags103 tags202 cast hidden isCyrillicInn taxLike breaks14 unheard rule14 grid alphabets-grid.character reads message listed word partAt short dateOf kopecksOf kopecks faultOf capitalOrDigit tests.leadDigits tests.ends tests.hasPair tests.isReference tests.isPurpose tests.isPayment tests.isOwnAccount tests.isPartyByBik tests.isParty tests.isBic tests.isAccount tests.isTax tests.isRpp tests.isDetails tests.right rppDates customerTaxes payerTaxes
 computed =
     (sample-verdicts .0, refl, refl, refl, refl, refl, refl, refl) also (signed-fine, refl, refl, refl, refl, refl, refl, refl) also (refl, refl, refl, refl, refl, refl, refl, refl)
     also refl also refl also refl also refl also refl also refl also refl also refl also refl also (sample-verdicts .0, refl) also sample-verdicts .1

@@ -24,7 +24,7 @@ use Rattle.fields.proofs.PlaceLaws.{next-standing, content-part, fields-stand}
 use Rattle.types.specs.declared.Form.{Form}
 use Rattle.types.specs.declared.Form.the-variants.{Other, Mt103, Mt202}
 use Rattle.types.specs.Form.{Place, placesOf, places103, places202}
-use Rattle.types.specs.Walk.{find, optional, rule18}
+use Rattle.types.specs.Walk.{find, isOptional, rule18}
 use Rattle.types.specs.Sign.{signOf}
 use Rattle.types.proofs.WalkLaws.{seated, walked-accepted}
 use Rattle.types.specs.Sentences.{placeAt, Seated, Accepted, Present}
@@ -37,7 +37,7 @@ use Rattle.contents.specs.Tags.{tags103, tags202, heldBy}
 use Rattle.contents.specs.Rule8.{rightField}
 use Rattle.contents.proofs.RuleLaws.{field-says}
 use Rattle.values.specs.Values as values
-use Rattle.values.specs.Values.{Kind, tag, valuesOf, valuesIn}
+use Rattle.values.specs.Values.{ValueKind, tag, valuesOf, valuesIn}
 use Rattle.values.specs.Judged.{firstBad, noDay, foreign}
 use Rattle.values.specs.Answers.{dateOf, kopecksOf, faultOf, answered}
 use Rattle.values.specs.Day as days
@@ -50,7 +50,7 @@ use Rattle.listing.specs.Lists.{partAt}
 use Rattle.message.specs.Paid.{PaidIn}
 use Rattle.message.specs.Calls.{spanBy, spanOf, partOf, contentOf, paid, amountBy, amountOf, daySplit, dayBy, dayOf}
 use Rattle.message.specs.declared.Amount.the-variants as amounts
-use Rattle.message.specs.declared.Day.the-variants as told
+use Rattle.message.specs.declared.Day.the-variants as dayAnswer
 use Rattle.listing.proofs.SpanLaws.{part-listed}
 use Rattle.frame.proofs.CallLaws.{taken}
 use Rattle.judge.specs.Message.{verdictOf}
@@ -58,7 +58,7 @@ use Rattle.judge.proofs.RuleLaws.{accepted-rules}
 use Rattle.judge.proofs.VerdictTheorems.{frame-clean, contents-right, days-right, roubles-only}
 
 -- ---- a mandatory place is present
-must-present : (ps : List Place) (next : ℕ) (fs : List Field) (i : ℕ) → Accepted ps next fs → next ≤ i → i < length ps → optional (placeAt ps i) ≡ false → Present ps fs i
+must-present : (ps : List Place) (next : ℕ) (fs : List Field) (i : ℕ) → Accepted ps next fs → next ≤ i → i < length ps → isOptional (placeAt ps i) ≡ false → Present ps fs i
 must-present ps next [] i a l h o = absurd (a .whole (record { at = i; low = l; high = h; mandatory = o }))
 must-present ps next (f ∷ fs) i a l h o =
     go (seated ps next (tagOf f) (a .fine .0)) (decLt i (find ps (tagOf f))) (decLt (find ps (tagOf f)) i)
@@ -106,7 +106,7 @@ no-fault number s zero e = refl
 no-fault number s (suc k) e = absurd (fine-broken number (s + k) (sym e))
 
 -- a rule that no value of a field's breaks, and none of those behind it
-rest-fine : (number : ℕ) (bad : Kind → Bool) → ((t : List ℕ) → bad (tag t) ≡ false) → (form : Form) (o : ℕ) (t : List ℕ) (ls : List (List ℕ)) (fs : List Field)
+rest-fine : (number : ℕ) (bad : ValueKind → Bool) → ((t : List ℕ) → bad (tag t) ≡ false) → (form : Form) (o : ℕ) (t : List ℕ) (ls : List (List ℕ)) (fs : List Field)
     → firstBad number bad (valuesIn form o (field t ls ∷ fs)) ≡ Fine → (faultOf bad (valuesOf t (heldBy form t) ls) ≡ 0) × (firstBad number bad (valuesIn form (nextOf o (field t ls)) fs) ≡ Fine)
 rest-fine number bad h form o t ls fs e =
     let k : ℕ = faultOf bad (valuesOf t (heldBy form t) ls) in
@@ -157,7 +157,7 @@ shown m ps q o (field t (l ∷ ls) ∷ fs) form sign w r d u h =
 -- ---- the place of 32A is mandatory, and its tag alone stands there
 record Sits (ps : List Place) (q : ℕ) : Type 0 where
   below : q < length ps
-  mandatory : optional (placeAt ps q) ≡ false
+  mandatory : isOptional (placeAt ps q) ≡ false
   alone : (t : List ℕ) → find ps t ≡ q → same t (bytes "32A") ≡ true
 
 third : (a b c d : Bool) (n : ℕ) → pick (a || false) 0 (suc (pick (b || false) 0 (suc (pick (c || false) 0 (suc (pick (d || false) 0 (suc n))))))) ≡ 3 → d ≡ true
@@ -213,11 +213,11 @@ month-long y m = go (eqb m 2) (days.leap y) (isIn m (4 ∷ 6 ∷ 9 ∷ 11 ∷ []
     go false b true = omega arith
     go false b false = omega arith
 
-split-dated : (date : Text) → OfCalendar (days.year date) (days.month date) (days.day date) → daySplit (days.dated date) ≡ told.On (days.year date) (days.month date) (days.day date)
+split-dated : (date : Text) → OfCalendar (days.year date) (days.month date) (days.day date) → daySplit (days.dated date) ≡ dayAnswer.On (days.year date) (days.month date) (days.day date)
 unfolding days.dated
 split-dated date c = go (days.year date) (days.month date) (days.day date) (c .last-month) (omega (arith, c .last-day, month-long (days.year date) (days.month date)))
   where
-    go : (y m d : ℕ) → m ≤ 12 → d ≤ 31 → daySplit (y * 10000 + m * 100 + d) ≡ told.On y m d
+    go : (y m d : ℕ) → m ≤ 12 → d ≤ 31 → daySplit (y * 10000 + m * 100 + d) ≡ dayAnswer.On y m d
     go y m d h k =
         let n : ℕ = y * 10000 + m * 100 + d in
         let a : n / 10000 ≡ y = omega arith in

@@ -10,7 +10,7 @@ use Rattle.values.specs.Day as days
 use Rattle.values.specs.Money.{kopecks}
 use Rattle.values.specs.Sentences.{OfCalendar}
 use Rattle.message.specs.declared.Amount.the-variants as amounts
-use Rattle.message.specs.declared.Day.the-variants as told
+use Rattle.message.specs.declared.Day.the-variants as dayAnswer
 use Rattle.message.specs.Calls.{paid, amountOf, dayOf}
 
 pub record PaidIn (form : Form) (m : List ℕ) : Type 0 where
@@ -26,6 +26,6 @@ pub record PaidIn (form : Form) (m : List ℕ) : Type 0 where
   pub roubles : currency ≡ bytes "RUB"
   -- the kopecks are the value of the digits before and behind the comma
   pub amount : amountOf form m ≡ amounts.Is (kopecks whole decimals)
-  -- the date is a day of the calendar, and is told as year, month and day
+  -- the date is a day of the calendar, and is shown as year, month and day
   pub calendar : OfCalendar (days.year date) (days.month date) (days.day date)
-  pub day : dayOf form m ≡ told.On (days.year date) (days.month date) (days.day date)
+  pub day : dayOf form m ≡ dayAnswer.On (days.year date) (days.month date) (days.day date)

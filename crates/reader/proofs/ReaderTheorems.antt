@@ -15,8 +15,8 @@ use Rattle.fields.specs.Field.{fields}
 use Rattle.fields.specs.Places.{listed}
 use Rattle.types.specs.declared.Form.{Form}
 use Rattle.types.specs.Form.{formOf, Place, placesOf, places103, places202}
-use Rattle.types.specs.Walk.{optional}
-use Rattle.types.specs.Sentences.{placeAt, placeOfField, Present, Sound}
+use Rattle.types.specs.Walk.{isOptional}
+use Rattle.types.specs.Sentences.{placeAt, placeOfField, Present, SoundWalk}
 use Rattle.types.proofs.WordLaws.{placed}
 use Rattle.types.proofs.TableLaws.{few-places, each-form, no-places}
 use Rattle.frame.proofs.CallLaws.{taken}
@@ -49,7 +49,7 @@ first-none t i (suc n) b =
 
 -- ---- the first place is mandatory in every type
 abbrev Opens : List Place → Type 0
-Opens ps = 0 < length ps → optional (placeAt ps 0) ≡ false
+Opens ps = 0 < length ps → isOptional (placeAt ps 0) ≡ false
 
 opens : (form : Form) → Opens (placesOf form)
 unfolding places103 places202
@@ -57,7 +57,7 @@ opens form = each-form Opens (λ h. absurd (omega arith)) (λ h. refl) (λ h. re
 
 -- ---- an accepted message
 module _ (form : Form) (m : List ℕ) (e : verdictOf form m ≡ Fine) where
-  sound : Sound (placesOf form) (fields m)
+  sound : SoundWalk (placesOf form) (fields m)
   sound = taken form m (frame-clean form m e) .sound
 
   abbrev place : ℕ → ℕ

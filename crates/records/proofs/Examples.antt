@@ -8,13 +8,13 @@ use Rattle.types.specs.Walk.{rule18}
 use Rattle.types.specs.Sign.{signOf}
 use Rattle.contents.specs.Tags.{tags103, tags202, heldBy}
 use Rattle.roles.specs.Role.{shapeOf}
-use Rattle.roles.specs.Rule14.{isInn}
+use Rattle.roles.specs.Rule14.{isCyrillicInn}
 use Rattle.records.specs.Record.{pieces, recordOf, records, rest, begun}
-use Rattle.records.specs.Rule19.{digits, general, untaxed, sound, badFrom, judge, sheetSign, sheetForm, rule19, sheetVerdict}
+use Rattle.records.specs.Rule19.{isDigits, general, untaxed, sound, badFrom, judge, sheetSign, sheetForm, rule19, verdict19And18}
 use Rattle.records.specs.Cases.{Holds, cases}
 
 pub worked : AllHold Holds cases
-unfolding cases digit capital same shaped places103 places202 rule18 signOf tags103 tags202 heldBy shapeOf isInn pieces recordOf records rest begun digits general untaxed sound badFrom judge sheetSign sheetForm rule19 sheetVerdict
+unfolding cases digit capital same shaped places103 places202 rule18 signOf tags103 tags202 heldBy shapeOf isCyrillicInn pieces recordOf records rest begun isDigits general untaxed sound badFrom judge sheetSign sheetForm rule19 verdict19And18
 worked =
     (refl, refl, refl) also (refl, refl, refl, refl) also refl also (refl, refl, refl, refl) also (refl, refl, refl, refl) also (refl, refl, refl, refl) also refl also refl
     also refl also refl also refl also refl also refl also refl also refl also refl

@@ -10,7 +10,7 @@ use lib.ListN.{length, getD, take, drop, drop-of-length-le}
 use lib.Seq.{drop-cons, length-take-le}
 use borrow.Author.Tests.{eq-eqb, ne-eqb, eqb-true}
 use Rattle.base.specs.Choice.{pick, all}
-use Rattle.base.specs.Bytes.{byte, digit, begins, empty, same, upTo}
+use Rattle.base.specs.Bytes.{byte, digit, begins, empty, same, countUpTo}
 use Rattle.base.specs.Quoted.{bytes}
 use Rattle.base.proofs.MarkLaws.{up-end}
 use Rattle.base.proofs.ByteLaws.{digit-range, is-empty, is-filled}
@@ -21,13 +21,13 @@ use Rattle.fields.proofs.PackLaws.{unpack-pack, pack-some}
 use Rattle.types.specs.declared.Form.{Form}
 use Rattle.types.specs.Sign.{firstLine}
 use Rattle.roles.specs.Role.{shapeOf}
-use Rattle.roles.specs.Rule14.{isInn}
+use Rattle.roles.specs.Rule14.{isCyrillicInn}
 use Rattle.roles.specs.declared.Shape.{Shape}
 use Rattle.roles.specs.declared.Shape.the-variants.{Payer, Payee}
 use Rattle.types.specs.declared.Form.the-variants.{Other}
 use Rattle.records.specs.Record.{Record, pieces, parted, recordOf}
 use Rattle.records.specs.Found.{partsIn, piecesAt, tagNumber}
-use Rattle.records.specs.Rule19.{digits, general, sole, detailed, noted, taxPart, untaxed, sound, good, typed, formIn}
+use Rattle.records.specs.Rule19.{isDigits, general, sole, detailed, rppAndDetailed, taxPart, untaxed, sound, good, typed, formIn}
 use Rattle.records.proofs.PieceLaws.{past-end, at-from, pieces-at, pieces-head, end-within, last-at, more-at, piece-length}
 
 -- ---- no part from a place on
@@ -48,11 +48,11 @@ module _ (l : List ℕ) (i : ℕ) (h : length l < i) where
   pub detailed-none : false ≡ detailed (piecesAt 9 l i)
   detailed-none = sym (ap detailed none)
 
-  pub noted-none : false ≡ noted (piecesAt 9 l i)
-  noted-none = sym (ap noted none)
+  pub rpp-none : false ≡ rppAndDetailed (piecesAt 9 l i)
+  rpp-none = sym (ap rppAndDetailed none)
 
   pub untaxed-none : (s : Bool) → true ≡ untaxed s (firstLine (piecesAt 9 l i))
-  unfolding untaxed isInn digit same
+  unfolding untaxed isCyrillicInn digit same
   untaxed-none true = sym (ap (λ (ps : List (List ℕ)). untaxed true (firstLine ps)) none)
   untaxed-none false = refl
 
@@ -61,7 +61,7 @@ unfolding untaxed
 untaxed-off s p e = rw e
 
 -- ---- the part from i to e, and those behind it
-module _ (l : List ℕ) (i e : ℕ) (h : i ≤ length l) (q : e ≡ i + upTo 9 (drop i l)) where
+module _ (l : List ℕ) (i e : ℕ) (h : i ≤ length l) (q : e ≡ i + countUpTo 9 (drop i l)) where
   abbrev part : List ℕ
   part = take (e - i) (drop i l)
 
@@ -114,18 +114,18 @@ module _ (l : List ℕ) (i e : ℕ) (h : i ≤ length l) (q : e ≡ i + upTo 9 (
           let z : e ≡ length l = omega (arith, end-within 9 l i e h q) in
           eq-eqb e (length l) z ∙ sym (ap sole (last-at 9 l i e h q z) ∙ ap not (some k))
 
-  pub detailed-code : digits 5 part ≡ false → false ≡ detailed (piecesAt 9 l i)
+  pub detailed-code : isDigits 5 part ≡ false → false ≡ detailed (piecesAt 9 l i)
   detailed-code g = sym (ap detailed here ∙ ap (λ (b : Bool). b && sole behind) g)
 
-  pub detailed-on : {r : Bool} → digits 5 part ≡ true → r ≡ sole behind → r ≡ detailed (piecesAt 9 l i)
+  pub detailed-on : {r : Bool} → isDigits 5 part ≡ true → r ≡ sole behind → r ≡ detailed (piecesAt 9 l i)
   detailed-on g k = k ∙ sym (ap detailed here ∙ ap (λ (b : Bool). b && sole behind) g)
 
-  pub noted-on : {r : Bool} → r ≡ detailed behind → r ≡ noted (piecesAt 9 l i)
-  noted-on g = g ∙ sym (ap noted here)
+  pub rpp-on : {r : Bool} → r ≡ detailed behind → r ≡ rppAndDetailed (piecesAt 9 l i)
+  rpp-on g = g ∙ sym (ap rppAndDetailed here)
 
-  pub untaxed-part : {r : Bool} (s : Bool) → s ≡ true → r ≡ isInn part → not r ≡ untaxed s (firstLine (piecesAt 9 l i))
+  pub untaxed-part : {r : Bool} (s : Bool) → s ≡ true → r ≡ isCyrillicInn part → not r ≡ untaxed s (firstLine (piecesAt 9 l i))
   unfolding untaxed
-  untaxed-part s k g = ap not g ∙ sym (ap₂ (λ (b : Bool) (ps : List (List ℕ)). not (b && isInn (firstLine ps))) k here)
+  untaxed-part s k g = ap not g ∙ sym (ap₂ (λ (b : Bool) (ps : List (List ℕ)). not (b && isCyrillicInn (firstLine ps))) k here)
 
   -- the first byte
   first-byte : (n i : ℕ) → i < length l → (c : ℕ) → begins c (take (suc n) (drop i l)) ≡ eqb (getD l i 0) c
@@ -155,7 +155,7 @@ pub payee-not : (s : Bool) (ps : List (List ℕ)) → general ps ≡ false → f
 unfolding sound
 payee-not s ps g = rw g
 
-module _ (s : Bool) (l : List ℕ) (i e : ℕ) (q : e ≡ i + upTo 9 (drop i l)) (g : general (piecesAt 9 l i) ≡ true) where
+module _ (s : Bool) (l : List ℕ) (i e : ℕ) (q : e ≡ i + countUpTo 9 (drop i l)) (g : general (piecesAt 9 l i) ≡ true) where
   within : i ≤ length l
   within = let h = general-within l i g in omega arith
 
@@ -186,7 +186,7 @@ module _ (s : Bool) (l : List ℕ) (i e : ℕ) (q : e ≡ i + upTo 9 (drop i l))
   payee-on u = u ∙ sym (ap₂ (λ (b : Bool) (p : List ℕ). b && untaxed s p) g (ap (taxPart Payee) at))
 
 -- ---- a record by the end of its tag
-module _ (l : List ℕ) (t : ℕ) (q : t ≡ 0 + upTo 9 (drop 0 l)) where
+module _ (l : List ℕ) (t : ℕ) (q : t ≡ 0 + countUpTo 9 (drop 0 l)) where
   pub record-at : recordOf l ≡ field (take t l) (piecesAt 9 l (t + 1))
   unfolding recordOf
   record-at = ap parted (pieces-head 9 l t q)
@@ -254,8 +254,8 @@ pub record Three (p : List ℕ) : Type 0 where
   pub second : 48 ≤ byte p 1
   pub third : 48 ≤ byte p 2
 
-pub three : (p : List ℕ) → digits 3 p ≡ true → Three p
-unfolding digits
+pub three : (p : List ℕ) → isDigits 3 p ≡ true → Three p
+unfolding isDigits
 three p e = go p (eqb-true (length p) 3 (left (eqb (length p) 3) (all digit p) e)) (right (eqb (length p) 3) (all digit p) e)
   where
     go : (p : List ℕ) → length p ≡ 3 → all digit p ≡ true → Three p

@@ -15,7 +15,7 @@ use Rattle.base.proofs.ByteLaws.{digit-range}
 use Rattle.fields.specs.Shapes.{shaped, pack, unpack, goesOn}
 use Rattle.fields.proofs.PackLaws.{unpack-pack}
 use Rattle.records.specs.Found.{tagNumber}
-use Rattle.records.specs.Rule19.{digits}
+use Rattle.records.specs.Rule19.{isDigits}
 
 -- ---- a part that may stand behind the first
 pub goes-none : (p : List ℕ) → length p ≡ 0 → false ≡ goesOn p
@@ -41,12 +41,12 @@ module _ (t : ℕ → Bool) (p : List ℕ) (k : ℕ) where
   pub all-end : length p ≤ k → all t (drop k p) ≡ true
   all-end h = rw (drop-of-length-le p h)
 
-pub digits-size : (n : ℕ) (p : List ℕ) → (length p ≡ n → ⊥) → false ≡ digits n p
-unfolding digits
+pub digits-size : (n : ℕ) (p : List ℕ) → (length p ≡ n → ⊥) → false ≡ isDigits n p
+unfolding isDigits
 digits-size n p h = rw (ne-eqb (length p) n h)
 
-pub digits-all : {r : Bool} (n : ℕ) (p : List ℕ) → length p ≡ n → all digit p ≡ r → r ≡ digits n p
-unfolding digits
+pub digits-all : {r : Bool} (n : ℕ) (p : List ℕ) → length p ≡ n → all digit p ≡ r → r ≡ isDigits n p
+unfolding isDigits
 digits-all n p h e = sym (ap (λ (q : Bool). q && all digit p) (eq-eqb (length p) n h) ∙ e)
 
 -- ---- two bytes

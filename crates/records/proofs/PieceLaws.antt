@@ -10,7 +10,7 @@ use lib.ListN.{length, take, drop, length-drop}
 use lib.Seq.{drop-drop, length-take-le}
 use borrow.Author.Tests.{eq-eqb, le-leb, lt-leb}
 use Rattle.base.specs.Choice.{pick}
-use Rattle.base.specs.Bytes.{other, without, upTo}
+use Rattle.base.specs.Bytes.{other, without, countUpTo}
 use Rattle.base.proofs.Bools.{left, right, isnt}
 use Rattle.base.proofs.MarkLaws.{up-within}
 use Rattle.fields.specs.Field.{onto}
@@ -39,13 +39,13 @@ module _ (c : ℕ) where
       go (no h) = past-end (x ∷ xs) (suc k) (omega arith) ∙ sym (past-end xs k (omega arith))
 
   -- the first goes to its end, and the next begins one byte behind that
-  pub first-piece : (s : List ℕ) → pieces c s ≡ take (upTo c s) s ∷ piecesAt c s (upTo c s + 1)
-  unfolding pieces upTo
+  pub first-piece : (s : List ℕ) → pieces c s ≡ take (countUpTo c s) s ∷ piecesAt c s (countUpTo c s + 1)
+  unfolding pieces countUpTo
   first-piece [] = ap (λ (ls : List (List ℕ)). [] ∷ ls) (sym (past-end [] 1 (omega arith)))
   first-piece (x ∷ xs) = go (eqb x c) (first-piece xs)
     where
       n : ℕ
-      n = upTo c xs
+      n = countUpTo c xs
 
       go : (q : Bool) → pieces c xs ≡ take n xs ∷ piecesAt c xs (n + 1)
           → pick q ([] ∷ pieces c xs) (onto x (pieces c xs)) ≡ take (pick q 0 (suc n)) (x ∷ xs) ∷ piecesAt c (x ∷ xs) (pick q 0 (suc n) + 1)
@@ -65,25 +65,25 @@ module _ (c : ℕ) where
       go (no l) = past-end (drop i s) k (omega (arith, n)) ∙ sym (past-end s (i + k) (omega arith))
 
   -- from a place on: the piece to its end e, and those behind it
-  pub pieces-at : (s : List ℕ) (i e : ℕ) → i ≤ length s → e ≡ i + upTo c (drop i s) → piecesAt c s i ≡ take (e - i) (drop i s) ∷ piecesAt c s (e + 1)
+  pub pieces-at : (s : List ℕ) (i e : ℕ) → i ≤ length s → e ≡ i + countUpTo c (drop i s) → piecesAt c s i ≡ take (e - i) (drop i s) ∷ piecesAt c s (e + 1)
   pieces-at s i e h q =
-      let n : ℕ = upTo c (drop i s) in
+      let n : ℕ = countUpTo c (drop i s) in
       let z : n ≡ e - i = omega arith in
       let y : i + (n + 1) ≡ e + 1 = omega arith in
       at-from s i h ∙ first-piece (drop i s)
       ∙ ap₂ (λ (k : ℕ) (ls : List (List ℕ)). take k (drop i s) ∷ ls) z (at-at s i (n + 1) h ∙ ap (piecesAt c s) y)
 
   -- from the front
-  pub pieces-head : (s : List ℕ) (e : ℕ) → e ≡ 0 + upTo c (drop 0 s) → pieces c s ≡ take e s ∷ piecesAt c s (e + 1)
+  pub pieces-head : (s : List ℕ) (e : ℕ) → e ≡ 0 + countUpTo c (drop 0 s) → pieces c s ≡ take e s ∷ piecesAt c s (e + 1)
   pieces-head s e q =
       let z : e - 0 ≡ e = omega arith in
       sym (at-zero s) ∙ pieces-at s 0 e (omega arith) q ∙ ap (λ (k : ℕ). take k s ∷ piecesAt c s (e + 1)) z
 
-  pub end-within : (s : List ℕ) (i e : ℕ) → i ≤ length s → e ≡ i + upTo c (drop i s) → e ≤ length s
+  pub end-within : (s : List ℕ) (i e : ℕ) → i ≤ length s → e ≡ i + countUpTo c (drop i s) → e ≤ length s
   end-within s i e h q = omega (arith, up-within c (drop i s), length-drop i s)
 
   -- a piece that goes to the end is the last
-  pub last-at : (s : List ℕ) (i e : ℕ) → i ≤ length s → e ≡ i + upTo c (drop i s) → e ≡ length s → piecesAt c s i ≡ take (e - i) (drop i s) ∷ []
+  pub last-at : (s : List ℕ) (i e : ℕ) → i ≤ length s → e ≡ i + countUpTo c (drop i s) → e ≡ length s → piecesAt c s i ≡ take (e - i) (drop i s) ∷ []
   last-at s i e h q l = pieces-at s i e h q ∙ ap (λ (ls : List (List ℕ)). take (e - i) (drop i s) ∷ ls) (past-end s (e + 1) (omega arith))
 
   -- one that does not has another behind it
@@ -93,13 +93,13 @@ module _ (c : ℕ) where
     pub at : piecesAt c s i ≡ take (e - i) (drop i s) ∷ next ∷ behind
     pub on : piecesAt c s (e + 1) ≡ next ∷ behind
 
-  pub more-at : (s : List ℕ) (i e : ℕ) → i ≤ length s → e ≡ i + upTo c (drop i s) → e < length s → More s i e
+  pub more-at : (s : List ℕ) (i e : ℕ) → i ≤ length s → e ≡ i + countUpTo c (drop i s) → e < length s → More s i e
   more-at s i e h q l =
-      let b : piecesAt c s (e + 1) ≡ take (upTo c (drop (e + 1) s)) (drop (e + 1) s) ∷ piecesAt c (drop (e + 1) s) (upTo c (drop (e + 1) s) + 1) =
+      let b : piecesAt c s (e + 1) ≡ take (countUpTo c (drop (e + 1) s)) (drop (e + 1) s) ∷ piecesAt c (drop (e + 1) s) (countUpTo c (drop (e + 1) s) + 1) =
       at-from s (e + 1) (omega arith) ∙ first-piece (drop (e + 1) s) in
       record {
-        next = take (upTo c (drop (e + 1) s)) (drop (e + 1) s);
-        behind = piecesAt c (drop (e + 1) s) (upTo c (drop (e + 1) s) + 1);
+        next = take (countUpTo c (drop (e + 1) s)) (drop (e + 1) s);
+        behind = piecesAt c (drop (e + 1) s) (countUpTo c (drop (e + 1) s) + 1);
         at = pieces-at s i e h q ∙ ap (λ (ls : List (List ℕ)). take (e - i) (drop i s) ∷ ls) b;
         on = b;
       }
@@ -116,7 +116,7 @@ module _ (c : ℕ) where
   piece-last (x ∷ l) e = rw (isnt (eqb x c) (left (other c x) (without c l) e), piece-last l (right (other c x) (without c l) e))
 
   pub some-piece : (s : List ℕ) → pieces c s ≡ [] → ⊥
-  some-piece s e = let z : _≡_ {A = ℕ} (length (pieces c s)) 0 = ap length e in let y : length (pieces c s) ≡ suc (length (piecesAt c s (upTo c s + 1))) = ap length (first-piece s) in omega arith
+  some-piece s e = let z : _≡_ {A = ℕ} (length (pieces c s)) 0 = ap length e in let y : length (pieces c s) ≡ suc (length (piecesAt c s (countUpTo c s + 1))) = ap length (first-piece s) in omega arith
 
 pub piece-length : (s : List ℕ) (i e : ℕ) → i ≤ e → e ≤ length s → length (take (e - i) (drop i s)) ≡ e - i
 piece-length s i e h l = length-take-le (e - i) (drop i s) (omega (arith, length-drop i s))

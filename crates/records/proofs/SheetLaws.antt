@@ -28,30 +28,30 @@ line-record (x ∷ xs) = go (eqb x 9) (pieces 9 xs) refl (some-piece 9 xs) (line
     go false (p ∷ ps) e n h = ap (λ (r : List ℕ). x ∷ r) h
 
 -- the lines of a sheet, and the sheet
-abbrev pub laid : List (List ℕ) → List ℕ
-laid [] = []
-laid (l ∷ ls) = l ++ 10 ∷ laid ls
+abbrev pub withLf : List (List ℕ) → List ℕ
+withLf [] = []
+withLf (l ∷ ls) = l ++ 10 ∷ withLf ls
 
-pub laid-pieces : (s : List ℕ) → laid (front (pieces 10 s)) ++ final (pieces 10 s) ≡ s
+pub lf-pieces : (s : List ℕ) → withLf (front (pieces 10 s)) ++ final (pieces 10 s) ≡ s
 unfolding pieces
-laid-pieces [] = refl
-laid-pieces (x ∷ xs) = go (eqb x 10) (pieces 10 xs) refl (some-piece 10 xs) (laid-pieces xs)
+lf-pieces [] = refl
+lf-pieces (x ∷ xs) = go (eqb x 10) (pieces 10 xs) refl (some-piece 10 xs) (lf-pieces xs)
   where
-    go : (q : Bool) (ls : List (List ℕ)) → eqb x 10 ≡ q → (ls ≡ [] → ⊥) → laid (front ls) ++ final ls ≡ xs
-        → laid (front (pick q ([] ∷ ls) (onto x ls))) ++ final (pick q ([] ∷ ls) (onto x ls)) ≡ x ∷ xs
+    go : (q : Bool) (ls : List (List ℕ)) → eqb x 10 ≡ q → (ls ≡ [] → ⊥) → withLf (front ls) ++ final ls ≡ xs
+        → withLf (front (pick q ([] ∷ ls) (onto x ls))) ++ final (pick q ([] ∷ ls) (onto x ls)) ≡ x ∷ xs
     go q [] e n h = absurd (n refl)
     go true (l ∷ ls) e n h = ap₂ (λ (y : ℕ) (r : List ℕ). y ∷ r) (sym (eqb-true x 10 e)) h
     go false (l ∷ []) e n h = ap (λ (r : List ℕ). x ∷ r) h
     go false (l ∷ k ∷ ls) e n h = ap (λ (r : List ℕ). x ∷ r) h
 
-sheet-lines : (ls : List (List ℕ)) → sheet (map recordOf ls) ≡ laid ls
+sheet-lines : (ls : List (List ℕ)) → sheet (map recordOf ls) ≡ withLf ls
 sheet-lines [] = refl
 sheet-lines (l ∷ ls) = ap₂ (λ (k r : List ℕ). k ++ 10 ∷ r) (line-record l) (sheet-lines ls)
 
 -- any bytes are the records that are ended, written again, and the rest
 pub sheet-rest : (s : List ℕ) → sheet (records s) ++ rest s ≡ s
 unfolding records rest
-sheet-rest s = ap (λ (r : List ℕ). r ++ final (pieces 10 s)) (sheet-lines (front (pieces 10 s))) ∙ laid-pieces s
+sheet-rest s = ap (λ (r : List ℕ). r ++ final (pieces 10 s)) (sheet-lines (front (pieces 10 s))) ∙ lf-pieces s
 
 pub sheet-whole : (s : List ℕ) → rest s ≡ [] → sheet (records s) ≡ s
 sheet-whole s e = sym (append-nil (sheet (records s))) ∙ ap (λ (r : List ℕ). sheet (records s) ++ r) (sym e) ∙ sheet-rest s
@@ -61,9 +61,9 @@ rest-ended : (s : List ℕ) → ended s ≡ true → rest s ≡ []
 unfolding rest pieces
 rest-ended [] e = refl
 rest-ended (x ∷ []) e = ap (λ (q : Bool). final (pick q ([] ∷ [] ∷ []) ((x ∷ []) ∷ []))) e
-rest-ended (x ∷ y ∷ r) e = go (eqb x 10) (pieces 10 (y ∷ r)) (some-piece 10 (y ∷ r)) (laid-pieces (y ∷ r)) (rest-ended (y ∷ r) e)
+rest-ended (x ∷ y ∷ r) e = go (eqb x 10) (pieces 10 (y ∷ r)) (some-piece 10 (y ∷ r)) (lf-pieces (y ∷ r)) (rest-ended (y ∷ r) e)
   where
-    go : (q : Bool) (ls : List (List ℕ)) → (ls ≡ [] → ⊥) → laid (front ls) ++ final ls ≡ y ∷ r → final ls ≡ [] → final (pick q ([] ∷ ls) (onto x ls)) ≡ []
+    go : (q : Bool) (ls : List (List ℕ)) → (ls ≡ [] → ⊥) → withLf (front ls) ++ final ls ≡ y ∷ r → final ls ≡ [] → final (pick q ([] ∷ ls) (onto x ls)) ≡ []
     go q [] n h i = absurd (n refl)
     go true (l ∷ ls) n h i = i
     go false (l ∷ []) n h i = let z : _≡_ {A = ℕ} 0 (suc (length r)) = ap length (sym i ∙ h) in absurd (omega arith)

@@ -6,7 +6,7 @@ use mathlib.Core.List.{List, [], _∷_, map, tail}
 use native.Mathlib.Omega.{arith}
 use lib.ListN.{length, take, drop}
 use Rattle.base.specs.Choice.{pick, all}
-use Rattle.base.specs.Bytes.{begins, same, upTo}
+use Rattle.base.specs.Bytes.{begins, same, countUpTo}
 use Rattle.base.specs.Quoted.{bytes}
 use Rattle.base.proofs.Bools.{left, right, both}
 use Rattle.fields.specs.Field.{field, tagOf}
@@ -15,25 +15,25 @@ use Rattle.types.specs.declared.Form.{Form}
 use Rattle.types.specs.Sign.{firstLine, signOf}
 use Rattle.roles.specs.Role.{Part, copy, name, taxName, taxed, cast, shapeOf}
 use Rattle.contents.specs.Tests.{looksTax}
-use Rattle.roles.specs.Rule14.{isInn}
+use Rattle.roles.specs.Rule14.{isCyrillicInn}
 use Rattle.roles.specs.declared.Shape.{Shape}
 use Rattle.records.specs.Record.{Record, line, sheet, pieces, front, final, recordOf, records, rest, begun}
 use Rattle.records.specs.Found.{partsIn, piecesAt}
 use Rattle.records.specs.Rule19.{good, formIn, namedForm, sheetSign, sheetForm}
-use Rattle.records.specs.Sentences.{Right, plain, agent, payer, payee, details, note103, note202, Sound}
+use Rattle.records.specs.Sentences.{RightParts, plain, agent, payer, payee, details, note103, note202, SoundSheet}
 use Rattle.records.proofs.SheetLaws.{line-record, sheet-whole}
 use Rattle.records.proofs.WalkLaws.{first-size, none-ended, head-record}
 use Rattle.records.proofs.RuleLaws.{sound-right, named, named-size}
 
 -- ---- one record
-pub good-right : (form : Form) (s : Bool) (r : Record) → good form s r ≡ true → (shaped (tagOf r) ≡ true) × Right s (shapeOf form (tagOf r)) (partsIn r)
+pub good-right : (form : Form) (s : Bool) (r : Record) → good form s r ≡ true → (shaped (tagOf r) ≡ true) × RightParts s (shapeOf form (tagOf r)) (partsIn r)
 good-right form s (field t ps) e = (left (shaped t) _ e, sound-right s (shapeOf form t) ps (right (shaped t) _ e))
 
 -- with the sign, no name in the tax place begins with Cyrillic INN and a digit
 abbrev pub calm : Part → Bool
 calm (copy p) = true
 calm (name p) = true
-calm (taxName p) = not (isInn p)
+calm (taxName p) = not (isCyrillicInn p)
 
 calm-map : (f : List ℕ → Part) → ((p : List ℕ) → calm (f p) ≡ true) → (ps : List (List ℕ)) → all calm (map f ps) ≡ true
 calm-map f h [] = refl
@@ -42,7 +42,7 @@ calm-map f h (p ∷ ps) = both (h p) (calm-map f h ps)
 calm-names : (ps : List (List ℕ)) → all calm (map name ps) ≡ true
 calm-names = calm-map name (λ p. refl)
 
-calm-taxed : (ps : List (List ℕ)) → isInn (firstLine ps) ≡ false → all calm (taxed ps) ≡ true
+calm-taxed : (ps : List (List ℕ)) → isCyrillicInn (firstLine ps) ≡ false → all calm (taxed ps) ≡ true
 calm-taxed [] e = refl
 calm-taxed (p ∷ ps) e = both (go (looksTax p)) (calm-names ps)
   where
@@ -50,13 +50,13 @@ calm-taxed (p ∷ ps) e = both (go (looksTax p)) (calm-names ps)
     go true = refl
     go false = ap not e
 
-pub cast-calm : (sh : Shape) (ps : List (List ℕ)) → Right true sh ps → all calm (cast sh ps) ≡ true
+pub cast-calm : (sh : Shape) (ps : List (List ℕ)) → RightParts true sh ps → all calm (cast sh ps) ≡ true
 unfolding cast
 cast-calm _ _ (plain p ps e g) = calm-map copy (λ p. refl) (p ∷ ps)
 cast-calm _ _ (agent p ps e g) = calm-names ps
 cast-calm _ _ (payer p ps e g f) = go (begins 47 p) (f refl)
   where
-    go : (b : Bool) → isInn (pick b (firstLine ps) p) ≡ false → all calm (pick b (copy p ∷ taxed ps) (taxed (p ∷ ps))) ≡ true
+    go : (b : Bool) → isCyrillicInn (pick b (firstLine ps) p) ≡ false → all calm (pick b (copy p ∷ taxed ps) (taxed (p ∷ ps))) ≡ true
     go true h = calm-taxed ps h
     go false h = calm-taxed (p ∷ ps) h
 cast-calm _ _ (payee p ps e g f) = both (go (begins 47 p)) (calm-taxed ps (f refl))
@@ -79,7 +79,7 @@ sign-front [] e = refl
 sign-front (l ∷ []) e = ap (λ (k : List ℕ). signOf (recordOf k ∷ [])) e
 sign-front (l ∷ k ∷ ls) e = sign-cons (recordOf l) (map recordOf (k ∷ ls)) (map recordOf (front (k ∷ ls))) (sign-front (k ∷ ls) e)
 
-module _ (s : List ℕ) (h : Sound s) where
+module _ (s : List ℕ) (h : SoundSheet s) where
   -- the sheet is its records written
   pub sound-sheet : s ≡ sheet (h .head ∷ h .behind)
   sound-sheet = sym (sheet-whole s (h .ended)) ∙ ap sheet (h .list)
@@ -100,7 +100,7 @@ module _ (s : List ℕ) (h : Sound s) where
 
   -- the first line is six bytes, and the records behind it are those from place 7 on
   abbrev first : ℕ
-  first = 0 + upTo 10 (drop 0 s)
+  first = 0 + countUpTo 10 (drop 0 s)
 
   goes-on : first ≡ length s → ⊥
   goes-on z = let n : _≡_ {A = ℕ} 0 (length (h .head ∷ h .behind)) = ap length (sym (none-ended s first refl refl z) ∙ h .list) in absurd (omega arith)

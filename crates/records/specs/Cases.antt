@@ -1,27 +1,16 @@
 -- Worked examples of sheets, as one list (S1-S11, N18, N19). That they hold is proved in proofs/Examples.antt. Assumes nothing.
-use Prim.Native.Nat.{ℕ, _-_}
-use Prim.Native.Char.{code}
-use Prim.Native.String as string
+use Prim.Native.Nat.{ℕ}
 use Prim.Native.String.{String}
 use mathlib.Core.Path.{_≡_}
 use mathlib.Core.Bool.{Bool, true, false}
 use mathlib.Core.List.{List, [], _∷_, _++_}
-use lib.Dec.{eqb, leb}
-use Rattle.base.specs.Choice.{pick}
+use Rattle.base.specs.Quoted.{desk}
 use Rattle.base.specs.declared.Verdict.the-variants.{Fine, Broken}
 use Rattle.fields.specs.Field.{field}
 use Rattle.types.specs.Form.{formOf}
 use Rattle.records.specs.Record.{Record, sheet, records, rest}
 use Rattle.records.specs.Places.{startsOf, partsOf}
-use Rattle.records.specs.Rule19.{sheetVerdict, sheetForm, sheetSign}
-
--- a text in windows-1251
-abbrev pub byteOf : ℕ → ℕ
-byteOf c = pick (leb 1040 c) (c - 848) (pick (eqb c 1025) 168 c)
-
-abbrev pub desk : String → List ℕ
-desk string.[] = []
-desk (string._∷_ c s) = byteOf (code c) ∷ desk s
+use Rattle.records.specs.Rule19.{verdict19And18, sheetForm, sheetSign}
 
 pub data Case : Type 0 where
   -- the sheet is refused, of 19 and 18, by this number at this place
@@ -36,8 +25,8 @@ pub data Case : Type 0 where
   parts : ℕ → Record → List ℕ → Case
 
 abbrev pub Holds : Case → Type 0
-Holds (refused s n p) = sheetVerdict (desk s) ≡ Broken n p
-Holds (taken s k g) = (sheetVerdict (desk s) ≡ Fine) × (sheetForm (desk s) ≡ formOf k) × (sheetSign (desk s) ≡ g)
+Holds (refused s n p) = verdict19And18 (desk s) ≡ Broken n p
+Holds (taken s k g) = (verdict19And18 (desk s) ≡ Fine) × (sheetForm (desk s) ≡ formOf k) × (sheetSign (desk s) ≡ g)
 Holds (signed s g) = sheetSign (desk s) ≡ g
 Holds (reads s rs w ps) = (records (desk s) ≡ rs) × (rest (desk s) ≡ desk w) × (sheet rs ++ desk w ≡ desk s) × (startsOf 0 rs ≡ ps)
 Holds (parts o r ps) = partsOf o r ≡ ps

@@ -29,10 +29,10 @@ unfoldable pub tagNumber : List ℕ → ℕ
 tagNumber t = pick (shaped t) (pack t) 0
 
 -- 19 over the lines from o on, the last of which no LF ends
-unfoldable pub badLine : Form → Bool → ℕ → List (List ℕ) → Verdict
-badLine form s o [] = Fine
-badLine form s o (l ∷ []) = pick (empty l) Fine (Broken 19 o)
-badLine form s o (l ∷ k ∷ ls) = pick (good form s (recordOf l)) (badLine form s (o + length l + 1) (k ∷ ls)) (Broken 19 o)
+unfoldable pub badSheetLine : Form → Bool → ℕ → List (List ℕ) → Verdict
+badSheetLine form s o [] = Fine
+badSheetLine form s o (l ∷ []) = pick (empty l) Fine (Broken 19 o)
+badSheetLine form s o (l ∷ k ∷ ls) = pick (good form s (recordOf l)) (badSheetLine form s (o + length l + 1) (k ∷ ls)) (Broken 19 o)
 
 -- what a sheet comes to whose first record names no type
 abbrev pub noType : Bool → Judged

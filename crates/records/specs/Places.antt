@@ -6,18 +6,18 @@ use Rattle.fields.specs.Field.{field}
 use Rattle.records.specs.Record.{Record, line}
 
 -- how many bytes records take, with their LF
-abbrev pub sizeOf : List Record → ℕ
-sizeOf [] = 0
-sizeOf (r ∷ rs) = length (line r) + 1 + sizeOf rs
+abbrev pub recordsSize : List Record → ℕ
+recordsSize [] = 0
+recordsSize (r ∷ rs) = length (line r) + 1 + recordsSize rs
 
 -- where the record behind one that starts at o starts
-abbrev pub nextOf : ℕ → Record → ℕ
-nextOf o r = o + length (line r) + 1
+abbrev pub nextRecord : ℕ → Record → ℕ
+nextRecord o r = o + length (line r) + 1
 
 -- where each record starts, the first at o
 abbrev pub startsOf : ℕ → List Record → List ℕ
 startsOf o [] = []
-startsOf o (r ∷ rs) = o ∷ startsOf (nextOf o r) rs
+startsOf o (r ∷ rs) = o ∷ startsOf (nextRecord o r) rs
 
 -- where each part starts, the first at o
 abbrev pub partsFrom : ℕ → List (List ℕ) → List ℕ

@@ -2,8 +2,6 @@
 use Prim.Native.Nat.{ℕ, _+_, _*_, _-_}
 use mathlib.Core.Bool.{Bool, false, not, _&&_}
 use mathlib.Core.List.{List, [], _∷_}
-use lib.Dec.{eqb}
-use lib.ListN.{length}
 use Rattle.base.specs.Choice.{pick, all}
 use Rattle.base.specs.Bytes.{byte, digit, begins, empty, same}
 use Rattle.base.specs.Quoted.{bytes}
@@ -17,18 +15,19 @@ use Rattle.types.specs.declared.Form.the-variants.{Other}
 use Rattle.types.specs.Form.{formOf}
 use Rattle.types.specs.Walk.{rule18}
 use Rattle.types.specs.Sign.{firstLine, signOf}
+use Rattle.contents.specs.Tests.{just}
 use Rattle.roles.specs.Role.{shapeOf}
-use Rattle.roles.specs.Rule14.{isInn}
+use Rattle.roles.specs.Rule14.{isCyrillicInn}
 use Rattle.roles.specs.declared.Shape.{Shape}
 use Rattle.roles.specs.declared.Shape.the-variants.{Plain, Payer, Payee, Agent, Details, Note103, Note202}
 use Rattle.records.specs.Record.{Record, records, rest, begun}
-use Rattle.records.specs.Places.{nextOf}
+use Rattle.records.specs.Places.{nextRecord}
 use Rattle.records.specs.declared.Judged.{Judged}
 
 -- ---- parts
 -- n digits
-unfoldable pub digits : ℕ → List ℕ → Bool
-digits n p = eqb (length p) n && all digit p
+unfoldable pub isDigits : ℕ → List ℕ → Bool
+isDigits n p = just digit n p
 
 -- S3: at least one part, none empty, none from the second on beginning with : or -
 unfoldable pub general : List (List ℕ) → Bool
@@ -44,12 +43,12 @@ sole (p ∷ q ∷ ps) = false
 -- VO digits and text
 abbrev pub detailed : List (List ℕ) → Bool
 detailed [] = false
-detailed (v ∷ ps) = digits 5 v && sole ps
+detailed (v ∷ ps) = isDigits 5 v && sole ps
 
 -- what follows /RPP/ or an empty part, then VO digits and text
-abbrev pub noted : List (List ℕ) → Bool
-noted [] = false
-noted (r ∷ ps) = detailed ps
+abbrev pub rppAndDetailed : List (List ℕ) → Bool
+rppAndDetailed [] = false
+rppAndDetailed (r ∷ ps) = detailed ps
 
 -- S6: the part in the tax place, empty where there is none
 abbrev pub taxPart : Shape → List (List ℕ) → List ℕ
@@ -65,7 +64,7 @@ taxPart Note202 ps = []
 
 -- S5: with the sign s, it does not begin with Cyrillic INN and a digit
 unfoldable pub untaxed : Bool → List ℕ → Bool
-untaxed s p = not (s && isInn p)
+untaxed s p = not (s && isCyrillicInn p)
 
 -- ---- records
 -- the parts of a record are right, by the shape of its tag; a tag not of the type is Plain
@@ -76,27 +75,27 @@ sound s Payer ps = general ps && untaxed s (taxPart Payer ps)
 sound s Payee ps = general ps && untaxed s (taxPart Payee ps)
 sound s Details ps = detailed ps
 sound s Note103 ps = sole ps
-sound s Note202 ps = noted ps
+sound s Note202 ps = rppAndDetailed ps
 
 -- a record behind the first; that MT is no tag of the right shape refuses a second one
 abbrev pub good : Form → Bool → Record → Bool
 good form s (field t ps) = shaped t && sound s (shapeOf form t) ps
 
 -- the first: MT, and just one part of three digits
-abbrev pub numbered : List (List ℕ) → Bool
-numbered [] = false
-numbered (p ∷ []) = digits 3 p
-numbered (p ∷ q ∷ ps) = false
+abbrev pub isTypePart : List (List ℕ) → Bool
+isTypePart [] = false
+isTypePart (p ∷ []) = isDigits 3 p
+isTypePart (p ∷ q ∷ ps) = false
 
 abbrev pub typed : Record → Bool
-typed (field t ps) = same t (bytes "MT") && numbered ps
+typed (field t ps) = same t (bytes "MT") && isTypePart ps
 
 -- the form of the type that the first record names, if it names one
-abbrev pub number : List ℕ → ℕ
-number p = (byte p 0 - 48) * 100 + (byte p 1 - 48) * 10 + (byte p 2 - 48)
+abbrev pub typeNumber : List ℕ → ℕ
+typeNumber p = (byte p 0 - 48) * 100 + (byte p 1 - 48) * 10 + (byte p 2 - 48)
 
 abbrev pub formIn : Record → Form
-formIn (field t ps) = pick (typed (field t ps)) (formOf (number (firstLine ps))) Other
+formIn (field t ps) = pick (typed (field t ps)) (formOf (typeNumber (firstLine ps))) Other
 
 abbrev pub namedForm : List Record → Form
 namedForm [] = Other
@@ -106,12 +105,12 @@ namedForm (r ∷ rs) = formIn r
 -- the first bad record from o on, by its first byte, then one that no LF ends: w, what stands behind the last LF
 unfoldable pub badFrom : Form → Bool → ℕ → List Record → List ℕ → Verdict
 badFrom form s o [] w = pick (empty w) Fine (Broken 19 o)
-badFrom form s o (r ∷ rs) w = pick (good form s r) (badFrom form s (nextOf o r) rs w) (Broken 19 o)
+badFrom form s o (r ∷ rs) w = pick (good form s r) (badFrom form s (nextRecord o r) rs w) (Broken 19 o)
 
 -- a sheet without an ended record is 19 at 0, empty or not
 unfoldable pub judge : Bool → List Record → List ℕ → Verdict
 judge s [] w = Broken 19 0
-judge s (r ∷ rs) w = pick (typed r) (badFrom (formIn r) s (nextOf 0 r) rs w) (Broken 19 0)
+judge s (r ∷ rs) w = pick (typed r) (badFrom (formIn r) s (nextRecord 0 r) rs w) (Broken 19 0)
 
 -- S8: every record counts for the sign, ended or not
 unfoldable pub sheetSign : List ℕ → Bool
@@ -124,8 +123,8 @@ unfoldable pub rule19 : List ℕ → Verdict
 rule19 s = judge (sheetSign s) (records s) (rest s)
 
 -- ---- 19, then 18 of the type named
-unfoldable pub sheetVerdict : List ℕ → Verdict
-sheetVerdict s = first (rule19 s ∷ rule18 (sheetForm s) ∷ [])
+unfoldable pub verdict19And18 : List ℕ → Verdict
+verdict19And18 s = first (rule19 s ∷ rule18 (sheetForm s) ∷ [])
 
 unfoldable pub judged : List ℕ → Judged
-judged s = record { verdict = sheetVerdict s; form = sheetForm s; sign = sheetSign s }
+judged s = record { verdict = verdict19And18 s; form = sheetForm s; sign = sheetSign s }

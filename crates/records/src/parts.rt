@@ -6,7 +6,7 @@ ghost use Rattle.types.specs.Sign.{firstLine};
 ghost use Rattle.roles.specs.declared.Shape.the-variants.{Payer, Payee};
 ghost use Rattle.records.specs.Record.{recordOf};
 ghost use Rattle.records.specs.Found.{piecesAt};
-ghost use Rattle.records.specs.Rule19.{digits, general, sole, detailed, noted, untaxed, sound, good};
+ghost use Rattle.records.specs.Rule19.{isDigits, general, sole, detailed, rppAndDetailed, untaxed, sound, good};
 use super::tags::tag_number;
 use base::bytes::is_digit;
 use base::marks::mark_at;
@@ -71,7 +71,7 @@ fn is_sole(l: &[u8], i: usize) -> bool
 }
 
 pub(crate) fn is_digits(n: usize, p: &[u8]) -> bool
-    ensures { λ r. ⌜ r ≡ digits n (now (p .entry)) ⌝ }
+    ensures { λ r. ⌜ r ≡ isDigits n (now (p .entry)) ⌝ }
 {
     if p.len() != n {
         return false;
@@ -99,8 +99,8 @@ fn is_detailed(l: &[u8], i: usize) -> bool
     is_sole(l, e + 1)
 }
 
-fn is_noted(l: &[u8], i: usize) -> bool
-    ensures { λ r. ⌜ r ≡ noted (piecesAt 9 (now (l .entry)) i) ⌝ }
+fn is_rpp_and_detailed(l: &[u8], i: usize) -> bool
+    ensures { λ r. ⌜ r ≡ rppAndDetailed (piecesAt 9 (now (l .entry)) i) ⌝ }
 {
     if l.len() < i {
         return false;
@@ -157,7 +157,7 @@ fn is_sound(shape: Shape, sign: bool, l: &[u8], i: usize) -> bool
         Shape::Agent => is_general(l, i),
         Shape::Details => is_detailed(l, i),
         Shape::Note103 => is_sole(l, i),
-        Shape::Note202 => is_noted(l, i),
+        Shape::Note202 => is_rpp_and_detailed(l, i),
     }
 }
 

@@ -11,8 +11,8 @@ ghost use Rattle.types.specs.Walk.{rule18};
 ghost use Rattle.types.specs.Sign.{firstLine};
 ghost use Rattle.fields.specs.Field.{tagOf};
 ghost use Rattle.records.specs.Record.{recordOf};
-ghost use Rattle.records.specs.Found.{partsIn, piecesAt, badLine, noType};
-ghost use Rattle.records.specs.Rule19.{digits, typed, number, sheetSign, judged};
+ghost use Rattle.records.specs.Found.{partsIn, piecesAt, badSheetLine, noType};
+ghost use Rattle.records.specs.Rule19.{isDigits, typed, typeNumber, sheetSign, judged};
 use super::Judged;
 use super::parts::is_digits;
 use super::parts::is_good;
@@ -87,8 +87,8 @@ fn is_typed(l: &[u8]) -> bool
 }
 
 fn number_of(p: &[u8]) -> u32
-    requires { ⌜ digits 3 (now p) ≡ true ⌝ }
-    ensures { λ r. ⌜ r ≡ number (now (p .entry)) ⌝ }
+    requires { ⌜ isDigits 3 (now p) ≡ true ⌝ }
+    ensures { λ r. ⌜ r ≡ typeNumber (now (p .entry)) ⌝ }
 {
     (p[0] as u32 - ZERO) * 100 + (p[1] as u32 - ZERO) * 10 + (p[2] as u32 - ZERO)
 }
@@ -96,7 +96,7 @@ fn number_of(p: &[u8]) -> u32
 // The first bad record from a place on.
 fn bad_record(s: &[u8], form: Form, sign: bool, from: usize) -> Verdict
     requires { ⌜ from ≤ length (now s) ⌝ }
-    ensures { λ r. ⌜ r ≡ badLine form sign from (piecesAt 10 (now (s .entry)) from) ⌝ }
+    ensures { λ r. ⌜ r ≡ badSheetLine form sign from (piecesAt 10 (now (s .entry)) from) ⌝ }
 {
     let mut at = from;
     while at < s.len() {
@@ -121,7 +121,7 @@ fn bad_record(s: &[u8], form: Form, sign: bool, from: usize) -> Verdict
 // 18 behind 19, of the records from a place on.
 fn behind_type(s: &[u8], form: Form, sign: bool, from: usize) -> Verdict
     requires { ⌜ from ≤ length (now s) ⌝ }
-    ensures { λ r. ⌜ r ≡ then (badLine form sign from (piecesAt 10 (now (s .entry)) from)) (rule18 form) ⌝ }
+    ensures { λ r. ⌜ r ≡ then (badSheetLine form sign from (piecesAt 10 (now (s .entry)) from)) (rule18 form) ⌝ }
 {
     let v = bad_record(s, form, sign, from);
     let Verdict::Fine = v else {

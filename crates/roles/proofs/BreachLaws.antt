@@ -16,16 +16,16 @@ use Rattle.base.specs.declared.Verdict.the-variants.{Fine, Broken}
 use Rattle.base.proofs.RuleLaws.{fine-broken}
 use Rattle.alphabets.specs.Bank.{reading}
 use Rattle.fields.specs.Field.{Field, field, lined, linesOf}
-use Rattle.fields.specs.Places.{sizeOf, nextOf}
+use Rattle.fields.specs.Places.{linesSize, nextOf}
 use Rattle.fields.proofs.PlaceLaws.{size-append}
 use Rattle.contents.specs.Tests.{looksTax}
 use Rattle.contents.specs.Parts.{opensRpp}
 use Rattle.roles.specs.Role.{Part, copy, name, taxName, lineOf, shapeOf, taxed, cast}
-use Rattle.roles.specs.Speech.{Manner, named, taxPlaced, told, Speech, speech, saidAt, names, details, codeSize, noted, speeches}
+use Rattle.roles.specs.Speech.{Manner, asName, asTaxName, asDetails, Speech, speech, saidAt, nameSpeeches, detailsSpeech, codeSize, noteSpeeches, speeches}
 use Rattle.types.specs.declared.Form.{Form}
 use Rattle.types.specs.Sign.{signOf}
-use Rattle.roles.specs.Rule14.{texts, mute, hidden, taxLike, clauses, breaks, unheard, spoken, rule14}
-use Rattle.roles.specs.Sentences.{Breach, unreadable, wordless, nameHides, taxHides, likeTax, Heard, FirstBreach, Within, NoneBefore}
+use Rattle.roles.specs.Rule14.{texts, mute, hidden, taxLike, clauses, breaks14, unheard, speechesOf, rule14}
+use Rattle.roles.specs.Sentences.{Breach, unreadable, wordless, nameHides, taxHides, likeTax, Heard, FirstBreach, Rising, NoneBefore}
 use Rattle.roles.specs.declared.Shape.{Shape}
 use Rattle.roles.specs.declared.Shape.the-variants.{Plain, Payer, Payee, Agent, Details, Note103, Note202}
 
@@ -37,41 +37,41 @@ or-right : (a b : Bool) → b ≡ true → (a || b) ≡ true
 or-right true b e = refl
 or-right false b e = e
 
-pub breaks-breach : (m : Manner) (b : List ℕ) → breaks m b ≡ true → Breach m b
-unfolding breaks
+pub breaks-breach : (m : Manner) (b : List ℕ) → breaks14 m b ≡ true → Breach m b
+unfolding breaks14
 breaks-breach m b e = go m (reading true b) refl e
   where
     go : (m : Manner) (a : Answer) → reading true b ≡ a → clauses m (mute a) b (textOf a) ≡ true → Breach m b
     go m (stuck k) r e = unreadable k r
     go m (said []) r e = wordless r
-    go told (said (x ∷ d)) r e = absurd (false≢true e)
-    go named (said (x ∷ d)) r e = nameHides (x ∷ d) r e
-    go taxPlaced (said (x ∷ d)) r e = by (hidden b (x ∷ d)) refl e
+    go asDetails (said (x ∷ d)) r e = absurd (false≢true e)
+    go asName (said (x ∷ d)) r e = nameHides (x ∷ d) r e
+    go asTaxName (said (x ∷ d)) r e = by (hidden b (x ∷ d)) refl e
       where
-        by : (q : Bool) → hidden b (x ∷ d) ≡ q → (q || taxLike (x ∷ d)) ≡ true → Breach taxPlaced b
+        by : (q : Bool) → hidden b (x ∷ d) ≡ q → (q || taxLike (x ∷ d)) ≡ true → Breach asTaxName b
         by true h e = taxHides (x ∷ d) r h
         by false h e = likeTax (x ∷ d) r e
 
 pub first-clause : (m : Manner) (b d : List ℕ) → clauses m true b d ≡ true
-first-clause told b d = refl
-first-clause named b d = refl
-first-clause taxPlaced b d = refl
+first-clause asDetails b d = refl
+first-clause asName b d = refl
+first-clause asTaxName b d = refl
 
-pub breach-breaks : (m : Manner) (b : List ℕ) → Breach m b → breaks m b ≡ true
-unfolding breaks
+pub breach-breaks : (m : Manner) (b : List ℕ) → Breach m b → breaks14 m b ≡ true
+unfolding breaks14
 breach-breaks m b (unreadable k r) = ap (λ (a : Answer). clauses m (mute a) b (textOf a)) r ∙ first-clause m b []
 breach-breaks m b (wordless r) = ap (λ (a : Answer). clauses m (mute a) b (textOf a)) r ∙ first-clause m b []
-breach-breaks named b (nameHides d r h) = ap (λ (a : Answer). clauses named (mute a) b (textOf a)) r ∙ or-right (empty d) (hidden b d) h
-breach-breaks taxPlaced b (taxHides d r h) = ap (λ (a : Answer). clauses taxPlaced (mute a) b (textOf a)) r ∙ or-right (empty d) (hidden b d || taxLike d) (or-left (hidden b d) (taxLike d) h)
-breach-breaks taxPlaced b (likeTax d r h) = ap (λ (a : Answer). clauses taxPlaced (mute a) b (textOf a)) r ∙ or-right (empty d) (hidden b d || taxLike d) (or-right (hidden b d) (taxLike d) h)
+breach-breaks asName b (nameHides d r h) = ap (λ (a : Answer). clauses asName (mute a) b (textOf a)) r ∙ or-right (empty d) (hidden b d) h
+breach-breaks asTaxName b (taxHides d r h) = ap (λ (a : Answer). clauses asTaxName (mute a) b (textOf a)) r ∙ or-right (empty d) (hidden b d || taxLike d) (or-left (hidden b d) (taxLike d) h)
+breach-breaks asTaxName b (likeTax d r h) = ap (λ (a : Answer). clauses asTaxName (mute a) b (textOf a)) r ∙ or-right (empty d) (hidden b d || taxLike d) (or-right (hidden b d) (taxLike d) h)
 
 -- ---- over placed texts
 pub unheard-heard : (xs : List Speech) → unheard xs ≡ Fine → Heard xs
 unfolding unheard
 unheard-heard [] e = tt
-unheard-heard (speech m o b ∷ xs) e = go (breaks m b) refl e (unheard-heard xs)
+unheard-heard (speech m o b ∷ xs) e = go (breaks14 m b) refl e (unheard-heard xs)
   where
-    go : (q : Bool) → breaks m b ≡ q → pick q (Broken 14 o) (unheard xs) ≡ Fine → (unheard xs ≡ Fine → Heard xs) → (breaks m b ≡ false) × Heard xs
+    go : (q : Bool) → breaks14 m b ≡ q → pick q (Broken 14 o) (unheard xs) ≡ Fine → (unheard xs ≡ Fine → Heard xs) → (breaks14 m b ≡ false) × Heard xs
     go true h e r = absurd (fine-broken 14 o (sym e))
     go false h e r = (h, r e)
 
@@ -83,7 +83,7 @@ heard-append (speech m o b ∷ xs) ys h = ap (λ (q : Bool). pick q (Broken 14 o
 pub unheard-append : (xs ys : List Speech) → unheard (xs ++ ys) ≡ then (unheard xs) (unheard ys)
 unfolding unheard
 unheard-append [] ys = refl
-unheard-append (speech m o b ∷ xs) ys = go (breaks m b) (unheard-append xs ys)
+unheard-append (speech m o b ∷ xs) ys = go (breaks14 m b) (unheard-append xs ys)
   where
     go : (q : Bool) → unheard (xs ++ ys) ≡ then (unheard xs) (unheard ys) → pick q (Broken 14 o) (unheard (xs ++ ys)) ≡ then (pick q (Broken 14 o) (unheard xs)) (unheard ys)
     go true e = refl
@@ -101,9 +101,9 @@ fine-iff xs = (unheard-heard xs, heard-fine xs)
 broken-first : (xs : List Speech) (n p : ℕ) → unheard xs ≡ Broken n p → (n ≡ 14) × FirstBreach xs p
 unfolding unheard
 broken-first [] n p e = absurd (fine-broken n p e)
-broken-first (speech m o b ∷ xs) n p e = go (breaks m b) refl e (broken-first xs n p)
+broken-first (speech m o b ∷ xs) n p e = go (breaks14 m b) refl e (broken-first xs n p)
   where
-    go : (q : Bool) → breaks m b ≡ q → pick q (Broken 14 o) (unheard xs) ≡ Broken n p → (unheard xs ≡ Broken n p → (n ≡ 14) × FirstBreach xs p) → (n ≡ 14) × FirstBreach (speech m o b ∷ xs) p
+    go : (q : Bool) → breaks14 m b ≡ q → pick q (Broken 14 o) (unheard xs) ≡ Broken n p → (unheard xs ≡ Broken n p → (n ≡ 14) × FirstBreach xs p) → (n ≡ 14) × FirstBreach (speech m o b ∷ xs) p
     go true h e r =
         let f : n ≡ 14 = cc in
         let g : o ≡ p = cc in
@@ -128,57 +128,57 @@ pub unheard-number : (xs : List Speech) (n p : ℕ) → unheard xs ≡ Broken n 
 unheard-number xs n p e = broken-first xs n p e .0
 
 -- ---- the least place: where the places do not fall, no text that breaks a clause stands before the first in the list
-pub later : (xs : List Speech) (a p e : ℕ) → p ≤ a → Within a e xs → NoneBefore p xs
+pub later : (xs : List Speech) (a p e : ℕ) → p ≤ a → Rising a e xs → NoneBefore p xs
 later [] a p e h w = tt
 later (speech m q b ∷ xs) a p e h w = (λ z. omega (arith, w .0), later xs q p e (omega (arith, w .0)) (w .1))
 
-pub least : (xs : List Speech) (a e n p : ℕ) → Within a e xs → unheard xs ≡ Broken n p → NoneBefore p xs
+pub least : (xs : List Speech) (a e n p : ℕ) → Rising a e xs → unheard xs ≡ Broken n p → NoneBefore p xs
 unfolding unheard
 least [] a e n p w u = tt
-least (speech m q b ∷ xs) a e n p w u = go (breaks m b) refl u (least xs q e n p (w .1))
+least (speech m q b ∷ xs) a e n p w u = go (breaks14 m b) refl u (least xs q e n p (w .1))
   where
-    go : (t : Bool) → breaks m b ≡ t → pick t (Broken 14 q) (unheard xs) ≡ Broken n p → (unheard xs ≡ Broken n p → NoneBefore p xs) → NoneBefore p (speech m q b ∷ xs)
+    go : (t : Bool) → breaks14 m b ≡ t → pick t (Broken 14 q) (unheard xs) ≡ Broken n p → (unheard xs ≡ Broken n p → NoneBefore p xs) → NoneBefore p (speech m q b ∷ xs)
     go true h u r = let g : q ≡ p = cc in (λ z. omega arith, later xs q p e (omega arith) (w .1))
     go false h u r = (λ z. absurd (false≢true (sym h ∙ z)), r u)
 
-within-through : (xs : List Speech) (a e : ℕ) → Within a e xs → a ≤ e
+within-through : (xs : List Speech) (a e : ℕ) → Rising a e xs → a ≤ e
 within-through [] a e w = w
 within-through (speech m q b ∷ xs) a e w = omega (arith, w .0, within-through xs q e (w .1))
 
 -- and the first that breaks one does not stand behind the last place
-pub unheard-within : (xs : List Speech) (a e n p : ℕ) → Within a e xs → unheard xs ≡ Broken n p → p ≤ e
+pub unheard-within : (xs : List Speech) (a e n p : ℕ) → Rising a e xs → unheard xs ≡ Broken n p → p ≤ e
 unfolding unheard
 unheard-within [] a e n p w u = absurd (fine-broken n p u)
-unheard-within (speech m q b ∷ xs) a e n p w u = go (breaks m b) u (unheard-within xs q e n p (w .1))
+unheard-within (speech m q b ∷ xs) a e n p w u = go (breaks14 m b) u (unheard-within xs q e n p (w .1))
   where
     go : (t : Bool) → pick t (Broken 14 q) (unheard xs) ≡ Broken n p → (unheard xs ≡ Broken n p → p ≤ e) → p ≤ e
     go true u r = let g : q ≡ p = cc in omega (arith, within-through xs q e (w .1))
     go false u r = r u
 
-pub within-end : (xs : List Speech) (a e f : ℕ) → Within a e xs → e ≤ f → Within a f xs
+pub within-end : (xs : List Speech) (a e f : ℕ) → Rising a e xs → e ≤ f → Rising a f xs
 within-end [] a e f w h = omega arith
 within-end (speech m q b ∷ xs) a e f w h = (w .0, within-end xs q e f (w .1) h)
 
-pub within-start : (xs : List Speech) (c a e : ℕ) → c ≤ a → Within a e xs → Within c e xs
+pub within-start : (xs : List Speech) (c a e : ℕ) → c ≤ a → Rising a e xs → Rising c e xs
 within-start [] c a e h w = omega arith
 within-start (speech m q b ∷ xs) c a e h w = (omega (arith, w .0), w .1)
 
-pub within-append : (xs ys : List Speech) (a e f : ℕ) → Within a e xs → Within e f ys → Within a f (xs ++ ys)
+pub within-append : (xs ys : List Speech) (a e f : ℕ) → Rising a e xs → Rising e f ys → Rising a f (xs ++ ys)
 within-append [] ys a e f w v = within-start ys a e f w v
 within-append (speech m q b ∷ xs) ys a e f w v = (w .0, within-append xs ys q e f (w .1) v)
 
 -- ---- the texts of a message stand in order: those of a field before the next field's content
-said-within : (o : ℕ) (p : Part) → Within o (o + length (lineOf p) + 2) (saidAt o p)
+said-within : (o : ℕ) (p : Part) → Rising o (o + length (lineOf p) + 2) (saidAt o p)
 said-within o (copy p) = omega arith
 said-within o (name p) = (omega arith, omega arith)
 said-within o (taxName p) = (omega arith, omega arith)
 
-names-within : (o : ℕ) (ps : List Part) → Within o (o + sizeOf (map lineOf ps)) (names o ps)
-unfolding names
+names-within : (o : ℕ) (ps : List Part) → Rising o (o + linesSize (map lineOf ps)) (nameSpeeches o ps)
+unfolding nameSpeeches
 names-within o [] = omega arith
 names-within o (p ∷ ps) =
-    let e : o + length (lineOf p) + 2 + sizeOf (map lineOf ps) ≡ o + (length (lineOf p) + 2 + sizeOf (map lineOf ps)) = omega arith in
-    rw (← e) (within-append (saidAt o p) (names (o + length (lineOf p) + 2) ps) o (o + length (lineOf p) + 2) (o + length (lineOf p) + 2 + sizeOf (map lineOf ps)) (said-within o p) (names-within (o + length (lineOf p) + 2) ps))
+    let e : o + length (lineOf p) + 2 + linesSize (map lineOf ps) ≡ o + (length (lineOf p) + 2 + linesSize (map lineOf ps)) = omega arith in
+    rw (← e) (within-append (saidAt o p) (nameSpeeches (o + length (lineOf p) + 2) ps) o (o + length (lineOf p) + 2) (o + length (lineOf p) + 2 + linesSize (map lineOf ps)) (said-within o p) (names-within (o + length (lineOf p) + 2) ps))
 
 -- casting keeps the lines
 same-names : (ls : List (List ℕ)) → map lineOf (map name ls) ≡ ls
@@ -218,20 +218,20 @@ same-lines Details ls = same-copies ls
 same-lines Note103 ls = same-copies ls
 same-lines Note202 ls = same-copies ls
 
-cast-within : (s : Shape) (o : ℕ) (ls : List (List ℕ)) → Within o (o + sizeOf ls + 2) (names o (cast s ls))
-cast-within s o ls = within-end (names o (cast s ls)) o (o + sizeOf ls) (o + sizeOf ls + 2) (rw (same-lines s ls) at (names-within o (cast s ls))) (omega arith)
+cast-within : (s : Shape) (o : ℕ) (ls : List (List ℕ)) → Rising o (o + linesSize ls + 2) (nameSpeeches o (cast s ls))
+cast-within s o ls = within-end (nameSpeeches o (cast s ls)) o (o + linesSize ls) (o + linesSize ls + 2) (rw (same-lines s ls) at (names-within o (cast s ls))) (omega arith)
 
-details-within : (front mark o : ℕ) (ls : List (List ℕ)) → mark ≤ 2 → Within o (o + sizeOf ls + 2) (details front mark o ls)
-unfolding details
+details-within : (front mark o : ℕ) (ls : List (List ℕ)) → mark ≤ 2 → Rising o (o + linesSize ls + 2) (detailsSpeech front mark o ls)
+unfolding detailsSpeech
 details-within front mark o [] h = omega arith
 details-within front mark o (l ∷ ls) h = go (ltb front (length l)) refl
   where
-    go : (q : Bool) → ltb front (length l) ≡ q → (o ≤ pick q (o + front) (o + (length l + 2 + mark))) × (pick q (o + front) (o + (length l + 2 + mark)) ≤ o + (length l + 2 + sizeOf ls) + 2)
+    go : (q : Bool) → ltb front (length l) ≡ q → (o ≤ pick q (o + front) (o + (length l + 2 + mark))) × (pick q (o + front) (o + (length l + 2 + mark)) ≤ o + (length l + 2 + linesSize ls) + 2)
     go true e = let g = ltb-true front (length l) e in (omega arith, omega arith)
     go false e = (omega arith, omega arith)
 
-pub speeches-within : (s : Bool) (shape : Shape) (o : ℕ) (ls : List (List ℕ)) → Within o (o + sizeOf ls + 2) (speeches s shape o ls)
-unfolding speeches noted
+pub speeches-within : (s : Bool) (shape : Shape) (o : ℕ) (ls : List (List ℕ)) → Rising o (o + linesSize ls + 2) (speeches s shape o ls)
+unfolding speeches noteSpeeches
 speeches-within s Plain o ls = omega arith
 speeches-within s Payer o ls = cast-within Payer o ls
 speeches-within s Payee o ls = cast-within Payee o ls
@@ -241,14 +241,14 @@ speeches-within s Note103 o ls = omega arith
 speeches-within s Note202 o [] = omega arith
 speeches-within s Note202 o (l ∷ ls) = go (opensRpp l)
   where
-    go : (q : Bool) → Within o (o + sizeOf (l ∷ ls) + 2) (pick q (details (5 + codeSize s) 2 (o + length l + 2) ls) (details (5 + codeSize s) 2 o (l ∷ ls)))
+    go : (q : Bool) → Rising o (o + linesSize (l ∷ ls) + 2) (pick q (detailsSpeech (5 + codeSize s) 2 (o + length l + 2) ls) (detailsSpeech (5 + codeSize s) 2 o (l ∷ ls)))
     go true =
-        within-start (details (5 + codeSize s) 2 (o + length l + 2) ls) o (o + length l + 2) (o + sizeOf (l ∷ ls) + 2) (omega arith)
-        (within-end (details (5 + codeSize s) 2 (o + length l + 2) ls) (o + length l + 2) (o + length l + 2 + sizeOf ls + 2) (o + sizeOf (l ∷ ls) + 2) (details-within (5 + codeSize s) 2 (o + length l + 2) ls (omega arith)) (omega arith))
+        within-start (detailsSpeech (5 + codeSize s) 2 (o + length l + 2) ls) o (o + length l + 2) (o + linesSize (l ∷ ls) + 2) (omega arith)
+        (within-end (detailsSpeech (5 + codeSize s) 2 (o + length l + 2) ls) (o + length l + 2) (o + length l + 2 + linesSize ls + 2) (o + linesSize (l ∷ ls) + 2) (details-within (5 + codeSize s) 2 (o + length l + 2) ls (omega arith)) (omega arith))
     go false = details-within (5 + codeSize s) 2 o (l ∷ ls) (omega arith)
 
 pub speeches-none : (s : Bool) (shape : Shape) (o : ℕ) → speeches s shape o [] ≡ []
-unfolding speeches noted details names cast
+unfolding speeches noteSpeeches detailsSpeech nameSpeeches cast
 speeches-none s Plain o = refl
 speeches-none s Payer o = refl
 speeches-none s Payee o = refl
@@ -257,40 +257,40 @@ speeches-none s Details o = refl
 speeches-none s Note103 o = refl
 speeches-none s Note202 o = refl
 
-field-within : (form : Form) (o : ℕ) (f : Field) → Within (o + 2) (nextOf o f + 2) (texts form o f)
+field-within : (form : Form) (o : ℕ) (f : Field) → Rising (o + 2) (nextOf o f + 2) (texts form o f)
 field-within form o (field t []) = rw (speeches-none true (shapeOf form t) (o + 2 + length t)) (omega arith)
 field-within form o (field t (l ∷ ls)) =
     let start : ℕ = o + 2 + length t in
     let xs : List Speech = speeches true (shapeOf form t) start (l ∷ ls) in
     let n = length-append t (58 ∷ l) in
     within-start xs (o + 2) start (nextOf o (field t (l ∷ ls)) + 2) (omega arith)
-    (within-end xs start (start + sizeOf (l ∷ ls) + 2) (nextOf o (field t (l ∷ ls)) + 2) (speeches-within true (shapeOf form t) start (l ∷ ls)) (omega arith))
+    (within-end xs start (start + linesSize (l ∷ ls) + 2) (nextOf o (field t (l ∷ ls)) + 2) (speeches-within true (shapeOf form t) start (l ∷ ls)) (omega arith))
 
-pub spoken-within : (form : Form) (o : ℕ) (fs : List Field) → Within (o + 2) (o + sizeOf (linesOf fs) + 2) (spoken form o fs)
-unfolding spoken
+pub spoken-within : (form : Form) (o : ℕ) (fs : List Field) → Rising (o + 2) (o + linesSize (linesOf fs) + 2) (speechesOf form o fs)
+unfolding speechesOf
 spoken-within form o [] = omega arith
 spoken-within form o (f ∷ fs) =
     let z = size-append (lined f) (linesOf fs) in
-    within-append (texts form o f) (spoken form (nextOf o f) fs) (o + 2) (nextOf o f + 2) (o + sizeOf (linesOf (f ∷ fs)) + 2) (field-within form o f)
-    (within-end (spoken form (nextOf o f) fs) (nextOf o f + 2) (nextOf o f + sizeOf (linesOf fs) + 2) (o + sizeOf (linesOf (f ∷ fs)) + 2) (spoken-within form (nextOf o f) fs) (omega arith))
+    within-append (texts form o f) (speechesOf form (nextOf o f) fs) (o + 2) (nextOf o f + 2) (o + linesSize (linesOf (f ∷ fs)) + 2) (field-within form o f)
+    (within-end (speechesOf form (nextOf o f) fs) (nextOf o f + 2) (nextOf o f + linesSize (linesOf fs) + 2) (o + linesSize (linesOf (f ∷ fs)) + 2) (spoken-within form (nextOf o f) fs) (omega arith))
 
 -- ---- 14 over the fields of a message: broken exactly if some text breaks a clause, at the first such text, and no such text stands before it
-pub rule14-broken : (form : Form) (fs : List Field) (p : ℕ) → rule14 form fs ≡ Broken 14 p → (signOf fs ≡ true) × FirstBreach (spoken form 5 fs) p × NoneBefore p (spoken form 5 fs)
+pub rule14-broken : (form : Form) (fs : List Field) (p : ℕ) → rule14 form fs ≡ Broken 14 p → (signOf fs ≡ true) × FirstBreach (speechesOf form 5 fs) p × NoneBefore p (speechesOf form 5 fs)
 unfolding rule14
 rule14-broken form fs p e = go (signOf fs) refl e
   where
-    go : (s : Bool) → signOf fs ≡ s → pick s (unheard (spoken form 5 fs)) Fine ≡ Broken 14 p → (signOf fs ≡ true) × FirstBreach (spoken form 5 fs) p × NoneBefore p (spoken form 5 fs)
-    go true h e = (h, broken-first (spoken form 5 fs) 14 p e .1, least (spoken form 5 fs) 7 (5 + sizeOf (linesOf fs) + 2) 14 p (spoken-within form 5 fs) e)
+    go : (s : Bool) → signOf fs ≡ s → pick s (unheard (speechesOf form 5 fs)) Fine ≡ Broken 14 p → (signOf fs ≡ true) × FirstBreach (speechesOf form 5 fs) p × NoneBefore p (speechesOf form 5 fs)
+    go true h e = (h, broken-first (speechesOf form 5 fs) 14 p e .1, least (speechesOf form 5 fs) 7 (5 + linesSize (linesOf fs) + 2) 14 p (spoken-within form 5 fs) e)
     go false h e = absurd (fine-broken 14 p e)
 
-pub rule14-breaks : (form : Form) (fs : List Field) (p : ℕ) → signOf fs ≡ true → FirstBreach (spoken form 5 fs) p → rule14 form fs ≡ Broken 14 p
+pub rule14-breaks : (form : Form) (fs : List Field) (p : ℕ) → signOf fs ≡ true → FirstBreach (speechesOf form 5 fs) p → rule14 form fs ≡ Broken 14 p
 unfolding rule14
-rule14-breaks form fs p s f = ap (λ (q : Bool). pick q (unheard (spoken form 5 fs)) Fine) s ∙ first-broken (spoken form 5 fs) p f
+rule14-breaks form fs p s f = ap (λ (q : Bool). pick q (unheard (speechesOf form 5 fs)) Fine) s ∙ first-broken (speechesOf form 5 fs) p f
 
-pub rule14-fine : (form : Form) (fs : List Field) → (rule14 form fs ≡ Fine) ↔ (signOf fs ≡ true → Heard (spoken form 5 fs))
+pub rule14-fine : (form : Form) (fs : List Field) → (rule14 form fs ≡ Fine) ↔ (signOf fs ≡ true → Heard (speechesOf form 5 fs))
 unfolding rule14
-rule14-fine form fs = (λ e s. unheard-heard (spoken form 5 fs) (rw s at e), go (signOf fs) refl)
+rule14-fine form fs = (λ e s. unheard-heard (speechesOf form 5 fs) (rw s at e), go (signOf fs) refl)
   where
-    go : (q : Bool) → signOf fs ≡ q → (signOf fs ≡ true → Heard (spoken form 5 fs)) → pick q (unheard (spoken form 5 fs)) Fine ≡ Fine
-    go true h f = heard-fine (spoken form 5 fs) (f h)
+    go : (q : Bool) → signOf fs ≡ q → (signOf fs ≡ true → Heard (speechesOf form 5 fs)) → pick q (unheard (speechesOf form 5 fs)) Fine ≡ Fine
+    go true h f = heard-fine (speechesOf form 5 fs) (f h)
     go false h f = refl

@@ -9,31 +9,31 @@ use lib.ListN.{length}
 use borrow.Author.Tests.{ne-eqb}
 use Rattle.base.specs.Choice.{pick}
 use Rattle.base.specs.Bytes.{byte, isIn, begins}
-use Rattle.alphabets.specs.Pieces.{pieceIn, signsFrom}
+use Rattle.alphabets.specs.Pieces.{pieceIn, charactersFrom}
 use Rattle.contents.specs.Tests.{looksTax}
-use Rattle.roles.specs.Speech.{named, taxPlaced}
-use Rattle.roles.specs.Rule14.{hidden, isInn, taxLike}
-use Rattle.roles.specs.Found.{muteIn, breaksIn}
+use Rattle.roles.specs.Speech.{asName, asTaxName}
+use Rattle.roles.specs.Rule14.{hidden, isCyrillicInn, taxLike}
+use Rattle.roles.specs.Found.{muteIn, breaks14In}
 
 -- ---- the clauses one after another
-pub named-is : (t b : List ℕ) → pick (muteIn (pieceIn t false b)) true (pick (begins 39 b) (isIn (byte (signsFrom t 4 false b 0) 0) (47 ∷ 58 ∷ 45 ∷ [])) false) ≡ breaksIn t named b
-unfolding breaksIn hidden
-named-is t b = go (muteIn (pieceIn t false b)) (begins 39 b)
+pub name-is : (t b : List ℕ) → pick (muteIn (pieceIn t false b)) true (pick (begins 39 b) (isIn (byte (charactersFrom t 4 false b 0) 0) (47 ∷ 58 ∷ 45 ∷ [])) false) ≡ breaks14In t asName b
+unfolding breaks14In hidden
+name-is t b = go (muteIn (pieceIn t false b)) (begins 39 b)
   where
     k : Bool
-    k = isIn (byte (signsFrom t 4 false b 0) 0) (47 ∷ 58 ∷ 45 ∷ [])
+    k = isIn (byte (charactersFrom t 4 false b 0) 0) (47 ∷ 58 ∷ 45 ∷ [])
 
     go : (q r : Bool) → pick q true (pick r k false) ≡ (q || (r && k))
     go true r = refl
     go false true = refl
     go false false = refl
 
-pub tax-is : (t b : List ℕ) → pick (breaksIn t named b) true (pick (looksTax (signsFrom t 4 false b 0)) true (isInn (signsFrom t 4 false b 0))) ≡ breaksIn t taxPlaced b
-unfolding breaksIn taxLike
-tax-is t b = go (muteIn (pieceIn t false b)) (hidden b (signsFrom t 4 false b 0)) (looksTax (signsFrom t 4 false b 0))
+pub tax-is : (t b : List ℕ) → pick (breaks14In t asName b) true (pick (looksTax (charactersFrom t 4 false b 0)) true (isCyrillicInn (charactersFrom t 4 false b 0))) ≡ breaks14In t asTaxName b
+unfolding breaks14In taxLike
+tax-is t b = go (muteIn (pieceIn t false b)) (hidden b (charactersFrom t 4 false b 0)) (looksTax (charactersFrom t 4 false b 0))
   where
     k : Bool
-    k = isInn (signsFrom t 4 false b 0)
+    k = isCyrillicInn (charactersFrom t 4 false b 0)
 
     go : (q h r : Bool) → pick (q || h) true (pick r true k) ≡ (q || (h || (r || k)))
     go true h r = refl

@@ -2,17 +2,17 @@
 use mathlib.Core.Path.{refl}
 use Rattle.base.specs.Examples.{AllHold}
 use Rattle.base.specs.Bytes.{isIn, digit, capital, letter, marks, shared, xset, same}
-use Rattle.alphabets.specs.Grid.{grid, sign}
+use Rattle.alphabets.specs.Grid.{grid, character}
 use Rattle.alphabets.specs.Bank.{reads}
 use Rattle.contents.specs.Tests.{looksTax}
 use Rattle.contents.specs.Tags.{tags103, tags202, heldBy}
 use Rattle.roles.specs.Role.{shapeOf, cast}
-use Rattle.roles.specs.Speech.{names, behind, details, noted, speeches}
+use Rattle.roles.specs.Speech.{nameSpeeches, laterText, detailsSpeech, noteSpeeches, speeches}
 use Rattle.types.specs.Sign.{signOf}
-use Rattle.roles.specs.Rule14.{hidden, isInn, taxLike, breaks, unheard, spoken, rule14}
+use Rattle.roles.specs.Rule14.{hidden, isCyrillicInn, taxLike, breaks14, unheard, speechesOf, rule14}
 use Rattle.roles.specs.Cases.{cases, Holds}
 
 pub worked : AllHold Holds cases
-unfolding cases isIn digit capital letter marks shared xset same grid sign reads tags103 tags202 shapeOf heldBy looksTax cast names behind details noted speeches hidden isInn taxLike breaks unheard spoken signOf rule14
+unfolding cases isIn digit capital letter marks shared xset same grid character reads tags103 tags202 shapeOf heldBy looksTax cast nameSpeeches laterText detailsSpeech noteSpeeches speeches hidden isCyrillicInn taxLike breaks14 unheard speechesOf signOf rule14
 worked =
     (refl, (refl, (refl, (refl, (refl, (refl, (refl, (refl, (refl, (refl, (refl, (refl, (refl, (refl, (refl, (refl, (refl, (refl, (refl, (refl, (refl, (refl, (refl, (refl, (refl, (refl, (refl, (refl, (refl, (refl, (refl, (refl, (refl, (refl, (refl, (refl, (refl, (refl, (refl, (refl, (refl, (refl, (refl, (refl, (refl, (refl, (refl, (refl, (refl, (refl, (refl, (refl, (refl, (refl, (refl, (refl, (refl, (refl, (refl, tt)))))))))))))))))))))))))))))))))))))))))))))))))))))))))))

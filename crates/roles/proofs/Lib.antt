@@ -3,6 +3,6 @@ pub mod BreachLaws
 pub mod LineLaws
 pub mod ClauseLaws
 pub mod FoundLaws
-pub mod CodeLaws
+pub mod BackTableLaws
 pub mod CastLaws
 pub mod PartLaws

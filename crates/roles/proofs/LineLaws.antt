@@ -8,7 +8,7 @@ use native.Mathlib.Decide.{decLe}
 use lib.ListN.{length, take, drop, length-drop, drop-of-length-le}
 use lib.Seq.{drop-drop, length-take-le, take-nil}
 use borrow.Author.Tests.{lt-ltb, le-ltb}
-use Rattle.base.specs.Bytes.{upTo}
+use Rattle.base.specs.Bytes.{countUpTo}
 use Rattle.base.specs.Choice.{pick}
 use Rattle.fields.specs.Lines.{split, linesIn}
 use Rattle.base.proofs.MarkLaws.{up-within, up-end}
@@ -33,7 +33,7 @@ drop-near k c = go (decLe k (length c))
     go (no h) = drop-of-length-le c {i = min k (length c)} (omega arith) ∙ sym (drop-of-length-le c {i = k} (omega arith))
 
 -- from a place on, the line to its end e, and those behind it
-pub lines-from : (c : List ℕ) (i e : ℕ) → e ≡ i + upTo 13 (drop i c) → linesIn (drop i c) ≡ take (e - i) (drop i c) ∷ linesPast c e
+pub lines-from : (c : List ℕ) (i e : ℕ) → e ≡ i + countUpTo 13 (drop i c) → linesIn (drop i c) ≡ take (e - i) (drop i c) ∷ linesPast c e
 unfolding split
 lines-from c i e q = go (decLe i (length c)) (decLe (length c) e)
   where
@@ -47,7 +47,7 @@ lines-from c i e q = go (decLe i (length c)) (decLe (length c) e)
         lines-more c i e h q (omega arith)
         ∙ ap (λ (ls : List (List ℕ)). take (e - i) (drop i c) ∷ ls) (ap linesIn (drop-near (e + 2) c) ∙ sym (past-some c e (omega arith)))
 
-pub lines-head : (c : List ℕ) (e : ℕ) → e ≡ 0 + upTo 13 (drop 0 c) → linesIn c ≡ take e c ∷ linesPast c e
+pub lines-head : (c : List ℕ) (e : ℕ) → e ≡ 0 + countUpTo 13 (drop 0 c) → linesIn c ≡ take e c ∷ linesPast c e
 lines-head c e q = let z : e - 0 ≡ e = omega arith in lines-from c 0 e q ∙ ap (λ (k : ℕ). take k c ∷ linesPast c e) z
 
 -- behind the line that ends at e the next begins at i
@@ -56,16 +56,16 @@ module _ (c : List ℕ) (e i : ℕ) (h : e < length c) (p : i ≡ min (e + 2) (l
   past-at = past-some c e h ∙ ap linesIn (sym (drop-near (e + 2) c) ∙ ap (λ (k : ℕ). drop k c) (sym p))
 
 -- ---- how long the line is
-pub line-length : (c : List ℕ) (i e : ℕ) → e ≡ i + upTo 13 (drop i c) → length (take (e - i) (drop i c)) ≡ e - i
+pub line-length : (c : List ℕ) (i e : ℕ) → e ≡ i + countUpTo 13 (drop i c) → length (take (e - i) (drop i c)) ≡ e - i
 line-length c i e q = length-take-le (e - i) (drop i c) (omega (arith, up-within 13 (drop i c)))
 
-pub end-near : (c : List ℕ) (i e : ℕ) → e ≡ i + upTo 13 (drop i c) → i ≤ length c + 1 → e ≤ length c + 1
+pub end-near : (c : List ℕ) (i e : ℕ) → e ≡ i + countUpTo 13 (drop i c) → i ≤ length c + 1 → e ≤ length c + 1
 end-near c i e q h = omega (arith, up-within 13 (drop i c), length-drop i c)
 
-pub head-within : (c : List ℕ) (e : ℕ) → e ≡ 0 + upTo 13 (drop 0 c) → e ≤ length c
+pub head-within : (c : List ℕ) (e : ℕ) → e ≡ 0 + countUpTo 13 (drop 0 c) → e ≤ length c
 head-within c e q = omega (arith, up-within 13 c)
 
-pub head-size : (c : List ℕ) (e : ℕ) → e ≡ 0 + upTo 13 (drop 0 c) → e ≡ length (take e c)
+pub head-size : (c : List ℕ) (e : ℕ) → e ≡ 0 + countUpTo 13 (drop 0 c) → e ≡ length (take e c)
 head-size c e q = sym (length-take-le e c (head-within c e q))
 
 -- ---- a line's bytes behind its first d

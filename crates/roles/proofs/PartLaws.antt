@@ -10,25 +10,25 @@ use Rattle.base.specs.Choice.{pick}
 use Rattle.base.specs.Bytes.{begins}
 use Rattle.contents.specs.Tests.{looksTax}
 use Rattle.roles.specs.Role.{Part, copy, name, taxName, lineOf, taxed, cast}
-use Rattle.roles.specs.Parts.{castBy, named, nextRole}
+use Rattle.roles.specs.Parts.{castBy, isNameBy, nextRole}
 use Rattle.roles.specs.declared.Role.{Role}
 use Rattle.roles.specs.declared.Role.the-variants.{Copies, OfPayer, OfPayee, OfAgent, Taxed, Names}
 use Rattle.roles.specs.declared.Shape.{Shape}
 use Rattle.roles.specs.declared.Shape.the-variants.{Plain, Payer, Payee, Agent, Details, Note103, Note202}
 use Rattle.roles.proofs.Shape.{the-type}
 
-pub payer-slash : (p : List ℕ) → begins 47 p ≡ true → false ≡ named OfPayer p
+pub payer-slash : (p : List ℕ) → begins 47 p ≡ true → false ≡ isNameBy OfPayer p
 payer-slash p e = sym (ap (λ (b : Bool). not b && not (looksTax p)) e)
 
-pub payer-tax : (p : List ℕ) {r : Bool} → begins 47 p ≡ false → r ≡ looksTax p → not r ≡ named OfPayer p
+pub payer-tax : (p : List ℕ) {r : Bool} → begins 47 p ≡ false → r ≡ looksTax p → not r ≡ isNameBy OfPayer p
 payer-tax p e f = ap not f ∙ sym (ap (λ (b : Bool). not b && not (looksTax p)) e)
 
 -- with the sign, and without it
-pub sign-off : (s : Bool) (role : Role) (p : List ℕ) → s ≡ false → false ≡ (s && named role p)
-sign-off s role p e = sym (ap (λ (b : Bool). b && named role p) e)
+pub sign-off : (s : Bool) (role : Role) (p : List ℕ) → s ≡ false → false ≡ (s && isNameBy role p)
+sign-off s role p e = sym (ap (λ (b : Bool). b && isNameBy role p) e)
 
-pub sign-on : (s : Bool) (role to : Role) (p : List ℕ) {r : Bool} → s ≡ true → role ≡ to → r ≡ named to p → r ≡ (s && named role p)
-sign-on s role to p e f g = g ∙ sym (ap₂ (λ (b : Bool) (x : Role). b && named x p) e f)
+pub sign-on : (s : Bool) (role to : Role) (p : List ℕ) {r : Bool} → s ≡ true → role ≡ to → r ≡ isNameBy to p → r ≡ (s && isNameBy role p)
+sign-on s role to p e f g = g ∙ sym (ap₂ (λ (b : Bool) (x : Role). b && isNameBy x p) e f)
 
 -- behind a payer's first part
 pub payer-next : (role : Role) (p : List ℕ) (b : Bool) → role ≡ OfPayer → b ≡ begins 47 p → pick b Taxed Names ≡ nextRole role p

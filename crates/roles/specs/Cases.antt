@@ -12,7 +12,7 @@ use Rattle.alphabets.specs.Bank.{reading}
 use Rattle.fields.specs.Field.{Field}
 use Rattle.fields.specs.Cases.{of, texts}
 use Rattle.roles.specs.Role.{shapeOf, Part, copy, name, taxName, cast}
-use Rattle.roles.specs.Speech.{told, Speech, speech, speeches}
+use Rattle.roles.specs.Speech.{asDetails, Speech, speech, speeches}
 use Rattle.roles.specs.Rule14.{rule14}
 
 pub data Case : Type 0 where
@@ -72,11 +72,11 @@ cases =
     ∷ casts 202 "59" ("NORD" ∷ []) (copy (bytes "NORD") ∷ [])
     ∷ casts 103 "77B" ("/A" ∷ "B" ∷ []) (copy (bytes "/A") ∷ copy (bytes "B") ∷ [])
     -- T12: the text behind the code starts afresh
-    ∷ says true 103 "70" ("'(VO10100)''A'" ∷ []) (speech told 11 (bytes "'A'") ∷ [])
+    ∷ says true 103 "70" ("'(VO10100)''A'" ∷ []) (speech asDetails 11 (bytes "'A'") ∷ [])
     ∷ takes 103 (one "70" ("'(VO10100)''A'" ∷ []))
     -- without the sign the code is shorter
-    ∷ says false 103 "70" ("(VO10100)A" ∷ "B" ∷ []) (speech told 9 (bytes "AB") ∷ [])
-    ∷ says false 202 "72" ("/NZP/(VO10100)" ∷ "//A" ∷ "//B" ∷ []) (speech told 18 (bytes "AB") ∷ [])
+    ∷ says false 103 "70" ("(VO10100)A" ∷ "B" ∷ []) (speech asDetails 9 (bytes "AB") ∷ [])
+    ∷ says false 202 "72" ("/NZP/(VO10100)" ∷ "//A" ∷ "//B" ∷ []) (speech asDetails 18 (bytes "AB") ∷ [])
     -- N14d: the code ends its line
     ∷ refuses 103 (one "70" ("'(VO10100)'A" ∷ "W" ∷ [])) 28
     ∷ refuses 103 (one "70" ("'(VO10100)'" ∷ "W" ∷ [])) 30

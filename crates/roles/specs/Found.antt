@@ -1,5 +1,5 @@
--- 14 over one content, as code finds it: the content in bytes, the table lent, places counted from the content's start. With the table of codes
--- it is the rule (proofs/CodeLaws). Assumes nothing.
+-- 14 over one content, as code finds it: the content in bytes, the table lent, places counted from the content's start. With the table backwards
+-- it is the rule (proofs/BackTableLaws). Assumes nothing.
 use Prim.Native.Nat.{ℕ, _+_}
 use mathlib.Core.Bool.{Bool, true, false, _||_, _&&_, not}
 use mathlib.Core.List.{List, [], _∷_, _++_, map}
@@ -9,13 +9,13 @@ use Rattle.types.specs.declared.Form.{Form}
 use Rattle.base.specs.Choice.{pick}
 use Rattle.base.specs.declared.Verdict.{Verdict}
 use Rattle.base.specs.declared.Verdict.the-variants.{Fine, Broken}
-use Rattle.alphabets.specs.Pieces.{pieceIn, signsFrom}
+use Rattle.alphabets.specs.Pieces.{pieceIn, charactersFrom}
 use Rattle.alphabets.specs.declared.pieces.Piece.{Piece}
 use Rattle.alphabets.specs.declared.pieces.Piece.the-variants.{Read, Stops}
 use Rattle.fields.specs.Lines.{linesIn}
 use Rattle.contents.specs.Tests.{looksTax}
 use Rattle.roles.specs.Role.{Part, name, shapeOf, taxed}
-use Rattle.roles.specs.Speech.{Manner, named, taxPlaced, Speech, speech, behind, speeches}
+use Rattle.roles.specs.Speech.{Manner, asName, asTaxName, Speech, speech, laterText, speeches}
 use Rattle.roles.specs.Rule14.{clauses}
 use Rattle.roles.specs.declared.Spot.{Spot}
 use Rattle.roles.specs.declared.Spot.the-variants.{Nowhere, At}
@@ -29,12 +29,12 @@ abbrev pub muteIn : Piece → Bool
 muteIn (Read n s) = s || eqb n 0
 muteIn (Stops k) = true
 
-unfoldable pub breaksIn : List ℕ → Manner → List ℕ → Bool
-breaksIn t m b = clauses m (muteIn (pieceIn t false b)) b (signsFrom t 4 false b 0)
+unfoldable pub breaks14In : List ℕ → Manner → List ℕ → Bool
+breaks14In t m b = clauses m (muteIn (pieceIn t false b)) b (charactersFrom t 4 false b 0)
 
 unfoldable pub found : List ℕ → List Speech → Spot
 found t [] = Nowhere
-found t (speech m o b ∷ xs) = pick (breaksIn t m b) (At o) (found t xs)
+found t (speech m o b ∷ xs) = pick (breaks14In t m b) (At o) (found t xs)
 
 unfoldable pub brokenIn : List ℕ → Form → List ℕ → List ℕ → Spot
 brokenIn t form tag c = found t (speeches true (shapeOf form tag) 0 (linesIn c))
@@ -51,14 +51,14 @@ castFrom true ls = taxed ls
 castFrom false ls = map name ls
 
 unfoldable pub lineBreaks : List ℕ → Bool → List ℕ → Bool
-lineBreaks t tax l = pick tax (pick (looksTax l) false (breaksIn t taxPlaced l)) (breaksIn t named l)
+lineBreaks t tax l = pick tax (pick (looksTax l) false (breaks14In t asTaxName l)) (breaks14In t asName l)
 
 -- the text of details
-abbrev pub toldText : ℕ → ℕ → List (List ℕ) → List ℕ
-toldText front mark [] = []
-toldText front mark (l ∷ ls) = drop front l ++ behind mark ls
+abbrev pub detailsText : ℕ → ℕ → List (List ℕ) → List ℕ
+detailsText front mark [] = []
+detailsText front mark (l ∷ ls) = drop front l ++ laterText mark ls
 
--- mute behind a text that has some signs or none
+-- mute behind a text that has some characters or none
 abbrev pub muteAfter : Bool → Piece → Bool
 muteAfter some (Read n s) = s || (not some && eqb n 0)
 muteAfter some (Stops k) = true

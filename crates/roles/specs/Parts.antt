@@ -22,13 +22,13 @@ castBy Taxed ps = taxed ps
 castBy Names ps = map name ps
 
 -- the first part is a name
-abbrev pub named : Role → List ℕ → Bool
-named Copies p = false
-named OfPayer p = not (begins 47 p) && not (looksTax p)
-named OfPayee p = not (begins 47 p)
-named OfAgent p = false
-named Taxed p = not (looksTax p)
-named Names p = true
+abbrev pub isNameBy : Role → List ℕ → Bool
+isNameBy Copies p = false
+isNameBy OfPayer p = not (begins 47 p) && not (looksTax p)
+isNameBy OfPayee p = not (begins 47 p)
+isNameBy OfAgent p = false
+isNameBy Taxed p = not (looksTax p)
+isNameBy Names p = true
 
 -- what the parts behind it are
 abbrev pub nextRole : Role → List ℕ → Role

@@ -5,8 +5,8 @@ use mathlib.Core.Bool.{true, false}
 use mathlib.Core.List.{List, [], _∷_, _++_}
 use Rattle.base.specs.Calls.{said, stuck}
 use Rattle.alphabets.specs.Bank.{reading}
-use Rattle.roles.specs.Speech.{Manner, named, taxPlaced, Speech, speech}
-use Rattle.roles.specs.Rule14.{hidden, taxLike, breaks}
+use Rattle.roles.specs.Speech.{Manner, asName, asTaxName, Speech, speech}
+use Rattle.roles.specs.Rule14.{hidden, taxLike, breaks14}
 
 -- a text breaks 14 in one of these ways
 pub data Breach : Manner → List ℕ → Type 0 where
@@ -14,15 +14,15 @@ pub data Breach : Manner → List ℕ → Type 0 where
   unreadable : {m : Manner} {b : List ℕ} (k : ℕ) → reading true b ≡ stuck k → Breach m b
   wordless : {m : Manner} {b : List ℕ} → reading true b ≡ said [] → Breach m b
   -- N14b
-  nameHides : {b : List ℕ} (d : List ℕ) → reading true b ≡ said d → hidden b d ≡ true → Breach named b
-  taxHides : {b : List ℕ} (d : List ℕ) → reading true b ≡ said d → hidden b d ≡ true → Breach taxPlaced b
+  nameHides : {b : List ℕ} (d : List ℕ) → reading true b ≡ said d → hidden b d ≡ true → Breach asName b
+  taxHides : {b : List ℕ} (d : List ℕ) → reading true b ≡ said d → hidden b d ≡ true → Breach asTaxName b
   -- N14c
-  likeTax : {b : List ℕ} (d : List ℕ) → reading true b ≡ said d → taxLike d ≡ true → Breach taxPlaced b
+  likeTax : {b : List ℕ} (d : List ℕ) → reading true b ≡ said d → taxLike d ≡ true → Breach asTaxName b
 
 -- no text breaks it
 abbrev pub Heard : List Speech → Type 0
 Heard [] = Unit {0}
-Heard (speech m o b ∷ xs) = (breaks m b ≡ false) × Heard xs
+Heard (speech m o b ∷ xs) = (breaks14 m b ≡ false) × Heard xs
 
 -- the text at p breaks it, and none before
 pub record FirstBreach (xs : List Speech) (p : ℕ) : Type 0 where
@@ -35,11 +35,11 @@ pub record FirstBreach (xs : List Speech) (p : ℕ) : Type 0 where
   pub breach : Breach manner text
 
 -- the places do not fall, from a to e
-abbrev pub Within : ℕ → ℕ → List Speech → Type 0
-Within a e [] = a ≤ e
-Within a e (speech m p b ∷ xs) = (a ≤ p) × Within p e xs
+abbrev pub Rising : ℕ → ℕ → List Speech → Type 0
+Rising a e [] = a ≤ e
+Rising a e (speech m p b ∷ xs) = (a ≤ p) × Rising p e xs
 
 -- every text that breaks it stands at p or later
 abbrev pub NoneBefore : ℕ → List Speech → Type 0
 NoneBefore p [] = Unit {0}
-NoneBefore p (speech m q b ∷ xs) = (breaks m b ≡ true → p ≤ q) × NoneBefore p xs
+NoneBefore p (speech m q b ∷ xs) = (breaks14 m b ≡ true → p ≤ q) × NoneBefore p xs

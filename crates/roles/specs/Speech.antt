@@ -12,7 +12,7 @@ use Rattle.roles.specs.declared.Shape.the-variants.{Plain, Payer, Payee,
 
 -- a text: what it is, the place of its first byte, its bytes
 pub data Manner : Type 0 where
-  named taxPlaced told : Manner
+  asName asTaxName asDetails : Manner
 
 pub data Speech : Type 0 where
   speech : Manner → ℕ → List ℕ → Speech
@@ -20,25 +20,25 @@ pub data Speech : Type 0 where
 -- ---- names: each line is a text, at its own place; the lines stand from o on
 abbrev pub saidAt : ℕ → Part → List Speech
 saidAt o (copy p) = []
-saidAt o (name p) = speech named o p ∷ []
-saidAt o (taxName p) = speech taxPlaced o p ∷ []
+saidAt o (name p) = speech asName o p ∷ []
+saidAt o (taxName p) = speech asTaxName o p ∷ []
 
-unfoldable pub names : ℕ → List Part → List Speech
-names o [] = []
-names o (p ∷ ps) = saidAt o p ++ names (o + length (lineOf p) + 2) ps
+unfoldable pub nameSpeeches : ℕ → List Part → List Speech
+nameSpeeches o [] = []
+nameSpeeches o (p ∷ ps) = saidAt o p ++ nameSpeeches (o + length (lineOf p) + 2) ps
 
 -- ---- details: one text, what stands behind `front` bytes of the first line and `mark` bytes of each later one
-unfoldable pub behind : ℕ → List (List ℕ) → List ℕ
-behind mark [] = []
-behind mark (l ∷ ls) = drop mark l ++ behind mark ls
+unfoldable pub laterText : ℕ → List (List ℕ) → List ℕ
+laterText mark [] = []
+laterText mark (l ∷ ls) = drop mark l ++ laterText mark ls
 
 -- where the front ends its line, the text begins in the next
-abbrev pub toldAt : ℕ → ℕ → ℕ → List ℕ → ℕ
-toldAt front mark o l = pick (ltb front (length l)) (o + front) (o + (length l + 2 + mark))
+abbrev pub detailsStart : ℕ → ℕ → ℕ → List ℕ → ℕ
+detailsStart front mark o l = pick (ltb front (length l)) (o + front) (o + (length l + 2 + mark))
 
-unfoldable pub details : ℕ → ℕ → ℕ → List (List ℕ) → List Speech
-details front mark o [] = []
-details front mark o (l ∷ ls) = speech told (toldAt front mark o l) (drop front l ++ behind mark ls) ∷ []
+unfoldable pub detailsSpeech : ℕ → ℕ → ℕ → List (List ℕ) → List Speech
+detailsSpeech front mark o [] = []
+detailsSpeech front mark o (l ∷ ls) = speech asDetails (detailsStart front mark o l) (drop front l ++ laterText mark ls) ∷ []
 
 -- the VO code, with the sign and without
 abbrev pub codeSize : Bool → ℕ
@@ -46,16 +46,16 @@ codeSize true = 11
 codeSize false = 9
 
 -- 72 in 202: perhaps an RPP line, then details behind /NZP/ and //
-unfoldable pub noted : Bool → ℕ → List (List ℕ) → List Speech
-noted s o [] = []
-noted s o (l ∷ ls) = pick (opensRpp l) (details (5 + codeSize s) 2 (o + length l + 2) ls) (details (5 + codeSize s) 2 o (l ∷ ls))
+unfoldable pub noteSpeeches : Bool → ℕ → List (List ℕ) → List Speech
+noteSpeeches s o [] = []
+noteSpeeches s o (l ∷ ls) = pick (opensRpp l) (detailsSpeech (5 + codeSize s) 2 (o + length l + 2) ls) (detailsSpeech (5 + codeSize s) 2 o (l ∷ ls))
 
 -- ---- the texts of a field's lines, which stand from o on; s: with the sign
 unfoldable pub speeches : Bool → Shape → ℕ → List (List ℕ) → List Speech
 speeches s Plain o ls = []
-speeches s Payer o ls = names o (cast Payer ls)
-speeches s Payee o ls = names o (cast Payee ls)
-speeches s Agent o ls = names o (cast Agent ls)
-speeches s Details o ls = details (codeSize s) 0 o ls
+speeches s Payer o ls = nameSpeeches o (cast Payer ls)
+speeches s Payee o ls = nameSpeeches o (cast Payee ls)
+speeches s Agent o ls = nameSpeeches o (cast Agent ls)
+speeches s Details o ls = detailsSpeech (codeSize s) 0 o ls
 speeches s Note103 o ls = []
-speeches s Note202 o ls = noted s o ls
+speeches s Note202 o ls = noteSpeeches s o ls

@@ -4,11 +4,11 @@ ghost use mathlib.Core.Bool.{false};
 ghost use mathlib.Core.List.{[], _∷_};
 ghost use Rattle.base.specs.Bytes.{isIn, begins};
 ghost use Rattle.alphabets.specs.Pieces.{pieceIn};
-ghost use Rattle.roles.specs.Speech.{named, taxPlaced};
-ghost use Rattle.roles.specs.Rule14.{isInn};
-ghost use Rattle.roles.specs.Found.{muteIn, breaksIn, lineBreaks};
+ghost use Rattle.roles.specs.Speech.{asName, asTaxName};
+ghost use Rattle.roles.specs.Rule14.{isCyrillicInn};
+ghost use Rattle.roles.specs.Found.{muteIn, breaks14In, lineBreaks};
 use alphabets::pieces::Piece;
-use alphabets::pieces::first_signs;
+use alphabets::pieces::first_characters;
 use alphabets::pieces::read_piece;
 use contents::lines::looks_tax;
 use contents::pieces::is_numbered;
@@ -50,8 +50,8 @@ fn is_mute(back: &[u8; 256], text: &[u8]) -> bool
     }
 }
 
-pub(crate) fn breaks_named(back: &[u8; 256], name: &[u8]) -> bool
-    ensures { λ r. ⌜ r ≡ breaksIn (now (back .entry)) named (now (name .entry)) ⌝ }
+pub(crate) fn breaks_name(back: &[u8; 256], name: &[u8]) -> bool
+    ensures { λ r. ⌜ r ≡ breaks14In (now (back .entry)) asName (now (name .entry)) ⌝ }
 {
     if is_mute(back, name) {
         return true;
@@ -59,7 +59,7 @@ pub(crate) fn breaks_named(back: &[u8; 256], name: &[u8]) -> bool
     if !starts(39, name) {
         return false;
     }
-    let f = first_signs(back, name);
+    let f = first_characters(back, name);
     is_mark(f[0])
 }
 
@@ -68,19 +68,19 @@ const INN: [u8; 3] = [200, 205, 205];
 
 // Whether a reading begins with INN in Cyrillic and a digit.
 pub fn is_inn(d: &[u8]) -> bool
-    ensures { λ r. ⌜ r ≡ isInn (now (d .entry)) ⌝ }
+    ensures { λ r. ⌜ r ≡ isCyrillicInn (now (d .entry)) ⌝ }
 {
     let inn = INN;
     is_numbered(d, &inn)
 }
 
 fn breaks_tax(back: &[u8; 256], name: &[u8]) -> bool
-    ensures { λ r. ⌜ r ≡ breaksIn (now (back .entry)) taxPlaced (now (name .entry)) ⌝ }
+    ensures { λ r. ⌜ r ≡ breaks14In (now (back .entry)) asTaxName (now (name .entry)) ⌝ }
 {
-    if breaks_named(back, name) {
+    if breaks_name(back, name) {
         return true;
     }
-    let f = first_signs(back, name);
+    let f = first_characters(back, name);
     if looks_tax(&f) {
         return true;
     }
@@ -92,7 +92,7 @@ pub(crate) fn breaks_line(back: &[u8; 256], tax: bool, line: &[u8]) -> bool
     ensures { λ r. ⌜ r ≡ lineBreaks (now (back .entry)) tax (now (line .entry)) ⌝ }
 {
     if !tax {
-        return breaks_named(back, line);
+        return breaks_name(back, line);
     }
     if looks_tax(line) {
         return false;

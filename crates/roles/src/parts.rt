@@ -2,7 +2,7 @@
 ghost use mathlib.Core.Path.{_≡_};
 ghost use mathlib.Core.Bool.{_&&_};
 ghost use Rattle.roles.specs.declared.Role.the-variants.{OfPayer};
-ghost use Rattle.roles.specs.Parts.{named, nextRole, firstRole};
+ghost use Rattle.roles.specs.Parts.{isNameBy, nextRole, firstRole};
 use super::Role;
 use super::Shape;
 use super::clauses::starts;
@@ -10,7 +10,7 @@ use contents::lines::looks_tax;
 
 // A payer's first part is an account, or stands in the tax place.
 fn is_payer_name(p: &[u8]) -> bool
-    ensures { λ r. ⌜ r ≡ named OfPayer (now (p .entry)) ⌝ }
+    ensures { λ r. ⌜ r ≡ isNameBy OfPayer (now (p .entry)) ⌝ }
 {
     if starts(47, p) {
         return false;
@@ -20,7 +20,7 @@ fn is_payer_name(p: &[u8]) -> bool
 
 // Whether a part is a name that the sign makes a text of.
 pub fn is_spoken(sign: bool, role: Role, p: &[u8]) -> bool
-    ensures { λ r. ⌜ r ≡ (sign && named role (now (p .entry))) ⌝ }
+    ensures { λ r. ⌜ r ≡ (sign && isNameBy role (now (p .entry))) ⌝ }
 {
     if !sign {
         return false;

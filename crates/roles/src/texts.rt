@@ -9,8 +9,8 @@ ghost use Rattle.fields.specs.Shapes.{unpack};
 ghost use Rattle.alphabets.specs.Pieces.{pieceIn};
 ghost use Rattle.fields.specs.Lines.{linesIn};
 ghost use Rattle.roles.specs.declared.Shape.the-variants.{Payer, Payee, Agent, Note202};
-ghost use Rattle.roles.specs.Speech.{names, details, speeches};
-ghost use Rattle.roles.specs.Found.{linesPast, castFrom, toldText, muteIn, found, brokenIn};
+ghost use Rattle.roles.specs.Speech.{nameSpeeches, detailsSpeech, speeches};
+ghost use Rattle.roles.specs.Found.{linesPast, castFrom, detailsText, muteIn, found, brokenIn};
 use super::Shape;
 use super::Spot;
 use super::clauses::breaks_line;
@@ -25,7 +25,7 @@ use types::Form;
 
 // The lines behind the one that ends at end are names, the first in the tax place or not.
 fn in_names(back: &[u8; 256], c: &[u8], end: usize, tax: bool) -> Spot
-    ensures { λ r. ⌜ r ≡ found (now (back .entry)) (names (end + 2) (castFrom tax (linesPast (now (c .entry)) end))) ⌝ }
+    ensures { λ r. ⌜ r ≡ found (now (back .entry)) (nameSpeeches (end + 2) (castFrom tax (linesPast (now (c .entry)) end))) ⌝ }
 {
     let mut e = end;
     let mut first = tax;
@@ -61,7 +61,7 @@ fn in_agent(back: &[u8; 256], c: &[u8]) -> Spot
     in_names(back, c, mark_at(13, c, 0), false)
 }
 
-fn has_signs(some: bool, n: usize) -> bool
+fn has_characters(some: bool, n: usize) -> bool
     ensures { λ r. ⌜ r ≡ (some || not (eqb n 0)) ⌝ }
 {
     if some {
@@ -70,7 +70,7 @@ fn has_signs(some: bool, n: usize) -> bool
     n != 0
 }
 
-// Open on the Latin side, or without a sign.
+// Open on the Latin side, or without a character.
 fn is_silent(latin: bool, some: bool) -> bool
     ensures { λ r. ⌜ r ≡ (latin || not some) ⌝ }
 {
@@ -93,7 +93,7 @@ fn cut_at(at: usize, d: usize, e: usize) -> usize
 
 // Whether the text that runs over the lines from a place on, behind `front` bytes of the first and `mark` bytes of each later one, is mute.
 fn is_mute_text(back: &[u8; 256], c: &[u8], from: usize, front: usize, mark: usize) -> bool
-    ensures { λ r. ⌜ r ≡ muteIn (pieceIn (now (back .entry)) false (toldText front mark (linesIn (drop from (now (c .entry)))))) ⌝ }
+    ensures { λ r. ⌜ r ≡ muteIn (pieceIn (now (back .entry)) false (detailsText front mark (linesIn (drop from (now (c .entry)))))) ⌝ }
 {
     if c.len() < from {
         return true;
@@ -108,7 +108,7 @@ fn is_mute_text(back: &[u8; 256], c: &[u8], from: usize, front: usize, mark: usi
         let Piece::Read { units, latin: side } = read_piece(back, latin, &c[b..e]) else {
             return true;
         };
-        some = has_signs(some, units);
+        some = has_characters(some, units);
         if c.len() <= e {
             return is_silent(side, some);
         }
@@ -121,7 +121,7 @@ fn is_mute_text(back: &[u8; 256], c: &[u8], from: usize, front: usize, mark: usi
 // The lines from a place on are details.
 fn in_details(back: &[u8; 256], c: &[u8], at: usize, front: usize, mark: usize) -> Spot
     requires { ⌜ (at ≤ length (now c) + 1) × (mark ≤ 2) ⌝ }
-    ensures { λ r. ⌜ r ≡ found (now (back .entry)) (details front mark at (linesIn (drop at (now (c .entry))))) ⌝ }
+    ensures { λ r. ⌜ r ≡ found (now (back .entry)) (detailsSpeech front mark at (linesIn (drop at (now (c .entry))))) ⌝ }
 {
     if !is_mute_text(back, c, at, front, mark) {
         return Spot::Nowhere;

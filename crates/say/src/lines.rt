@@ -4,7 +4,7 @@ use crate::words::tell_number;
 use crate::words::tell_text;
 use base::bytes::front;
 use base::bytes::put;
-use details::Place;
+use details::DetailsField;
 use details::Size;
 use details::lay;
 use details::room_from;
@@ -49,16 +49,16 @@ fn tell_lines(laid: &[u8]) -> Last {
     Last { line, bytes: 0 }
 }
 
-// The lines of a place, where the text fits them. No place has room for more than 250 bytes.
-fn tell_laid(place: Place, least: usize, text: &[u8]) -> Last {
+// The lines of a details field, where the text fits them. None has room for more than 250 bytes.
+fn tell_laid(into: DetailsField, least: usize, text: &[u8]) -> Last {
     let mut out = [0u8; 250];
-    let n = lay(place, least, text, &mut out, 0);
+    let n = lay(into, least, text, &mut out, 0);
     tell_lines(front(&out, n))
 }
 
 // What is left of the last line, and of the lines behind it.
-fn tell_left(place: Place, last: Last) {
-    let room = room_from(place, last.line);
+fn tell_left(into: DetailsField, last: Last) {
+    let room = room_from(into, last.line);
     write_output(b"it fits, with ");
     tell_bytes(less(room.bytes, less(last.bytes, room.mark)));
     write_output(b" left\n");
@@ -81,8 +81,8 @@ fn tell_breaks(size: usize, most: usize) {
     write_output(b", but a - or : stands where a later line would begin\n");
 }
 
-fn tell_unfit(place: Place, size: usize) {
-    let room = room_from(place, 0);
+fn tell_unfit(into: DetailsField, size: usize) {
+    let room = room_from(into, 0);
     if room.bytes < size {
         tell_long(size, room.bytes);
         return;
@@ -90,24 +90,24 @@ fn tell_unfit(place: Place, size: usize) {
     tell_breaks(size, room.bytes);
 }
 
-fn tell_fit(place: Place, least: usize, text: &[u8], last: Last) {
-    let size = size_of(place, least, text);
+fn tell_fit(into: DetailsField, least: usize, text: &[u8], last: Last) {
+    let size = size_of(into, least, text);
     match size {
-        Size::Bytes(_) => tell_left(place, last),
-        Size::Unfit => tell_unfit(place, text.len()),
+        Size::Bytes(_) => tell_left(into, last),
+        Size::Unfit => tell_unfit(into, text.len()),
     }
 }
 
 // Behind an RPP line the lines are the same, where the text fits.
-fn tell_places(least: usize, text: &[u8]) {
+fn tell_fields(least: usize, text: &[u8]) {
     write_output(b"in field 70, with your own five digits in the code:\n");
-    let in70 = tell_laid(Place::In70, least, text);
-    tell_fit(Place::In70, least, text, in70);
+    let in70 = tell_laid(DetailsField::In70, least, text);
+    tell_fit(DetailsField::In70, least, text, in70);
     write_output(b"in field 72 of a 202:\n");
-    let in72 = tell_laid(Place::In72, least, text);
-    tell_fit(Place::In72, least, text, in72);
+    let in72 = tell_laid(DetailsField::In72, least, text);
+    tell_fit(DetailsField::In72, least, text, in72);
     write_output(b"behind an RPP line ");
-    tell_fit(Place::BehindRpp, least, text, in72);
+    tell_fit(DetailsField::BehindRpp, least, text, in72);
 }
 
 // The longest bank text goes behind the longer code.
@@ -115,7 +115,7 @@ fn tell_behind(code: &[u8], bank: &[u8]) {
     let mut text = [0u8; 10011];
     put(&mut text, 0, code);
     put(&mut text, code.len(), bank);
-    tell_places(code.len(), front(&text, code.len() + bank.len()));
+    tell_fields(code.len(), front(&text, code.len() + bank.len()));
 }
 
 // Details have a byte at least behind their code.

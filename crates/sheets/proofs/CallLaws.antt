@@ -15,7 +15,7 @@ use Rattle.base.proofs.RuleLaws.{first-last}
 use Rattle.base.proofs.CallLaws.{gives-refused, gives-done, is-short, not-short}
 use Rattle.base.proofs.Room.{over-sets, puts-by}
 use Rattle.base.specs.Bytes.{begins}
-use Rattle.alphabets.specs.Steps.{codes}
+use Rattle.alphabets.specs.Steps.{backTable}
 use Rattle.fields.specs.Field.{fields}
 use Rattle.types.specs.declared.Form.{Form}
 use Rattle.types.specs.Walk.{rule18}
@@ -70,7 +70,7 @@ module _ (form : Form) (m out : List ℕ) where
     sheet-at-once h p = sheet-done p (omega (arith, sized p, sheet-no-longer form m v)) p
 
 -- what is put is the sheet
-pub sheet-put : (form : Form) (m : List ℕ) → verdictOf form m ≡ Fine → {b : List ℕ} → b ≡ codes → {g : Bool} → g ≡ begins 43 (firstOf (fields m)) → {out after : List ℕ} {r : ℕ}
+pub sheet-put : (form : Form) (m : List ℕ) → verdictOf form m ≡ Fine → {b : List ℕ} → b ≡ backTable → {g : Bool} → g ≡ begins 43 (firstOf (fields m)) → {out after : List ℕ} {r : ℕ}
     → Puts (line (typeRecord form) ++ 10 ∷ sheetBy b form g (fields m)) out 0 r after → Puts (sheetOf form m) out 0 r after
 sheet-put form m v k i p =
     let t = taken form m (frame-clean form m v) in

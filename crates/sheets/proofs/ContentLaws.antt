@@ -10,7 +10,7 @@ use lib.ListN.{length, take, drop, length-drop}
 use Rattle.base.proofs.ByteLaws.{past-in}
 use Rattle.base.proofs.Room.{puts-on, puts-by}
 use Rattle.base.specs.Choice.{pick}
-use Rattle.base.specs.Bytes.{upTo}
+use Rattle.base.specs.Bytes.{countUpTo}
 use Rattle.base.specs.Calls.{placed, Puts}
 use Rattle.fields.specs.Lines.{linesIn}
 use Rattle.contents.specs.Parts.{opensRpp}
@@ -24,22 +24,22 @@ use Rattle.roles.proofs.PartLaws.{each-lined}
 use Rattle.roles.proofs.LineLaws.{lines-head, past-none, past-at, head-size, head-within}
 use Rattle.records.specs.Record.{tabbed}
 use Rattle.sheets.specs.Gather.{codeDigits}
-use Rattle.sheets.specs.Steps.{partsBy, cutBy, overBy, toldBy, noteBy, contentBy}
+use Rattle.sheets.specs.Steps.{partsBy, textPieces, overBy, detailsBy, noteBy, contentBy}
 use Rattle.sheets.proofs.TextLaws.{tab-put, take-few, code-few}
 
 -- ---- details, of a content whose first line ends at e
-module _ (c : List ℕ) (e : ℕ) (q : e ≡ 0 + upTo 13 (drop 0 c)) (t : List ℕ) (s : Bool) where
-  pub told-put : (first mark : ℕ) {k v : List ℕ} → k ≡ drop first (take e c) → v ≡ codeDigits s k → {z : ℕ} → z ≡ codeSize s
-      → {out mid now after : List ℕ} {at n r : ℕ} → Puts (9 ∷ v) out at n mid → now ≡ placed mid n (9 ∷ []) → Puts (overBy t s false (cutBy (first + z) mark (linesIn c))) now (n + 1) r after
-      → n ≤ at + 1 + length v → r ≤ n + 1 + length c → (r ≤ at + length c + 7) × Puts (tabbed (toldBy t s first mark (linesIn c))) out at r after
-  told-put first mark {k} {v} hk hv {z} hz p f o i j =
+module _ (c : List ℕ) (e : ℕ) (q : e ≡ 0 + countUpTo 13 (drop 0 c)) (t : List ℕ) (s : Bool) where
+  pub details-put : (first mark : ℕ) {k v : List ℕ} → k ≡ drop first (take e c) → v ≡ codeDigits s k → {z : ℕ} → z ≡ codeSize s
+      → {out mid now after : List ℕ} {at n r : ℕ} → Puts (9 ∷ v) out at n mid → now ≡ placed mid n (9 ∷ []) → Puts (overBy t s false (textPieces (first + z) mark (linesIn c))) now (n + 1) r after
+      → n ≤ at + 1 + length v → r ≤ n + 1 + length c → (r ≤ at + length c + 7) × Puts (tabbed (detailsBy t s first mark (linesIn c))) out at r after
+  details-put first mark {k} {v} hk hv {z} hz p f o i j =
       let ls = linesPast c e in
       let l = take e c in
-      let x : List ℕ = overBy t s false (cutBy (first + z) mark (linesIn c)) in
-      let y : List ℕ = overBy t s false (cutBy (first + codeSize s) mark (l ∷ ls)) in
-      let same : x ≡ y = ap₂ (λ (i : ℕ) (xs : List (List ℕ)). overBy t s false (cutBy (first + i) mark xs)) hz (lines-head c e q) in (
+      let x : List ℕ = overBy t s false (textPieces (first + z) mark (linesIn c)) in
+      let y : List ℕ = overBy t s false (textPieces (first + codeSize s) mark (l ∷ ls)) in
+      let same : x ≡ y = ap₂ (λ (i : ℕ) (xs : List (List ℕ)). overBy t s false (textPieces (first + i) mark xs)) hz (lines-head c e q) in (
         omega (arith, code-few s k hv),
-        puts-by (ap₂ (λ (a b : List ℕ). 9 ∷ (a ++ 9 ∷ b)) (hv ∙ ap (codeDigits s) hk) (same ∙ sym (append-nil y)) ∙ ap (λ (xs : List (List ℕ)). tabbed (toldBy t s first mark xs)) (sym (lines-head c e q)))
+        puts-by (ap₂ (λ (a b : List ℕ). 9 ∷ (a ++ 9 ∷ b)) (hv ∙ ap (codeDigits s) hk) (same ∙ sym (append-nil y)) ∙ ap (λ (xs : List (List ℕ)). tabbed (detailsBy t s first mark xs)) (sym (lines-head c e q)))
             (puts-on (9 ∷ v) (9 ∷ x) p (tab-put f o)),
       )
 
@@ -47,30 +47,30 @@ module _ (c : List ℕ) (e : ℕ) (q : e ≡ 0 + upTo 13 (drop 0 c)) (t : List �
   head-small d z = (omega (arith, ap length z ∙ length-drop d (take e c), head-size c e q), head-within c e q)
 
   -- 72 of a 202
-  note-is : {b : Bool} → b ≡ opensRpp (take e c) → tabbed (pick b (drop 5 (take e c) ∷ toldBy t s 5 2 (linesPast c e)) ([] ∷ toldBy t s 5 2 (linesIn c))) ≡ tabbed (noteBy t s (linesIn c))
+  note-is : {b : Bool} → b ≡ opensRpp (take e c) → tabbed (pick b (drop 5 (take e c) ∷ detailsBy t s 5 2 (linesPast c e)) ([] ∷ detailsBy t s 5 2 (linesIn c))) ≡ tabbed (noteBy t s (linesIn c))
   note-is {b} f =
-      ap (λ (xs : List (List ℕ)). tabbed (pick b (drop 5 (take e c) ∷ toldBy t s 5 2 (linesPast c e)) ([] ∷ toldBy t s 5 2 xs))) (lines-head c e q)
-      ∙ ap (λ (d : Bool). tabbed (pick d (drop 5 (take e c) ∷ toldBy t s 5 2 (linesPast c e)) ([] ∷ toldBy t s 5 2 (take e c ∷ linesPast c e)))) f
+      ap (λ (xs : List (List ℕ)). tabbed (pick b (drop 5 (take e c) ∷ detailsBy t s 5 2 (linesPast c e)) ([] ∷ detailsBy t s 5 2 xs))) (lines-head c e q)
+      ∙ ap (λ (d : Bool). tabbed (pick d (drop 5 (take e c) ∷ detailsBy t s 5 2 (linesPast c e)) ([] ∷ detailsBy t s 5 2 (take e c ∷ linesPast c e)))) f
       ∙ ap (λ (xs : List (List ℕ)). tabbed (noteBy t s xs)) (sym (lines-head c e q))
 
   module _ {b : Bool} (f : b ≡ opensRpp (take e c)) where
-    pub note-none : {out mid after : List ℕ} {at r : ℕ} → b ≡ false → mid ≡ placed out at (9 ∷ []) → r ≤ at + 1 + length c + 7 → Puts (tabbed (toldBy t s 5 2 (linesIn c))) mid (at + 1) r after
+    pub note-none : {out mid after : List ℕ} {at r : ℕ} → b ≡ false → mid ≡ placed out at (9 ∷ []) → r ≤ at + 1 + length c + 7 → Puts (tabbed (detailsBy t s 5 2 (linesIn c))) mid (at + 1) r after
         → (r ≤ at + length c + 8) × Puts (tabbed (noteBy t s (linesIn c))) out at r after
     note-none g m k p = (omega arith, puts-by (note-is (sym g ∙ f)) (tab-put m p))
 
     module _ (g : b ≡ true) {p : List ℕ} (h : p ≡ drop 5 (take e c)) where
       pub note-alone : {out mid : List ℕ} {at n : ℕ} → length c ≤ e → n ≤ at + 1 + length p → Puts (9 ∷ p) out at n mid → (n ≤ at + length c + 8) × Puts (tabbed (noteBy t s (linesIn c))) out at n mid
       note-alone k i a =
-          (omega (arith, head-small 5 h), puts-by (ap (λ (x : List ℕ). 9 ∷ x) (h ∙ sym (append-nil (drop 5 (take e c)))) ∙ ap (λ (xs : List (List ℕ)). 9 ∷ (drop 5 (take e c) ++ tabbed (toldBy t s 5 2 xs))) (sym (past-none c e k)) ∙ note-is (sym g ∙ f)) a)
+          (omega (arith, head-small 5 h), puts-by (ap (λ (x : List ℕ). 9 ∷ x) (h ∙ sym (append-nil (drop 5 (take e c)))) ∙ ap (λ (xs : List (List ℕ)). 9 ∷ (drop 5 (take e c) ++ tabbed (detailsBy t s 5 2 xs))) (sym (past-none c e k)) ∙ note-is (sym g ∙ f)) a)
 
       pub note-more : {out mid after : List ℕ} {at n r : ℕ} (i : ℕ) → e < length c → i ≡ min (e + 2) (length c) → n ≤ at + 1 + length p → Puts (9 ∷ p) out at n mid
-          → r ≤ n + length (take (length c - i) (drop i c)) + 7 → Puts (tabbed (toldBy t s 5 2 (linesIn (take (length c - i) (drop i c))))) mid n r after
+          → r ≤ n + length (take (length c - i) (drop i c)) + 7 → Puts (tabbed (detailsBy t s 5 2 (linesIn (take (length c - i) (drop i c))))) mid n r after
           → (r ≤ at + length c + 8) × Puts (tabbed (noteBy t s (linesIn c))) out at r after
       note-more i k j x a y d = (
         omega (arith, head-small 5 h, take-few (length c - i) (drop i c)),
         puts-by
-            (ap₂ (λ (x : List ℕ) (xs : List (List ℕ)). 9 ∷ (x ++ tabbed (toldBy t s 5 2 xs))) h (ap linesIn (past-in c i) ∙ sym (past-at c e i k j)) ∙ note-is (sym g ∙ f))
-            (puts-on (9 ∷ p) (tabbed (toldBy t s 5 2 (linesIn (take (length c - i) (drop i c))))) a d),
+            (ap₂ (λ (x : List ℕ) (xs : List (List ℕ)). 9 ∷ (x ++ tabbed (detailsBy t s 5 2 xs))) h (ap linesIn (past-in c i) ∙ sym (past-at c e i k j)) ∙ note-is (sym g ∙ f))
+            (puts-on (9 ∷ p) (tabbed (detailsBy t s 5 2 (linesIn (take (length c - i) (drop i c))))) a d),
       )
 
 -- ---- a content by the shape of its tag

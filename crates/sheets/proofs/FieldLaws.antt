@@ -17,13 +17,13 @@ use Rattle.base.specs.declared.Verdict.the-variants.{Fine}
 use Rattle.base.proofs.ByteLaws.{past-in}
 use Rattle.base.proofs.Bools.{left, right}
 use Rattle.base.proofs.RuleLaws.{fine-broken}
-use Rattle.fields.specs.Field.{Field, field, fields, laid, linesOf, closing}
+use Rattle.fields.specs.Field.{Field, field, fields, withCrLf, linesOf, closing}
 use Rattle.fields.specs.Frame.{limit}
 use Rattle.fields.specs.Shapes.{shaped, packed, unpack, lineable, follows}
 use Rattle.fields.specs.ByLines.{joined}
 use Rattle.fields.proofs.TagLaws.{Shape, plain, lettered, shape-of}
 use Rattle.fields.proofs.PackLaws.{packed-tag, unpack-pack}
-use Rattle.fields.proofs.PlaceLaws.{field-bytes, laid-joined}
+use Rattle.fields.proofs.PlaceLaws.{field-bytes, crlf-joined}
 use Rattle.types.specs.declared.Form.{Form}
 use Rattle.types.specs.declared.Form.the-variants.{Other}
 use Rattle.types.specs.Walk.{rule18}
@@ -121,10 +121,10 @@ module _ {m spots : List ℕ} (z : Settled m spots) (k : ℕ) (h : k < length (f
       let o : ℕ = byte spots k in
       let t = w .tag in
       let j = joined (w .line ∷ w .more) in
-      let r = laid (linesOf (drop (k + 1) (fields m))) ++ closing in
+      let r = withCrLf (linesOf (drop (k + 1) (fields m))) ++ closing in
       let d : drop o m ≡ (58 ∷ (t ++ 58 ∷ j)) ++ 13 ∷ 10 ∷ r =
       field-bytes m o t (w .line) (w .more) (drop (k + 1) (fields m)) (w .here)
-      ∙ ap (λ (x : List ℕ). 58 ∷ (t ++ 58 ∷ x)) (ap (λ (x : List ℕ). x ++ r) (laid-joined (w .line) (w .more)) ∙ append-assoc j (13 ∷ 10 ∷ []) r)
+      ∙ ap (λ (x : List ℕ). 58 ∷ (t ++ 58 ∷ x)) (ap (λ (x : List ℕ). x ++ r) (crlf-joined (w .line) (w .more)) ∙ append-assoc j (13 ∷ 10 ∷ []) r)
       ∙ ap (λ (x : List ℕ). 58 ∷ x) (sym (append-assoc t (58 ∷ j) (13 ∷ 10 ∷ r))) in
       let n : byte spots (k + 1) - 2 - o ≡ length (58 ∷ (t ++ 58 ∷ j)) =
       omega (arith, w .next, length-append t (58 ∷ j), length-append t (58 ∷ w .line), joined-length (w .line) (w .more)) in

@@ -24,7 +24,7 @@ use Rattle.types.proofs.WalkLaws.{walked-refused}
 use Rattle.contents.specs.Rule8.{rightField, rule8}
 use Rattle.contents.proofs.RuleLaws.{own-number}
 use Rattle.values.proofs.RuleLaws.{broken9, broken10, broken11, broken12, broken13}
-use Rattle.roles.specs.Rule14.{unheard, spoken, rule14}
+use Rattle.roles.specs.Rule14.{unheard, speechesOf, rule14}
 use Rattle.roles.proofs.BreachLaws.{unheard-number}
 use Rattle.judge.specs.Message.{verdictOf}
 use Rattle.judge.proofs.RuleLaws.{verdict-holds}
@@ -90,6 +90,6 @@ verdict-never form m =
         banks = λ p e. omega (arith, broken11 form fs 17 p .0 e .0);
         parties = λ p e. omega (arith, broken12 form fs 17 p .0 e .0);
         taxes = λ p e. omega (arith, broken13 form fs 17 p .0 e .0);
-        texts = pick-never (signOf fs) (unheard (spoken form 5 fs)) Fine (λ p e. omega (arith, unheard-number (spoken form 5 fs) 17 p e)) fine-never;
+        texts = pick-never (signOf fs) (unheard (speechesOf form 5 fs)) Fine (λ p e. omega (arith, unheard-number (speechesOf form 5 fs) 17 p e)) fine-never;
       };
     })

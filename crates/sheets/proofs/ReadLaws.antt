@@ -12,7 +12,7 @@ use Rattle.base.specs.declared.Verdict.the-variants.{Fine}
 use Rattle.base.proofs.Bools.{left, right, all-append, all-front, all-behind}
 use Rattle.base.proofs.CallLaws.{not-said}
 use Rattle.alphabets.specs.Bank.{reads, reading}
-use Rattle.alphabets.specs.Steps.{codes}
+use Rattle.alphabets.specs.Steps.{backTable}
 use Rattle.alphabets.specs.Pieces.{pieceAfter, pieceIn, pieceOn, whole}
 use Rattle.alphabets.specs.Parts.{spoken, pieceText}
 use Rattle.alphabets.specs.declared.pieces.Piece.{Piece}
@@ -30,10 +30,10 @@ use Rattle.frame.proofs.CallLaws.{taken}
 use Rattle.contents.specs.Tests.{looksTax}
 use Rattle.contents.specs.Parts.{opensRpp}
 use Rattle.roles.specs.Role.{shapeOf, Part, copy, name, taxName, lineOf, cast}
-use Rattle.roles.specs.Parts.{castBy, named, nextRole}
+use Rattle.roles.specs.Parts.{castBy, isNameBy, nextRole}
 use Rattle.roles.specs.Speech as speech
-use Rattle.roles.specs.Speech.{Manner, told, taxPlaced, Speech, names, behind, codeSize, speeches}
-use Rattle.roles.specs.Rule14.{mute, clauses, breaks, spoken as texts}
+use Rattle.roles.specs.Speech.{Manner, asDetails, asTaxName, Speech, nameSpeeches, laterText, codeSize, speeches}
+use Rattle.roles.specs.Rule14.{mute, clauses, breaks14, speechesOf as texts}
 use Rattle.roles.specs.Sentences.{Heard}
 use Rattle.roles.specs.declared.Shape.{Shape}
 use Rattle.roles.specs.declared.Shape.the-variants.{Plain, Payer, Payee, Agent, Details, Note103, Note202}
@@ -45,14 +45,14 @@ use Rattle.judge.specs.Message.{verdictOf}
 use Rattle.judge.proofs.RuleLaws.{accepted-rules}
 use Rattle.judge.proofs.VerdictTheorems.{frame-clean}
 use Rattle.records.specs.Record.{Record, line, sheet}
-use Rattle.sheets.specs.Gather.{partFor, codeDigits, toldParts, noteParts, contentParts, recordFor, gather, typeRecord, recordsOf, sheetOf}
-use Rattle.sheets.specs.Steps.{saidBy, sideOf, sideBy, partsBy, cutBy, overBy, toldBy, noteBy, contentBy, recordBy, sheetBy}
+use Rattle.sheets.specs.Gather.{partFor, codeDigits, detailsParts, noteParts, contentParts, recordFor, gather, typeRecord, recordsOf, sheetOf}
+use Rattle.sheets.specs.Steps.{saidBy, sideOf, sideBy, partsBy, textPieces, overBy, detailsBy, noteBy, contentBy, recordBy, sheetBy}
 
 -- ---- a text that reads
 abbrev pub Speaks : Bool → List ℕ → Type 0
 Speaks s b = (d : List ℕ) × (reading s b ≡ said d)
 
-spoken-whole : (b : List ℕ) → Speaks true b → pieceText codes false b ≡ textOf (reading true b)
+spoken-whole : (b : List ℕ) → Speaks true b → pieceText backTable false b ≡ textOf (reading true b)
 spoken-whole b w = text-whole b (w .0) (w .1) ∙ sym (ap textOf (w .1))
 
 plain-whole : (b : List ℕ) → Speaks false b → b ≡ textOf (reading false b)
@@ -68,43 +68,43 @@ abbrev pub AllRead : Bool → List Part → Type 0
 AllRead s [] = Unit {0}
 AllRead s (x ∷ xs) = Reads s x × AllRead s xs
 
-copied : (s : Bool) (p : List ℕ) → saidBy codes (s && false) false p ≡ p
+copied : (s : Bool) (p : List ℕ) → saidBy backTable (s && false) false p ≡ p
 copied true p = refl
 copied false p = refl
 
-voiced : (s : Bool) (p : List ℕ) → Speaks s p → saidBy codes (s && true) false p ≡ textOf (reading s p)
+voiced : (s : Bool) (p : List ℕ) → Speaks s p → saidBy backTable (s && true) false p ≡ textOf (reading s p)
 voiced true p w = spoken-whole p w
 voiced false p w = plain-whole p w
 
-first-read : (s : Bool) (role : Role) (p : List ℕ) → Reads s (firstPart role p) → saidBy codes (s && named role p) false p ≡ partFor s (firstPart role p)
+first-read : (s : Bool) (role : Role) (p : List ℕ) → Reads s (firstPart role p) → saidBy backTable (s && isNameBy role p) false p ≡ partFor s (firstPart role p)
 first-read s Copies p w = copied s p
 first-read s OfPayer p w = go (begins 47 p) (looksTax p) w
   where
-    go : (a b : Bool) → Reads s (pick a (copy p) (pick b (copy p) (taxName p))) → saidBy codes (s && (not a && not b)) false p ≡ partFor s (pick a (copy p) (pick b (copy p) (taxName p)))
+    go : (a b : Bool) → Reads s (pick a (copy p) (pick b (copy p) (taxName p))) → saidBy backTable (s && (not a && not b)) false p ≡ partFor s (pick a (copy p) (pick b (copy p) (taxName p)))
     go true b w = copied s p
     go false true w = copied s p
     go false false w = voiced s p w
 first-read s OfPayee p w = go (begins 47 p) w
   where
-    go : (a : Bool) → Reads s (pick a (copy p) (name p)) → saidBy codes (s && not a) false p ≡ partFor s (pick a (copy p) (name p))
+    go : (a : Bool) → Reads s (pick a (copy p) (name p)) → saidBy backTable (s && not a) false p ≡ partFor s (pick a (copy p) (name p))
     go true w = copied s p
     go false w = voiced s p w
 first-read s OfAgent p w = copied s p
 first-read s Taxed p w = go (looksTax p) w
   where
-    go : (a : Bool) → Reads s (pick a (copy p) (taxName p)) → saidBy codes (s && not a) false p ≡ partFor s (pick a (copy p) (taxName p))
+    go : (a : Bool) → Reads s (pick a (copy p) (taxName p)) → saidBy backTable (s && not a) false p ≡ partFor s (pick a (copy p) (taxName p))
     go true w = copied s p
     go false w = voiced s p w
 first-read s Names p w = voiced s p w
 
-parts-cast : (s : Bool) (role : Role) (ls : List (List ℕ)) → AllRead s (castBy role ls) → partsBy codes s role ls ≡ map (partFor s) (castBy role ls)
+parts-cast : (s : Bool) (role : Role) (ls : List (List ℕ)) → AllRead s (castBy role ls) → partsBy backTable s role ls ≡ map (partFor s) (castBy role ls)
 unfolding partsBy
 parts-cast s role [] w = sym (ap (map (partFor s)) (cast-none role))
 parts-cast s role (l ∷ ls) w =
     let v : AllRead s (firstPart role l ∷ castBy (nextRole role l) ls) = subst (AllRead s) (cast-cons role l ls) w in
     ap₂ (λ (x : List ℕ) (xs : List (List ℕ)). x ∷ xs) (first-read s role l (v .0)) (parts-cast s (nextRole role l) ls (v .1)) ∙ sym (ap (map (partFor s)) (cast-cons role l ls))
 
-copies : (s : Bool) (ls : List (List ℕ)) → partsBy codes s Copies ls ≡ ls
+copies : (s : Bool) (ls : List (List ℕ)) → partsBy backTable s Copies ls ≡ ls
 unfolding partsBy
 copies s [] = refl
 copies s (l ∷ ls) = ap₂ (λ (x : List ℕ) (xs : List (List ℕ)). x ∷ xs) (copied s l) (copies s ls)
@@ -118,12 +118,12 @@ abbrev run : List (List ℕ) → List ℕ
 run [] = []
 run (p ∷ ps) = p ++ run ps
 
-behind-run : (mark : ℕ) (ls : List (List ℕ)) → behind mark ls ≡ run (map (drop mark) ls)
-unfolding behind
+behind-run : (mark : ℕ) (ls : List (List ℕ)) → laterText mark ls ≡ run (map (drop mark) ls)
+unfolding laterText
 behind-run mark [] = refl
 behind-run mark (l ∷ ls) = ap (λ (x : List ℕ). drop mark l ++ x) (behind-run mark ls)
 
-over-plain : (latin : Bool) (ps : List (List ℕ)) → overBy codes false latin ps ≡ run ps
+over-plain : (latin : Bool) (ps : List (List ℕ)) → overBy backTable false latin ps ≡ run ps
 unfolding overBy
 over-plain latin [] = refl
 over-plain latin (p ∷ ps) = ap (λ (x : List ℕ). p ++ x) (over-plain latin ps)
@@ -132,114 +132,114 @@ after-read : (i m n : ℕ) (z : Bool) (p : Piece) → pieceAfter i m p ≡ Read 
 after-read i m n z (Read k y) e = (k, (y, refl))
 after-read i m n z (Stops k) e = absurd (read-stops n (i + k) z e)
 
-none-said : (y : Bool) → pieceText codes y [] ≡ []
+none-said : (y : Bool) → pieceText backTable y [] ≡ []
 unfolding pieceText pieceIn spoken
 none-said y = refl
 
-over-spoken : (latin : Bool) (ps : List (List ℕ)) (n : ℕ) (z : Bool) → pieceIn codes latin (run ps) ≡ Read n z → overBy codes true latin ps ≡ pieceText codes latin (run ps)
+over-spoken : (latin : Bool) (ps : List (List ℕ)) (n : ℕ) (z : Bool) → pieceIn backTable latin (run ps) ≡ Read n z → overBy backTable true latin ps ≡ pieceText backTable latin (run ps)
 unfolding overBy
 over-spoken latin [] n z e = sym (none-said latin)
-over-spoken latin (p ∷ ps) n z e = go (pieceIn codes latin p) refl (sym (piece-append codes latin p (run ps)) ∙ e) (λ y k v f. over-spoken y ps k v f)
+over-spoken latin (p ∷ ps) n z e = go (pieceIn backTable latin p) refl (sym (piece-append backTable latin p (run ps)) ∙ e) (λ y k v f. over-spoken y ps k v f)
   where
-    go : (q : Piece) → pieceIn codes latin p ≡ q → pieceOn (length p) (pieceIn codes latin p) (λ y. pieceIn codes y (run ps)) ≡ Read n z
-        → ((y : Bool) (k : ℕ) (v : Bool) → pieceIn codes y (run ps) ≡ Read k v → overBy codes true y ps ≡ pieceText codes y (run ps))
-        → pieceText codes latin p ++ overBy codes true (sideBy codes true latin p) ps ≡ pieceText codes latin (p ++ run ps)
-    go (Stops k) f g ih = absurd (read-stops n k z (sym (ap (λ (q : Piece). pieceOn (length p) q (λ y. pieceIn codes y (run ps))) f) ∙ g))
+    go : (q : Piece) → pieceIn backTable latin p ≡ q → pieceOn (length p) (pieceIn backTable latin p) (λ y. pieceIn backTable y (run ps)) ≡ Read n z
+        → ((y : Bool) (k : ℕ) (v : Bool) → pieceIn backTable y (run ps) ≡ Read k v → overBy backTable true y ps ≡ pieceText backTable y (run ps))
+        → pieceText backTable latin p ++ overBy backTable true (sideBy backTable true latin p) ps ≡ pieceText backTable latin (p ++ run ps)
+    go (Stops k) f g ih = absurd (read-stops n k z (sym (ap (λ (q : Piece). pieceOn (length p) q (λ y. pieceIn backTable y (run ps))) f) ∙ g))
     go (Read a y) f g ih =
-        let r = after-read (length p) a n z (pieceIn codes y (run ps)) (sym (ap (λ (q : Piece). pieceOn (length p) q (λ x. pieceIn codes x (run ps))) f) ∙ g) in
-        ap (λ (x : Bool). pieceText codes latin p ++ overBy codes true x ps) (ap (sideOf latin) f)
-        ∙ ap (λ (x : List ℕ). pieceText codes latin p ++ x) (ih y (r .0) (r .1 .0) (r .1 .1))
-        ∙ sym (text-append codes latin p (run ps) a y (r .0) (r .1 .0) f (r .1 .1))
+        let r = after-read (length p) a n z (pieceIn backTable y (run ps)) (sym (ap (λ (q : Piece). pieceOn (length p) q (λ x. pieceIn backTable x (run ps))) f) ∙ g) in
+        ap (λ (x : Bool). pieceText backTable latin p ++ overBy backTable true x ps) (ap (sideOf latin) f)
+        ∙ ap (λ (x : List ℕ). pieceText backTable latin p ++ x) (ih y (r .0) (r .1 .0) (r .1 .1))
+        ∙ sym (text-append backTable latin p (run ps) a y (r .0) (r .1 .0) f (r .1 .1))
 
 -- a text that reads is one piece
-one-piece : (b d : List ℕ) → reads false b ≡ said d → (n : ℕ) × ((z : Bool) × (pieceIn codes false b ≡ Read n z))
-one-piece b d e = go (pieceIn codes false b) (sym (reads-piece false b) ∙ e)
+one-piece : (b d : List ℕ) → reads false b ≡ said d → (n : ℕ) × ((z : Bool) × (pieceIn backTable false b ≡ Read n z))
+one-piece b d e = go (pieceIn backTable false b) (sym (reads-piece false b) ∙ e)
   where
-    go : (p : Piece) → whole (length b) p (spoken codes false b) ≡ said d → (n : ℕ) × ((z : Bool) × (p ≡ Read n z))
+    go : (p : Piece) → whole (length b) p (spoken backTable false b) ≡ said d → (n : ℕ) × ((z : Bool) × (p ≡ Read n z))
     go (Read n z) f = (n, (z, refl))
     go (Stops k) f = absurd (not-said k d f)
 
-over-reads : (s : Bool) (ps : List (List ℕ)) → Speaks s (run ps) → overBy codes s false ps ≡ textOf (reading s (run ps))
+over-reads : (s : Bool) (ps : List (List ℕ)) → Speaks s (run ps) → overBy backTable s false ps ≡ textOf (reading s (run ps))
 over-reads true ps w = let o = one-piece (run ps) (w .0) (w .1) in over-spoken false ps (o .0) (o .1 .0) (o .1 .1) ∙ spoken-whole (run ps) w
 over-reads false ps w = over-plain false ps ∙ plain-whole (run ps) w
 
 -- ---- contents
-abbrev pub Told : Bool → ℕ → ℕ → List (List ℕ) → Type 0
-Told s front mark [] = Unit {0}
-Told s front mark (l ∷ ls) = Speaks s (drop front l ++ behind mark ls)
+abbrev pub DetailsSpeak : Bool → ℕ → ℕ → List (List ℕ) → Type 0
+DetailsSpeak s front mark [] = Unit {0}
+DetailsSpeak s front mark (l ∷ ls) = Speaks s (drop front l ++ laterText mark ls)
 
-told-same : (s : Bool) (first mark : ℕ) (ls : List (List ℕ)) → Told s (first + codeSize s) mark ls → toldBy codes s first mark ls ≡ toldParts s first mark ls
-told-same s first mark [] w = refl
-told-same s first mark (l ∷ ls) w =
-    let e : drop (first + codeSize s) l ++ behind mark ls ≡ run (cutBy (first + codeSize s) mark (l ∷ ls)) = ap (λ (x : List ℕ). drop (first + codeSize s) l ++ x) (behind-run mark ls) in
-    ap (λ (x : List ℕ). codeDigits s (drop first l) ∷ x ∷ []) (over-reads s (cutBy (first + codeSize s) mark (l ∷ ls)) (subst (Speaks s) e w) ∙ ap (λ (x : List ℕ). textOf (reading s x)) (sym e))
+details-same : (s : Bool) (first mark : ℕ) (ls : List (List ℕ)) → DetailsSpeak s (first + codeSize s) mark ls → detailsBy backTable s first mark ls ≡ detailsParts s first mark ls
+details-same s first mark [] w = refl
+details-same s first mark (l ∷ ls) w =
+    let e : drop (first + codeSize s) l ++ laterText mark ls ≡ run (textPieces (first + codeSize s) mark (l ∷ ls)) = ap (λ (x : List ℕ). drop (first + codeSize s) l ++ x) (behind-run mark ls) in
+    ap (λ (x : List ℕ). codeDigits s (drop first l) ∷ x ∷ []) (over-reads s (textPieces (first + codeSize s) mark (l ∷ ls)) (subst (Speaks s) e w) ∙ ap (λ (x : List ℕ). textOf (reading s x)) (sym e))
 
 pub record Noted (s : Bool) (l : List ℕ) (ls : List (List ℕ)) : Type 0 where
-  pub behind-rpp : opensRpp l ≡ true → Told s (5 + codeSize s) 2 ls
-  pub from-first : opensRpp l ≡ false → Told s (5 + codeSize s) 2 (l ∷ ls)
+  pub behind-rpp : opensRpp l ≡ true → DetailsSpeak s (5 + codeSize s) 2 ls
+  pub from-first : opensRpp l ≡ false → DetailsSpeak s (5 + codeSize s) 2 (l ∷ ls)
 
-note-same : (s : Bool) (l : List ℕ) (ls : List (List ℕ)) → Noted s l ls → noteBy codes s (l ∷ ls) ≡ noteParts s (l ∷ ls)
+note-same : (s : Bool) (l : List ℕ) (ls : List (List ℕ)) → Noted s l ls → noteBy backTable s (l ∷ ls) ≡ noteParts s (l ∷ ls)
 note-same s l ls w = go (opensRpp l) refl
   where
-    go : (b : Bool) → opensRpp l ≡ b → pick b (drop 5 l ∷ toldBy codes s 5 2 ls) ([] ∷ toldBy codes s 5 2 (l ∷ ls)) ≡ pick b (drop 5 l ∷ toldParts s 5 2 ls) ([] ∷ toldParts s 5 2 (l ∷ ls))
-    go true e = ap (λ (x : List (List ℕ)). drop 5 l ∷ x) (told-same s 5 2 ls (w .behind-rpp e))
-    go false e = ap (λ (x : List (List ℕ)). [] ∷ x) (told-same s 5 2 (l ∷ ls) (w .from-first e))
+    go : (b : Bool) → opensRpp l ≡ b → pick b (drop 5 l ∷ detailsBy backTable s 5 2 ls) ([] ∷ detailsBy backTable s 5 2 (l ∷ ls)) ≡ pick b (drop 5 l ∷ detailsParts s 5 2 ls) ([] ∷ detailsParts s 5 2 (l ∷ ls))
+    go true e = ap (λ (x : List (List ℕ)). drop 5 l ∷ x) (details-same s 5 2 ls (w .behind-rpp e))
+    go false e = ap (λ (x : List (List ℕ)). [] ∷ x) (details-same s 5 2 (l ∷ ls) (w .from-first e))
 
 abbrev pub Readable : Bool → Shape → List (List ℕ) → Type 0
 Readable s Plain ls = Unit {0}
 Readable s Payer ls = AllRead s (cast Payer ls)
 Readable s Payee ls = AllRead s (cast Payee ls)
 Readable s Agent ls = AllRead s (cast Agent ls)
-Readable s Details ls = Told s (codeSize s) 0 ls
+Readable s Details ls = DetailsSpeak s (codeSize s) 0 ls
 Readable s Note103 ls = Unit {0}
 Readable s Note202 [] = Unit {0}
 Readable s Note202 (l ∷ ls) = Noted s l ls
 
-content-same : (s : Bool) (sh : Shape) (ls : List (List ℕ)) → Readable s sh ls → contentBy codes s sh ls ≡ contentParts s sh ls
+content-same : (s : Bool) (sh : Shape) (ls : List (List ℕ)) → Readable s sh ls → contentBy backTable s sh ls ≡ contentParts s sh ls
 unfolding contentBy contentParts cast
 content-same s Plain ls w = copies s ls ∙ sym (as-copies s ls)
 content-same s Payer ls w = parts-cast s OfPayer ls w
 content-same s Payee ls w = parts-cast s OfPayee ls w
 content-same s Agent ls w = parts-cast s OfAgent ls w
-content-same true Details ls w = told-same true 0 0 ls w
-content-same false Details ls w = told-same false 0 0 ls w
+content-same true Details ls w = details-same true 0 0 ls w
+content-same false Details ls w = details-same false 0 0 ls w
 content-same s Note103 ls w = copies s (map (drop 5) ls)
 content-same s Note202 [] w = refl
 content-same s Note202 (l ∷ ls) w = note-same s l ls w
 
 -- ---- with the sign every text reads, by 14
-heard-speaks : (m : Manner) (b : List ℕ) → breaks m b ≡ false → Speaks true b
-unfolding breaks
+heard-speaks : (m : Manner) (b : List ℕ) → breaks14 m b ≡ false → Speaks true b
+unfolding breaks14
 heard-speaks m b e = go (reading true b) refl
   where
     go : (a : Answer) → reading true b ≡ a → Speaks true b
     go (said d) f = (d, f)
     go (stuck k) f = absurd (true≢false (sym (first-clause m b []) ∙ ap (λ (a : Answer). clauses m (mute a) b (textOf a)) (sym f) ∙ e))
 
-names-read : (o : ℕ) (xs : List Part) → Heard (names o xs) → AllRead true xs
-unfolding names
+names-read : (o : ℕ) (xs : List Part) → Heard (nameSpeeches o xs) → AllRead true xs
+unfolding nameSpeeches
 names-read o [] h = tt
 names-read o (copy p ∷ xs) h = (tt, names-read (o + length p + 2) xs h)
-names-read o (name p ∷ xs) h = (heard-speaks speech.named p (h .0), names-read (o + length p + 2) xs (h .1))
-names-read o (taxName p ∷ xs) h = (heard-speaks taxPlaced p (h .0), names-read (o + length p + 2) xs (h .1))
+names-read o (name p ∷ xs) h = (heard-speaks speech.asName p (h .0), names-read (o + length p + 2) xs (h .1))
+names-read o (taxName p ∷ xs) h = (heard-speaks asTaxName p (h .0), names-read (o + length p + 2) xs (h .1))
 
-told-heard : (front mark o : ℕ) (ls : List (List ℕ)) → Heard (speech.details front mark o ls) → Told true front mark ls
-unfolding speech.details
-told-heard front mark o [] h = tt
-told-heard front mark o (l ∷ ls) h = heard-speaks told (drop front l ++ behind mark ls) (h .0)
+details-heard : (front mark o : ℕ) (ls : List (List ℕ)) → Heard (speech.detailsSpeech front mark o ls) → DetailsSpeak true front mark ls
+unfolding speech.detailsSpeech
+details-heard front mark o [] h = tt
+details-heard front mark o (l ∷ ls) h = heard-speaks asDetails (drop front l ++ laterText mark ls) (h .0)
 
 signed-readable : (sh : Shape) (o : ℕ) (ls : List (List ℕ)) → Heard (speeches true sh o ls) → Readable true sh ls
-unfolding speeches speech.noted
+unfolding speeches speech.noteSpeeches
 signed-readable Plain o ls h = tt
 signed-readable Payer o ls h = names-read o (cast Payer ls) h
 signed-readable Payee o ls h = names-read o (cast Payee ls) h
 signed-readable Agent o ls h = names-read o (cast Agent ls) h
-signed-readable Details o ls h = told-heard 11 0 o ls h
+signed-readable Details o ls h = details-heard 11 0 o ls h
 signed-readable Note103 o ls h = tt
 signed-readable Note202 o [] h = tt
 signed-readable Note202 o (l ∷ ls) h = record {
-  behind-rpp = λ e. told-heard 16 2 (o + length l + 2) ls (subst (λ (b : Bool). Heard (pick b (speech.details 16 2 (o + length l + 2) ls) (speech.details 16 2 o (l ∷ ls)))) e h);
-  from-first = λ e. told-heard 16 2 o (l ∷ ls) (subst (λ (b : Bool). Heard (pick b (speech.details 16 2 (o + length l + 2) ls) (speech.details 16 2 o (l ∷ ls)))) e h);
+  behind-rpp = λ e. details-heard 16 2 (o + length l + 2) ls (subst (λ (b : Bool). Heard (pick b (speech.detailsSpeech 16 2 (o + length l + 2) ls) (speech.detailsSpeech 16 2 o (l ∷ ls)))) e h);
+  from-first = λ e. details-heard 16 2 o (l ∷ ls) (subst (λ (b : Bool). Heard (pick b (speech.detailsSpeech 16 2 (o + length l + 2) ls) (speech.detailsSpeech 16 2 o (l ∷ ls)))) e h);
 }
 
 -- ---- without it, by 3
@@ -257,15 +257,15 @@ drop-in zero b e = e
 drop-in (suc n) [] e = refl
 drop-in (suc n) (x ∷ b) e = drop-in n b (right (xset x) (all xset b) e)
 
-behind-in : (mark : ℕ) (ls : List (List ℕ)) → all (all xset) ls ≡ true → all xset (behind mark ls) ≡ true
-unfolding behind
-behind-in mark [] e = refl
-behind-in mark (l ∷ ls) e = all-append xset (drop mark l) (behind mark ls) (drop-in mark l (left (all xset l) _ e)) (behind-in mark ls (right (all xset l) _ e))
+later-in : (mark : ℕ) (ls : List (List ℕ)) → all (all xset) ls ≡ true → all xset (laterText mark ls) ≡ true
+unfolding laterText
+later-in mark [] e = refl
+later-in mark (l ∷ ls) e = all-append xset (drop mark l) (laterText mark ls) (drop-in mark l (left (all xset l) _ e)) (later-in mark ls (right (all xset l) _ e))
 
-told-in : (front mark : ℕ) (ls : List (List ℕ)) → all (all xset) ls ≡ true → Told false front mark ls
-told-in front mark [] e = tt
-told-in front mark (l ∷ ls) e =
-    plain-speaks (drop front l ++ behind mark ls) (all-append xset (drop front l) (behind mark ls) (drop-in front l (left (all xset l) _ e)) (behind-in mark ls (right (all xset l) _ e)))
+details-in : (front mark : ℕ) (ls : List (List ℕ)) → all (all xset) ls ≡ true → DetailsSpeak false front mark ls
+details-in front mark [] e = tt
+details-in front mark (l ∷ ls) e =
+    plain-speaks (drop front l ++ laterText mark ls) (all-append xset (drop front l) (laterText mark ls) (drop-in front l (left (all xset l) _ e)) (later-in mark ls (right (all xset l) _ e)))
 
 cast-in : (sh : Shape) (ls : List (List ℕ)) → all (all xset) ls ≡ true → AllRead false (cast sh ls)
 cast-in sh ls e = lines-read (cast sh ls) (ap (all (all xset)) (same-lines sh ls) ∙ e)
@@ -275,10 +275,10 @@ plain-readable Plain ls e = tt
 plain-readable Payer ls e = cast-in Payer ls e
 plain-readable Payee ls e = cast-in Payee ls e
 plain-readable Agent ls e = cast-in Agent ls e
-plain-readable Details ls e = told-in 9 0 ls e
+plain-readable Details ls e = details-in 9 0 ls e
 plain-readable Note103 ls e = tt
 plain-readable Note202 [] e = tt
-plain-readable Note202 (l ∷ ls) e = record { behind-rpp = λ _. told-in 14 2 ls (right (all xset l) _ e); from-first = λ _. told-in 14 2 (l ∷ ls) e }
+plain-readable Note202 (l ∷ ls) e = record { behind-rpp = λ _. details-in 14 2 ls (right (all xset l) _ e); from-first = λ _. details-in 14 2 (l ∷ ls) e }
 
 -- ---- the fields
 abbrev pub AllReadable : Form → Bool → List Field → Type 0
@@ -308,7 +308,7 @@ fields-plain form (field t (l ∷ ls) ∷ fs) e =
       fields-plain form fs (all-behind (all xset) ((58 ∷ (t ++ 58 ∷ l)) ∷ ls) (linesOf fs) e),
     )
 
-records-same : (form : Form) (s : Bool) (fs : List Field) → AllReadable form s fs → map (recordBy codes form s) fs ≡ map (recordFor form s) fs
+records-same : (form : Form) (s : Bool) (fs : List Field) → AllReadable form s fs → map (recordBy backTable form s) fs ≡ map (recordFor form s) fs
 records-same form s [] w = refl
 records-same form s (field t ls ∷ fs) w = ap₂ (λ (r : Record) (rs : List Record). r ∷ rs) (ap (field t) (content-same s (shapeOf form t) ls (w .0))) (records-same form s fs (w .1))
 
@@ -318,7 +318,7 @@ module _ (form : Form) (m : List ℕ) (v : verdictOf form m ≡ Fine) where
   readable true e = fields-heard form 5 (fields m) (rule14-fine form (fields m) .0 (accepted-rules form m v .inside .texts) e)
   readable false e = let t = taken form m (frame-clean form m v) in fields-plain form (fields m) (fields-in m (t .frame-fine) (t .bytes-fine) (t .lines-fine))
 
-  pub sheet-same : line (typeRecord form) ++ 10 ∷ sheetBy codes form (signOf (fields m)) (fields m) ≡ sheetOf form m
+  pub sheet-same : line (typeRecord form) ++ 10 ∷ sheetBy backTable form (signOf (fields m)) (fields m) ≡ sheetOf form m
   unfolding sheetOf recordsOf gather
   sheet-same =
       ap (λ (rs : List Record). line (typeRecord form) ++ 10 ∷ sheet rs) (records-same form (signOf (fields m)) (fields m) (readable (signOf (fields m)) refl))

@@ -16,7 +16,7 @@ use Rattle.alphabets.proofs.Shortest.{Came, turned, signed, came}
 use Rattle.alphabets.proofs.Theorems.{plain-only}
 use Rattle.fields.specs.Field.{Field, field, lined, linesOf, fields}
 use Rattle.fields.specs.Frame.{limit}
-use Rattle.fields.specs.Places.{sizeOf}
+use Rattle.fields.specs.Places.{linesSize}
 use Rattle.fields.specs.Shapes.{proper}
 use Rattle.fields.proofs.FieldLaws.{fields-proper, fields-dash}
 use Rattle.fields.proofs.PlaceLaws.{size-append}
@@ -26,7 +26,7 @@ use Rattle.types.specs.Sign.{signOf}
 use Rattle.frame.proofs.CallLaws.{taken}
 use Rattle.contents.specs.Parts.{opensRpp}
 use Rattle.roles.specs.Role.{shapeOf, Part, copy, name, taxName, lineOf, cast}
-use Rattle.roles.specs.Speech.{codeSize, behind}
+use Rattle.roles.specs.Speech.{codeSize, laterText}
 use Rattle.roles.specs.declared.Shape.{Shape}
 use Rattle.roles.specs.declared.Shape.the-variants.{Plain, Payer, Payee, Agent, Details, Note103, Note202}
 use Rattle.roles.proofs.BreachLaws.{same-lines}
@@ -35,7 +35,7 @@ use Rattle.judge.proofs.VerdictTheorems.{frame-clean}
 use Rattle.records.specs.Record.{tabbed, line}
 use Rattle.records.specs.Places as records
 use Rattle.records.proofs.PlaceLaws.{size-sheet}
-use Rattle.sheets.specs.Gather.{partFor, codeDigits, toldParts, noteParts, contentParts, recordFor, gather, typeRecord, recordsOf, sheetOf}
+use Rattle.sheets.specs.Gather.{partFor, codeDigits, detailsParts, noteParts, contentParts, recordFor, gather, typeRecord, recordsOf, sheetOf}
 use Rattle.sheets.proofs.TextLaws.{take-few}
 
 -- ---- a text reads as no more bytes than it has
@@ -67,54 +67,54 @@ module _ (s : Bool) where
   part-short (name l) = text-short s l
   part-short (taxName l) = text-short s l
 
-  parts-short : (xs : List Part) → length (tabbed (map (partFor s) xs)) ≤ sizeOf (map lineOf xs)
+  parts-short : (xs : List Part) → length (tabbed (map (partFor s) xs)) ≤ linesSize (map lineOf xs)
   parts-short [] = omega arith
   parts-short (x ∷ xs) = omega (arith, part-short x, parts-short xs, length-append (partFor s x) (tabbed (map (partFor s) xs)))
 
-  cast-short : (sh : Shape) (ls : List (List ℕ)) → length (tabbed (map (partFor s) (cast sh ls))) ≤ sizeOf ls
-  cast-short sh ls = omega (arith, parts-short (cast sh ls), ap sizeOf (same-lines sh ls))
+  cast-short : (sh : Shape) (ls : List (List ℕ)) → length (tabbed (map (partFor s) (cast sh ls))) ≤ linesSize ls
+  cast-short sh ls = omega (arith, parts-short (cast sh ls), ap linesSize (same-lines sh ls))
 
-cut-short : (n : ℕ) (ls : List (List ℕ)) → length (tabbed (map (drop n) ls)) ≤ sizeOf ls
+cut-short : (n : ℕ) (ls : List (List ℕ)) → length (tabbed (map (drop n) ls)) ≤ linesSize ls
 cut-short n [] = omega arith
 cut-short n (l ∷ ls) = omega (arith, cut-short n ls, length-drop n l, length-append (drop n l) (tabbed (map (drop n) ls)))
 
 -- ---- details: five digits and a tab for the code
-behind-short : (mark : ℕ) (ls : List (List ℕ)) → length (behind mark ls) ≤ sizeOf ls
-unfolding behind
-behind-short mark [] = omega arith
-behind-short mark (l ∷ ls) = omega (arith, behind-short mark ls, length-drop mark l, length-append (drop mark l) (behind mark ls))
+later-short : (mark : ℕ) (ls : List (List ℕ)) → length (laterText mark ls) ≤ linesSize ls
+unfolding laterText
+later-short mark [] = omega arith
+later-short mark (l ∷ ls) = omega (arith, later-short mark ls, length-drop mark l, length-append (drop mark l) (laterText mark ls))
 
 -- the digits stand in the code
 code-short : (s : Bool) (n : ℕ) (l : List ℕ) → length (codeDigits s (drop n l)) + length (drop (n + codeSize s) l) ≤ length l
 code-short true n l = omega (arith, take-few 5 (drop 4 (drop n l)), length-take 5 (drop 4 (drop n l)), length-drop 4 (drop n l), length-drop n l, length-drop (n + 11) l)
 code-short false n l = omega (arith, take-few 5 (drop 3 (drop n l)), length-take 5 (drop 3 (drop n l)), length-drop 3 (drop n l), length-drop n l, length-drop (n + 9) l)
 
-told-short : (s : Bool) (first mark : ℕ) (ls : List (List ℕ)) → length (tabbed (toldParts s first mark ls)) ≤ sizeOf ls
+told-short : (s : Bool) (first mark : ℕ) (ls : List (List ℕ)) → length (tabbed (detailsParts s first mark ls)) ≤ linesSize ls
 told-short s first mark [] = omega arith
 told-short s first mark (l ∷ ls) =
     let v = codeDigits s (drop first l) in
-    let b = drop (first + codeSize s) l ++ behind mark ls in
+    let b = drop (first + codeSize s) l ++ laterText mark ls in
     let t = textOf (reading s b) in
     omega (
       arith,
       length-append v (9 ∷ (t ++ [])),
       length-append t [],
       text-short s b,
-      length-append (drop (first + codeSize s) l) (behind mark ls),
-      behind-short mark ls,
+      length-append (drop (first + codeSize s) l) (laterText mark ls),
+      later-short mark ls,
       code-short s first l,
     )
 
 -- 72 of a 202: the empty part costs a tab
-note-short : (s : Bool) (ls : List (List ℕ)) → length (tabbed (noteParts s ls)) ≤ 1 + sizeOf ls
+note-short : (s : Bool) (ls : List (List ℕ)) → length (tabbed (noteParts s ls)) ≤ 1 + linesSize ls
 note-short s [] = omega arith
 note-short s (l ∷ ls) = go (opensRpp l)
   where
-    go : (b : Bool) → length (tabbed (pick b (drop 5 l ∷ toldParts s 5 2 ls) ([] ∷ toldParts s 5 2 (l ∷ ls)))) ≤ 1 + sizeOf (l ∷ ls)
-    go true = omega (arith, told-short s 5 2 ls, length-drop 5 l, length-append (drop 5 l) (tabbed (toldParts s 5 2 ls)))
+    go : (b : Bool) → length (tabbed (pick b (drop 5 l ∷ detailsParts s 5 2 ls) ([] ∷ detailsParts s 5 2 (l ∷ ls)))) ≤ 1 + linesSize (l ∷ ls)
+    go true = omega (arith, told-short s 5 2 ls, length-drop 5 l, length-append (drop 5 l) (tabbed (detailsParts s 5 2 ls)))
     go false = omega (arith, told-short s 5 2 (l ∷ ls))
 
-content-short : (s : Bool) (sh : Shape) (ls : List (List ℕ)) → length (tabbed (contentParts s sh ls)) ≤ 1 + sizeOf ls
+content-short : (s : Bool) (sh : Shape) (ls : List (List ℕ)) → length (tabbed (contentParts s sh ls)) ≤ 1 + linesSize ls
 unfolding contentParts
 content-short s Plain ls = omega (arith, cast-short s Plain ls)
 content-short s Payer ls = omega (arith, cast-short s Payer ls)
@@ -126,13 +126,13 @@ content-short s Note202 ls = note-short s ls
 
 -- ---- a record, with its LF, is no longer than its field
 module _ (form : Form) (s : Bool) where
-  record-short : (f : Field) → proper f ≡ true → length (line (recordFor form s f)) + 1 ≤ sizeOf (lined f)
+  record-short : (f : Field) → proper f ≡ true → length (line (recordFor form s f)) + 1 ≤ linesSize (lined f)
   record-short (field t []) e = absurd (false≢true e)
   record-short (field t (l ∷ ls)) e =
       let ps = contentParts s (shapeOf form t) (l ∷ ls) in
       omega (arith, content-short s (shapeOf form t) (l ∷ ls), length-append t (tabbed ps), length-append t (58 ∷ l))
 
-  records-short : (fs : List Field) → all proper fs ≡ true → records.sizeOf (map (recordFor form s) fs) ≤ sizeOf (linesOf fs)
+  records-short : (fs : List Field) → all proper fs ≡ true → records.recordsSize (map (recordFor form s) fs) ≤ linesSize (linesOf fs)
   records-short [] e = omega arith
   records-short (f ∷ fs) e =
       omega (arith, record-short f (left (proper f) _ e), records-short fs (right (proper f) _ e), size-append (lined f) (linesOf fs))

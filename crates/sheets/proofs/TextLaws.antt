@@ -6,7 +6,7 @@ use mathlib.Core.List.{List, [], _∷_, _++_, map, append-nil}
 use native.Mathlib.Omega.{arith}
 use lib.Dec.{eqb, ltb}
 use lib.ListN.{length, take, drop, getD, length-drop}
-use Rattle.base.specs.Bytes.{upTo}
+use Rattle.base.specs.Bytes.{countUpTo}
 use Rattle.base.specs.Choice.{pick}
 use Rattle.base.specs.Calls.{placed, Puts}
 use Rattle.alphabets.specs.Runs.{floorOf}
@@ -19,12 +19,12 @@ use Rattle.fields.specs.Frame.{limit}
 use Rattle.fields.specs.Lines.{linesIn}
 use Rattle.base.proofs.MarkLaws.{up-rest}
 use Rattle.base.proofs.Room.{puts-put, puts-on, puts-by, Leads, leads-on, leads-last}
-use Rattle.roles.specs.Parts.{named, nextRole}
+use Rattle.roles.specs.Parts.{isNameBy, nextRole}
 use Rattle.roles.specs.declared.Role.{Role}
 use Rattle.roles.proofs.LineLaws.{lines-from, past-none, past-at, line-length}
 use Rattle.records.specs.Record.{tabbed}
 use Rattle.sheets.specs.Gather.{codeDigits}
-use Rattle.sheets.specs.Steps.{saidBy, sideOf, sideBy, partsBy, cutBy, overBy}
+use Rattle.sheets.specs.Steps.{saidBy, sideOf, sideBy, partsBy, textPieces, overBy}
 
 -- ---- the first of a part
 pub take-few : (n : ℕ) (l : List ℕ) → length (take n l) ≤ n
@@ -87,12 +87,12 @@ module _ (t : List ℕ) (b latin : Bool) (p out : List ℕ) (at : ℕ) where
 pub tab-put : {u out mid after : List ℕ} {at r : ℕ} → mid ≡ placed out at (9 ∷ []) → Puts u mid (at + 1) r after → Puts (9 ∷ u) out at r after
 tab-put {u} e p = puts-on (9 ∷ []) u (puts-put refl e) p
 
-cut-on : (mark : ℕ) (ls : List (List ℕ)) → map (drop mark) ls ≡ cutBy mark mark ls
+cut-on : (mark : ℕ) (ls : List (List ℕ)) → map (drop mark) ls ≡ textPieces mark mark ls
 cut-on mark [] = refl
 cut-on mark (x ∷ ls) = refl
 
 -- ---- the lines of a content from i on, the first of them to its end e
-module _ (c : List ℕ) (i e : ℕ) (q : e ≡ i + upTo 13 (drop i c)) where
+module _ (c : List ℕ) (i e : ℕ) (q : e ≡ i + countUpTo 13 (drop i c)) where
   abbrev this : List ℕ
   this = take (e - i) (drop i c)
 
@@ -126,7 +126,7 @@ module _ (c : List ℕ) (i e : ℕ) (q : e ≡ i + upTo 13 (drop i c)) where
     piece-last b = omega (arith, cut-small d z, this-within h)
 
   -- each as a part
-  module _ (t : List ℕ) (s : Bool) (role : Role) (mark : ℕ) {l : List ℕ} (z : l ≡ drop mark this) {b : Bool} (y : b ≡ (s && named role l)) where
+  module _ (t : List ℕ) (s : Bool) (role : Role) (mark : ℕ) {l : List ℕ} (z : l ≡ drop mark this) {b : Bool} (y : b ≡ (s && isNameBy role l)) where
     abbrev left : ℕ → Role → List ℕ
     left j r = tabbed (partsBy t s r (map (drop mark) (linesIn (drop j c))))
 
@@ -147,14 +147,14 @@ module _ (c : List ℕ) (i e : ℕ) (q : e ≡ i + upTo 13 (drop i c)) where
   -- as pieces of a text
   module _ (t : List ℕ) (s latin : Bool) (d mark : ℕ) {l : List ℕ} (z : l ≡ drop d this) where
     abbrev over : ℕ → Bool → ℕ → List ℕ
-    over j y x = overBy t s y (cutBy x mark (linesIn (drop j c)))
+    over j y x = overBy t s y (textPieces x mark (linesIn (drop j c)))
 
-    piece-of : (ls : List (List ℕ)) → linesIn (drop i c) ≡ this ∷ ls → {y : Bool} → y ≡ sideBy t s latin l → saidBy t s latin l ++ overBy t s y (cutBy mark mark ls) ≡ over i latin d
+    piece-of : (ls : List (List ℕ)) → linesIn (drop i c) ≡ this ∷ ls → {y : Bool} → y ≡ sideBy t s latin l → saidBy t s latin l ++ overBy t s y (textPieces mark mark ls) ≡ over i latin d
     unfolding overBy
     piece-of ls f {y} g =
         ap₂ (λ (x : Bool) (xs : List (List ℕ)). saidBy t s latin l ++ overBy t s x xs) g (sym (cut-on mark ls))
         ∙ ap (λ (x : List ℕ). overBy t s latin (x ∷ map (drop mark) ls)) z
-        ∙ sym (ap (λ (xs : List (List ℕ)). overBy t s latin (cutBy d mark xs)) f)
+        ∙ sym (ap (λ (xs : List (List ℕ)). overBy t s latin (textPieces d mark xs)) f)
 
     pub over-last : {w out now mid : List ℕ} {at n k : ℕ} → length c ≤ e → Leads w out at (over i latin d) now n → Puts (saidBy t s latin l) now n k mid → Puts w out at k mid
     unfolding overBy

@@ -13,7 +13,7 @@ use Rattle.types.specs.declared.Form.the-variants.{Other, Mt103, Mt202}
 use Rattle.types.specs.Sign.{signOf}
 use Rattle.contents.specs.Parts.{opensRpp}
 use Rattle.roles.specs.Role.{shapeOf, Part, copy, name, taxName, cast}
-use Rattle.roles.specs.Speech.{codeSize, behind}
+use Rattle.roles.specs.Speech.{codeSize, laterText}
 use Rattle.roles.specs.declared.Shape.{Shape}
 use Rattle.roles.specs.declared.Shape.the-variants.{Plain, Payer, Payee, Agent, Details, Note103, Note202}
 use Rattle.records.specs.Record.{Record, sheet}
@@ -31,17 +31,17 @@ codeDigits true l = take 5 (drop 4 l)
 codeDigits false l = take 5 (drop 3 l)
 
 -- VO digits and text, of lines behind `first` bytes of mark in the first and `mark` bytes in each later one
-abbrev pub toldParts : Bool → ℕ → ℕ → List (List ℕ) → List (List ℕ)
-toldParts s first mark [] = []
-toldParts s first mark (l ∷ ls) = codeDigits s (drop first l) ∷ textOf (reading s (drop (first + codeSize s) l ++ behind mark ls)) ∷ []
+abbrev pub detailsParts : Bool → ℕ → ℕ → List (List ℕ) → List (List ℕ)
+detailsParts s first mark [] = []
+detailsParts s first mark (l ∷ ls) = codeDigits s (drop first l) ∷ textOf (reading s (drop (first + codeSize s) l ++ laterText mark ls)) ∷ []
 
 -- 72 of a 202: what follows /RPP/ or an empty part, then VO digits and text
 abbrev pub noteParts : Bool → List (List ℕ) → List (List ℕ)
 noteParts s [] = []
-noteParts s (l ∷ ls) = pick (opensRpp l) (drop 5 l ∷ toldParts s 5 2 ls) ([] ∷ toldParts s 5 2 (l ∷ ls))
+noteParts s (l ∷ ls) = pick (opensRpp l) (drop 5 l ∷ detailsParts s 5 2 ls) ([] ∷ detailsParts s 5 2 (l ∷ ls))
 
 unfoldable pub contentParts : Bool → Shape → List (List ℕ) → List (List ℕ)
-contentParts s Details ls = toldParts s 0 0 ls
+contentParts s Details ls = detailsParts s 0 0 ls
 contentParts s Note103 ls = map (drop 5) ls
 contentParts s Note202 ls = noteParts s ls
 contentParts s Plain ls = map (partFor s) (cast Plain ls)

@@ -1,5 +1,5 @@
 -- What the functions say to each other that put a message's sheet into room: fields, lines and texts as code finds them, the table lent (S2, T7,
--- T12, Cdetails, C72). With the table of codes, over an accepted message, this is its sheet (proofs/ReadLaws). Assumes nothing.
+-- T12, Cdetails, C72). With the table backwards, over an accepted message, this is its sheet (proofs/ReadLaws). Assumes nothing.
 use Prim.Native.Nat.{ℕ, _+_, _-_, _≤_, _<_}
 use mathlib.Core.Path.{_≡_}
 use mathlib.Core.Bool.{Bool, false, _&&_}
@@ -20,7 +20,7 @@ use Rattle.fields.specs.Shapes.{unpack, packed}
 use Rattle.fields.specs.Lines.{linesIn}
 use Rattle.contents.specs.Parts.{opensRpp}
 use Rattle.roles.specs.Role.{shapeOf}
-use Rattle.roles.specs.Parts.{named, nextRole}
+use Rattle.roles.specs.Parts.{isNameBy, nextRole}
 use Rattle.roles.specs.Speech.{codeSize}
 use Rattle.roles.specs.declared.Shape.{Shape}
 use Rattle.roles.specs.declared.Shape.the-variants.{Plain, Payer, Payee, Agent, Details, Note103, Note202}
@@ -46,26 +46,26 @@ sideBy t spoken latin p = pick spoken (sideOf latin (pieceIn t latin p)) latin
 -- ---- lines as parts, by their roles
 unfoldable pub partsBy : List ℕ → Bool → Role → List (List ℕ) → List (List ℕ)
 partsBy t s role [] = []
-partsBy t s role (l ∷ ls) = saidBy t (s && named role l) false l ∷ partsBy t s (nextRole role l) ls
+partsBy t s role (l ∷ ls) = saidBy t (s && isNameBy role l) false l ∷ partsBy t s (nextRole role l) ls
 
 -- ---- a text over lines: what stands behind the marks, one piece behind another
-abbrev pub cutBy : ℕ → ℕ → List (List ℕ) → List (List ℕ)
-cutBy front mark [] = []
-cutBy front mark (l ∷ ls) = drop front l ∷ map (drop mark) ls
+abbrev pub textPieces : ℕ → ℕ → List (List ℕ) → List (List ℕ)
+textPieces front mark [] = []
+textPieces front mark (l ∷ ls) = drop front l ∷ map (drop mark) ls
 
 unfoldable pub overBy : List ℕ → Bool → Bool → List (List ℕ) → List ℕ
 overBy t s latin [] = []
 overBy t s latin (p ∷ ps) = saidBy t s latin p ++ overBy t s (sideBy t s latin p) ps
 
 -- ---- details: the digits of the VO code at the front, and the text
-abbrev pub toldBy : List ℕ → Bool → ℕ → ℕ → List (List ℕ) → List (List ℕ)
-toldBy t s first mark [] = []
-toldBy t s first mark (l ∷ ls) = codeDigits s (drop first l) ∷ overBy t s false (cutBy (first + codeSize s) mark (l ∷ ls)) ∷ []
+abbrev pub detailsBy : List ℕ → Bool → ℕ → ℕ → List (List ℕ) → List (List ℕ)
+detailsBy t s first mark [] = []
+detailsBy t s first mark (l ∷ ls) = codeDigits s (drop first l) ∷ overBy t s false (textPieces (first + codeSize s) mark (l ∷ ls)) ∷ []
 
 -- 72 of a 202: what follows /RPP/ or an empty part, then details
 abbrev pub noteBy : List ℕ → Bool → List (List ℕ) → List (List ℕ)
 noteBy t s [] = []
-noteBy t s (l ∷ ls) = pick (opensRpp l) (drop 5 l ∷ toldBy t s 5 2 ls) ([] ∷ toldBy t s 5 2 (l ∷ ls))
+noteBy t s (l ∷ ls) = pick (opensRpp l) (drop 5 l ∷ detailsBy t s 5 2 ls) ([] ∷ detailsBy t s 5 2 (l ∷ ls))
 
 -- ---- the content parts of a field, by the shape of its tag
 unfoldable pub contentBy : List ℕ → Bool → Shape → List (List ℕ) → List (List ℕ)
@@ -73,7 +73,7 @@ contentBy t s Plain ls = partsBy t s Copies ls
 contentBy t s Payer ls = partsBy t s OfPayer ls
 contentBy t s Payee ls = partsBy t s OfPayee ls
 contentBy t s Agent ls = partsBy t s OfAgent ls
-contentBy t s Details ls = toldBy t s 0 0 ls
+contentBy t s Details ls = detailsBy t s 0 0 ls
 contentBy t s Note103 ls = partsBy t s Copies (map (drop 5) ls)
 contentBy t s Note202 ls = noteBy t s ls
 

@@ -7,7 +7,7 @@ ghost use Rattle.fields.specs.Lines.{linesIn};
 ghost use Rattle.roles.specs.Speech.{codeSize};
 ghost use Rattle.records.specs.Record.{tabbed};
 ghost use Rattle.sheets.specs.Gather.{codeDigits};
-ghost use Rattle.sheets.specs.Steps.{toldBy, noteBy, contentBy};
+ghost use Rattle.sheets.specs.Steps.{detailsBy, noteBy, contentBy};
 use super::texts::put_lines;
 use super::texts::put_over;
 use super::texts::put_part;
@@ -41,7 +41,7 @@ fn code_size(sign: bool) -> usize
 }
 
 // VO digits and the text, of lines behind `first` bytes of mark in the first and `mark` bytes in each later one.
-fn put_told(
+fn put_details(
     back: &[u8; 256],
     sign: bool,
     first: usize,
@@ -51,7 +51,7 @@ fn put_told(
     at: usize,
 ) -> usize
     requires { ⌜ (first ≤ 5) × (length (now c) ≤ 10000) × (at ≤ 300000) ⌝ }
-    ensures { λ r. ⌜ (r ≤ at + length (now (c .entry)) + 7) × Puts (tabbed (toldBy (now (back .entry)) sign first mark (linesIn (now (c .entry))))) (now (out .entry)) at r (now (out .exit)) ⌝ }
+    ensures { λ r. ⌜ (r ≤ at + length (now (c .entry)) + 7) × Puts (tabbed (detailsBy (now (back .entry)) sign first mark (linesIn (now (c .entry))))) (now (out .entry)) at r (now (out .exit)) ⌝ }
 {
     let e = mark_at(13, c, 0);
     let n = put_part(back, false, digits_of(sign, past(&c[..e], first)), out, at);
@@ -67,14 +67,14 @@ fn put_note(back: &[u8; 256], sign: bool, c: &[u8], out: &mut [u8], at: usize) -
     let e = mark_at(13, c, 0);
     if !opens_rpp(&c[..e]) {
         put(out, at, b"\t");
-        return put_told(back, sign, 5, 2, c, out, at + 1);
+        return put_details(back, sign, 5, 2, c, out, at + 1);
     }
     let n = put_part(back, false, past(&c[..e], 5), out, at);
     if c.len() <= e {
         return n;
     }
     let i = next_line(e, c.len());
-    put_told(back, sign, 5, 2, &c[i..], out, n)
+    put_details(back, sign, 5, 2, &c[i..], out, n)
 }
 
 // The parts of a content, each behind a tab, by the shape of its tag.
@@ -90,7 +90,7 @@ pub(crate) fn put_content(
     ensures { λ r. ⌜ (r ≤ at + length (now (c .entry)) + 8) × Puts (tabbed (contentBy (now (back .entry)) sign shape (linesIn (now (c .entry))))) (now (out .entry)) at r (now (out .exit)) ⌝ }
 {
     match shape {
-        Shape::Details => put_told(back, sign, 0, 0, c, out, at),
+        Shape::Details => put_details(back, sign, 0, 0, c, out, at),
         Shape::Note103 => put_lines(back, sign, Role::Copies, 5, c, out, at),
         Shape::Note202 => put_note(back, sign, c, out, at),
         _ => put_lines(back, sign, first_role(shape), 0, c, out, at),

@@ -7,7 +7,7 @@ ghost use lib.ListN.{length, drop};
 ghost use Rattle.base.specs.Calls.{Puts};
 ghost use Rattle.fields.specs.Lines.{linesIn};
 ghost use Rattle.records.specs.Record.{tabbed};
-ghost use Rattle.sheets.specs.Steps.{saidBy, sideBy, partsBy, cutBy, overBy};
+ghost use Rattle.sheets.specs.Steps.{saidBy, sideBy, partsBy, textPieces, overBy};
 use alphabets::parts::put_piece;
 use alphabets::pieces::Piece;
 use base::bytes::past;
@@ -102,7 +102,7 @@ pub(crate) fn put_over(
     at: usize,
 ) -> usize
     requires { ⌜ (length (now c) ≤ 10000) × (at ≤ 400000) ⌝ }
-    ensures { λ r. ⌜ (r ≤ at + length (now (c .entry))) × Puts (overBy (now (back .entry)) sign false (cutBy front mark (linesIn (now (c .entry))))) (now (out .entry)) at r (now (out .exit)) ⌝ }
+    ensures { λ r. ⌜ (r ≤ at + length (now (c .entry))) × Puts (overBy (now (back .entry)) sign false (textPieces front mark (linesIn (now (c .entry))))) (now (out .entry)) at r (now (out .exit)) ⌝ }
 {
     let mut d = front;
     let mut latin = false;

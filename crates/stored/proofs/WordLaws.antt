@@ -8,20 +8,20 @@ use native.Mathlib.Numerals.{add-one}
 use lib.ListN.{length, getD, drop, drop-of-length-le, length-drop}
 use lib.Seq.{drop-cons, drop-drop}
 use borrow.Author.Tests.{lt-ltb, le-ltb}
-use Rattle.base.specs.Bytes.{digit, upTo}
+use Rattle.base.specs.Bytes.{digit, countUpTo}
 use Rattle.stored.specs.Words.{restOf, digitOf, none, numberFrom, numberOf}
 
 -- ---- one mark further: to the byte behind it, or to the end
-module _ (mark : ℕ) (s : List ℕ) (at e : ℕ) (f : e ≡ at + upTo mark (drop at s)) where
+module _ (mark : ℕ) (s : List ℕ) (at e : ℕ) (f : e ≡ at + countUpTo mark (drop at s)) where
   pub past-next : drop (e + 1) s ≡ restOf mark 1 (drop at s)
   unfolding restOf
   past-next =
-      let g : e + 1 ≡ at + suc (upTo mark (drop at s)) = omega arith in
-      ap (λ (k : ℕ). drop k s) g ∙ sym (drop-drop (suc (upTo mark (drop at s))) at s)
+      let g : e + 1 ≡ at + suc (countUpTo mark (drop at s)) = omega arith in
+      ap (λ (k : ℕ). drop k s) g ∙ sym (drop-drop (suc (countUpTo mark (drop at s))) at s)
 
   pub past-last : length s ≤ e → drop e s ≡ restOf mark 1 (drop at s)
   unfolding restOf
-  past-last h = drop-of-length-le s h ∙ sym (drop-of-length-le (drop at s) {i = suc (upTo mark (drop at s))} (omega (arith, length-drop at s)))
+  past-last h = drop-of-length-le s h ∙ sym (drop-of-length-le (drop at s) {i = suc (countUpTo mark (drop at s))} (omega (arith, length-drop at s)))
 
 -- the loop: behind one mark, and then behind the others
 pub rest-step : (mark k : ℕ) (s t : List ℕ) → 0 < k → t ≡ restOf mark 1 s → restOf mark k s ≡ restOf mark (k - 1) t

@@ -4,16 +4,16 @@ use mathlib.Core.List.{List, [], _∷_}
 use lib.Dec.{ltb}
 use lib.ListN.{take, drop}
 use Rattle.base.specs.Choice.{pick}
-use Rattle.base.specs.Bytes.{digit, upTo, empty}
+use Rattle.base.specs.Bytes.{digit, countUpTo, empty}
 
 -- the text before the first mark
 unfoldable pub before : ℕ → List ℕ → List ℕ
-before mark s = take (upTo mark s) s
+before mark s = take (countUpTo mark s) s
 
 -- the text behind k marks; nothing where there are fewer
 unfoldable pub restOf : ℕ → ℕ → List ℕ → List ℕ
 restOf mark zero s = s
-restOf mark (suc k) s = restOf mark k (drop (suc (upTo mark s)) s)
+restOf mark (suc k) s = restOf mark k (drop (suc (countUpTo mark s)) s)
 
 unfoldable pub wordOf : ℕ → ℕ → List ℕ → List ℕ
 wordOf mark k s = before mark (restOf mark k s)

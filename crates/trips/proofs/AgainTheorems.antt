@@ -18,6 +18,7 @@ use Rattle.base.specs.declared.Outcome.{Outcome}
 use Rattle.base.specs.declared.Outcome.the-variants.{Done}
 use Rattle.base.proofs.RuleLaws.{first-append, first-last, then-clean}
 use Rattle.base.proofs.CallLaws.{accepted, not-short}
+use Rattle.base.specs.Examples.{AllHold}
 use Rattle.fields.specs.Field.{Field, field, fields}
 use Rattle.fields.specs.Frame.{limit}
 use Rattle.types.specs.declared.Form.the-variants.{Mt202}
@@ -31,7 +32,7 @@ use Rattle.judge.specs.Message.{messageRules, verdictOf}
 use Rattle.judge.proofs.VerdictTheorems.{frame-clean}
 use Rattle.writer.specs.Sheet.{messageFor, sheetRules, atStart, ownRule, writeRules, MessageTo}
 use Rattle.writer.proofs.RuleLaws.{sheet-rules, rules-write}
-use Rattle.written.specs.Sentences.{Every, OneByOne}
+use Rattle.written.specs.Sentences.{OneByOne}
 use Rattle.records.specs.Record.{records}
 use Rattle.sheets.specs.Gather.{recordFor, gather, sheetOf}
 use Rattle.sheets.specs.Calls.{readRules, SheetTo}
@@ -39,16 +40,16 @@ use Rattle.trips.specs.Again.{Crowded70, Returns, back, crowded}
 use Rattle.trips.proofs.Held as held
 use Rattle.trips.specs.Shown as shown
 use Rattle.trips.specs.Shown.{LineByLine, Shown}
-use Rattle.trips.proofs.Held.{Held, HeldField, Noted, Sheeted, SheetedField}
+use Rattle.trips.proofs.Held.{Held, HeldField, DetailsOrRpp, Sheeted, SheetedField}
 use Rattle.trips.proofs.NameLaws.{sheeted-names}
-use Rattle.trips.proofs.ToldLaws.{sheeted-noted}
+use Rattle.trips.proofs.DetailRecordLaws.{sheeted-details}
 use Rattle.trips.proofs.HeldLaws.{all-held}
 use Rattle.trips.proofs.BackLaws.{sheet-back}
 use Rattle.trips.proofs.SheetLaws.{accepted-type, accepted-sign, accepted-records, accepted-passes}
 use Rattle.trips.proofs.VerdictLaws.{verdict-again}
 
 -- ---- every shape goes line by line, or holds details or an RPP line
-either : (sh : Shape) → LineByLine sh ⊎ Noted sh
+either : (sh : Shape) → LineByLine sh ⊎ DetailsOrRpp sh
 either Plain = inl shown.plain
 either Payer = inl shown.payer
 either Payee = inl shown.payee
@@ -61,21 +62,21 @@ module _ (form : Form) (s : Bool) where
   one-sheeted : (t : List ℕ) (ls : List (List ℕ)) → Held form s t ls → Sheeted form s t ls
   one-sheeted t ls h = go (either (shapeOf form t))
     where
-      go : LineByLine (shapeOf form t) ⊎ Noted (shapeOf form t) → Sheeted form s t ls
+      go : LineByLine (shapeOf form t) ⊎ DetailsOrRpp (shapeOf form t) → Sheeted form s t ls
       go (inl v) = sheeted-names form s t ls v h
-      go (inr v) = sheeted-noted form s t ls v h
+      go (inr v) = sheeted-details form s t ls v h
 
-  all-sheeted : (fs : List Field) → Every (HeldField form s) fs → Every (SheetedField form s) fs
+  all-sheeted : (fs : List Field) → AllHold (HeldField form s) fs → AllHold (SheetedField form s) fs
   all-sheeted [] h = tt
   all-sheeted (field t ls ∷ fs) h = (one-sheeted t ls (h .0), all-sheeted fs (h .1))
 
-  all-shown : (fs : List Field) → Every (SheetedField form s) fs → OneByOne (Shown form s) fs (map (recordFor form s) fs)
+  all-shown : (fs : List Field) → AllHold (SheetedField form s) fs → OneByOne (Shown form s) fs (map (recordFor form s) fs)
   all-shown [] h = tt
   all-shown (field t ls ∷ fs) h = ((refl, h .0 .shows), all-shown fs (h .1))
 
 -- ---- an accepted message
 module _ (form : Form) (m : List ℕ) (e : verdictOf form m ≡ Fine) where
-  each : Every (SheetedField form (signOf (fields m))) (fields m)
+  each : AllHold (SheetedField form (signOf (fields m))) (fields m)
   each = all-sheeted form (signOf (fields m)) (fields m) (all-held form m e)
 
   -- the rules of writing let its sheet pass, or 16 refuses it, and then for field 70 of a 103 with the sign

@@ -38,23 +38,23 @@ use Rattle.roles.specs.declared.Shape.the-variants.{Plain, Payer, Payee, Agent}
 use Rattle.roles.proofs.BreachLaws.{same-lines}
 use Rattle.judge.specs.Message.{verdictOf}
 use Rattle.records.specs.Record.{Record, sheet, records}
-use Rattle.records.specs.Rule19.{digits, number, sheetForm, sheetSign}
-use Rattle.records.specs.Sentences.{Right, plain, agent, payer, payee, details, note103, note202, Sound}
+use Rattle.records.specs.Rule19.{isDigits, typeNumber, sheetForm, sheetSign}
+use Rattle.records.specs.Sentences.{RightParts, plain, agent, payer, payee, details, note103, note202, SoundSheet}
 use Rattle.records.proofs.RuleLaws.{fine-sound, named}
 use Rattle.records.proofs.SoundLaws.{sound-sheet, sound-type}
 use Rattle.details.specs.Lines.{together}
 use Rattle.details.specs.Layouts.{layout, linesFor, sizeFor}
-use Rattle.details.specs.declared.Place.{Place}
-use Rattle.details.specs.declared.Place.the-variants.{In70, In72, BehindRpp}
-use Rattle.writer.specs.Spread.{castParts, lineFor, code, told, notePlace, noteLines, contentLines, spread}
+use Rattle.details.specs.declared.DetailsField.{DetailsField}
+use Rattle.details.specs.declared.DetailsField.the-variants.{In70, In72, BehindRpp}
+use Rattle.writer.specs.Spread.{castParts, lineFor, code, codeAndText, noteField, noteLines, contentLines, spread}
 use Rattle.writer.specs.Sheet.{isUnfit, crowded, fieldsOf, messageFor, sheetRules, MessageTo}
 use Rattle.writer.proofs.RuleLaws.{sheet-rules}
 use Rattle.written.proofs.SpeltLaws.{said-is}
 use Rattle.written.proofs.ReadyLaws.{speaks, Laid, laid, Ready}
-use Rattle.written.proofs.CastLaws.{turned, cast-again, frontOf, nextOf, told-again}
+use Rattle.written.proofs.CastLaws.{turned, cast-again, frontOf, nextOf, details-again}
 use Rattle.written.proofs.BuiltLaws.{AllPass, records-pass, built-fields, built-sign}
 use Rattle.written.proofs.ToMessageTheorems as writer
-use Rattle.sheets.specs.Gather.{partFor, codeDigits, toldParts, noteParts, contentParts, gather, typeName, typeRecord, recordsOf, sheetOf}
+use Rattle.sheets.specs.Gather.{partFor, codeDigits, detailsParts, noteParts, contentParts, gather, typeName, typeRecord, recordsOf, sheetOf}
 use Rattle.sheets.specs.Calls.{SheetTo}
 use Rattle.sheets.proofs.ToSheetTheorems.{sheet-kept, sheet-narrow, sheet-wide}
 use Rattle.trips.specs.Back.{typeIn, kindIn}
@@ -74,7 +74,7 @@ module _ (s : Bool) where
   parts-back (x ∷ xs) e =
       ap₂ (λ (l : List ℕ) (k : List (List ℕ)). l ∷ k) (part-back x (left (speaks s x) _ e)) (parts-back xs (right (speaks s x) _ e))
 
-  cast-back : (sh : Shape) (ps : List (List ℕ)) → Right s sh ps → all (speaks s) (cast sh ps) ≡ true
+  cast-back : (sh : Shape) (ps : List (List ℕ)) → RightParts s sh ps → all (speaks s) (cast sh ps) ≡ true
       → map (partFor s) (cast sh (map (lineFor s) (cast sh ps))) ≡ ps
   cast-back sh ps r e = ap (map (partFor s)) (cast-again s sh ps r e) ∙ parts-back (cast sh ps) e ∙ same-lines sh ps
 
@@ -85,13 +85,13 @@ five-in n l r h =
     let k : 5 ≤ length (drop n l) = omega (arith, length-drop n l) in
     sym (ap (take 5) (drop-append-le n l r (omega arith)) ∙ take-append-le 5 (drop n l) r k)
 
-five-of : (vo e w : List ℕ) → digits 5 vo ≡ true → take 5 ((vo ++ e) ++ w) ≡ vo
-unfolding digits
+five-of : (vo e w : List ℕ) → isDigits 5 vo ≡ true → take 5 ((vo ++ e) ++ w) ≡ vo
+unfolding isDigits
 five-of vo e w d =
     let n : length vo ≡ 5 = eqb-true (length vo) 5 (left (eqb (length vo) 5) _ d) in
     take-append-le 5 (vo ++ e) w (omega (arith, length-append vo e)) ∙ take-at vo e 5 n
 
-digits-back : (s : Bool) (vo w : List ℕ) → digits 5 vo ≡ true → codeDigits s (code s vo ++ w) ≡ vo
+digits-back : (s : Bool) (vo w : List ℕ) → isDigits 5 vo ≡ true → codeDigits s (code s vo ++ w) ≡ vo
 digits-back true vo w d = five-of vo (bytes ")'") w d
 digits-back false vo w d = five-of vo (bytes ")") w d
 
@@ -104,17 +104,17 @@ textIn [] = []
 textIn (speech m o t ∷ xs) = t
 
 -- the bytes of the mark before the first line
-abbrev markOf : Place → ℕ
+abbrev markOf : DetailsField → ℕ
 markOf In70 = 0
 markOf In72 = 5
 markOf BehindRpp = 5
 
-mark-dropped : (p : Place) (l : List ℕ) → drop (markOf p) (layout p .mark ++ l) ≡ l
+mark-dropped : (p : DetailsField) (l : List ℕ) → drop (markOf p) (layout p .mark ++ l) ≡ l
 mark-dropped In70 l = refl
 mark-dropped In72 l = refl
 mark-dropped BehindRpp l = refl
 
-mark-and-code : (p : Place) (s : Bool) → markOf p + codeSize s ≡ frontOf p s
+mark-and-code : (p : DetailsField) (s : Bool) → markOf p + codeSize s ≡ frontOf p s
 mark-and-code In70 true = refl
 mark-and-code In70 false = refl
 mark-and-code In72 true = refl
@@ -122,35 +122,35 @@ mark-and-code In72 false = refl
 mark-and-code BehindRpp true = refl
 mark-and-code BehindRpp false = refl
 
-told-back : (p : Place) (s : Bool) (vo w : List ℕ) → digits 5 vo ≡ true → Laid p (codeSize s) (code s vo ++ w)
-    → toldParts s (markOf p) (nextOf p) (linesFor p (codeSize s) (code s vo ++ w)) ≡ vo ∷ textOf (reading s w) ∷ []
-unfolding speech.details
-told-back p s vo w d h =
+code-text-back : (p : DetailsField) (s : Bool) (vo w : List ℕ) → isDigits 5 vo ≡ true → Laid p (codeSize s) (code s vo ++ w)
+    → detailsParts s (markOf p) (nextOf p) (linesFor p (codeSize s) (code s vo ++ w)) ≡ vo ∷ textOf (reading s w) ∷ []
+unfolding speech.detailsSpeech
+code-text-back p s vo w d h =
     let l : List ℕ = layout p .mark ++ h .front in
     let ls : List (List ℕ) = map (λ (k : List ℕ). layout p .next ++ k) (h .behind) in
-    let number : codeDigits s (drop (markOf p) l) ≡ vo =
+    let digits : codeDigits s (drop (markOf p) l) ≡ vo =
     ap (codeDigits s) (mark-dropped p (h .front)) ∙ digits-in s (h .front) (together (h .behind)) (h .code) ∙ ap (codeDigits s) (h .joins) ∙ digits-back s vo w d in
-    let text : drop (frontOf p s) l ++ speech.behind (nextOf p) ls ≡ w =
-    ap textIn (ap (speech.details (frontOf p s) (nextOf p) 0) (sym (h .is)) ∙ told-again p s vo w 0 d h .1) in
-    ap (toldParts s (markOf p) (nextOf p)) (h .is)
-    ∙ ap (λ (n : ℕ). codeDigits s (drop (markOf p) l) ∷ textOf (reading s (drop n l ++ speech.behind (nextOf p) ls)) ∷ []) (mark-and-code p s)
-    ∙ ap₂ (λ (v t : List ℕ). v ∷ textOf (reading s t) ∷ []) number text
+    let text : drop (frontOf p s) l ++ speech.laterText (nextOf p) ls ≡ w =
+    ap textIn (ap (speech.detailsSpeech (frontOf p s) (nextOf p) 0) (sym (h .is)) ∙ details-again p s vo w 0 d h .1) in
+    ap (detailsParts s (markOf p) (nextOf p)) (h .is)
+    ∙ ap (λ (n : ℕ). codeDigits s (drop (markOf p) l) ∷ textOf (reading s (drop n l ++ speech.laterText (nextOf p) ls)) ∷ []) (mark-and-code p s)
+    ∙ ap₂ (λ (v t : List ℕ). v ∷ textOf (reading s t) ∷ []) digits text
 
 -- with the text that is written
-spelt-back : (p : Place) (s : Bool) (vo t : List ℕ) → digits 5 vo ≡ true → all (speaks s) (copy vo ∷ name t ∷ []) ≡ true
-    → isUnfit (sizeFor p (codeSize s) (told s (vo ∷ t ∷ []))) ≡ false
-    → toldParts s (markOf p) (nextOf p) (linesFor p (codeSize s) (told s (vo ∷ t ∷ []))) ≡ vo ∷ t ∷ []
+spelt-back : (p : DetailsField) (s : Bool) (vo t : List ℕ) → isDigits 5 vo ≡ true → all (speaks s) (copy vo ∷ name t ∷ []) ≡ true
+    → isUnfit (sizeFor p (codeSize s) (codeAndText s (vo ∷ t ∷ []))) ≡ false
+    → detailsParts s (markOf p) (nextOf p) (linesFor p (codeSize s) (codeAndText s (vo ∷ t ∷ []))) ≡ vo ∷ t ∷ []
 spelt-back p s vo t d a u =
-    told-back p s vo (textOf (writing s t)) d (laid p (codeSize s) (told s (vo ∷ t ∷ [])) u)
+    code-text-back p s vo (textOf (writing s t)) d (laid p (codeSize s) (codeAndText s (vo ∷ t ∷ [])) u)
     ∙ ap (λ (k : List ℕ). vo ∷ k ∷ []) (text-back s t (left (speaks s (name t)) _ (right (speaks s (copy vo)) _ a)))
 
 -- 72 of a 202: with and without an RPP line
-note-back : (s : Bool) (r vo t : List ℕ) → digits 5 vo ≡ true → all (speaks s) (copy vo ∷ name t ∷ []) ≡ true
-    → isUnfit (sizeFor (notePlace r) (codeSize s) (told s (vo ∷ t ∷ []))) ≡ false → noteParts s (noteLines s (r ∷ vo ∷ t ∷ [])) ≡ r ∷ vo ∷ t ∷ []
+note-back : (s : Bool) (r vo t : List ℕ) → isDigits 5 vo ≡ true → all (speaks s) (copy vo ∷ name t ∷ []) ≡ true
+    → isUnfit (sizeFor (noteField r) (codeSize s) (codeAndText s (vo ∷ t ∷ []))) ≡ false → noteParts s (noteLines s (r ∷ vo ∷ t ∷ [])) ≡ r ∷ vo ∷ t ∷ []
 unfolding same
 note-back s [] vo t d a u =
-    let h : Laid In72 (codeSize s) (told s (vo ∷ t ∷ [])) = laid In72 (codeSize s) (told s (vo ∷ t ∷ [])) u in
-    ap (noteParts s) (h .is) ∙ ap (λ (k : List (List ℕ)). [] ∷ toldParts s 5 2 k) (sym (h .is)) ∙ ap (λ (k : List (List ℕ)). [] ∷ k) (spelt-back In72 s vo t d a u)
+    let h : Laid In72 (codeSize s) (codeAndText s (vo ∷ t ∷ [])) = laid In72 (codeSize s) (codeAndText s (vo ∷ t ∷ [])) u in
+    ap (noteParts s) (h .is) ∙ ap (λ (k : List (List ℕ)). [] ∷ detailsParts s 5 2 k) (sym (h .is)) ∙ ap (λ (k : List (List ℕ)). [] ∷ k) (spelt-back In72 s vo t d a u)
 note-back s (x ∷ r) vo t d a u = ap (λ (k : List (List ℕ)). (x ∷ r) ∷ k) (spelt-back BehindRpp s vo t d a u)
 
 -- ---- a record that 19, 15 and 16 let pass
@@ -158,7 +158,7 @@ pub content-back : (s : Bool) (sh : Shape) (ps : List (List ℕ)) → Ready s sh
 unfolding contentParts contentLines crowded
 content-back s sh ps w = go (w .is-right) (w .says) (w .fits)
   where
-    go : {sh : Shape} {ps : List (List ℕ)} → Right s sh ps → all (speaks s) (castParts sh ps) ≡ true → crowded s sh ps ≡ false
+    go : {sh : Shape} {ps : List (List ℕ)} → RightParts s sh ps → all (speaks s) (castParts sh ps) ≡ true → crowded s sh ps ≡ false
         → contentParts s sh (contentLines s sh ps) ≡ ps
     go (plain p ps e g) a u = cast-back s Plain (p ∷ ps) (plain p ps e g) a
     go (agent p ps e g) a u = cast-back s Agent (p ∷ ps) (agent p ps e g) a
@@ -179,8 +179,8 @@ gather-back form s (field t ps ∷ rs) w =
 abbrev threeDigits : ℕ → List ℕ
 threeDigits n = (48 + n / 100 % 10) ∷ (48 + n / 10 % 10) ∷ (48 + n % 10) ∷ []
 
-digits-number : (p : List ℕ) → digits 3 p ≡ true → threeDigits (number p) ≡ p
-unfolding digits
+digits-number : (p : List ℕ) → isDigits 3 p ≡ true → threeDigits (typeNumber p) ≡ p
+unfolding isDigits
 digits-number [] d = absurd (false≢true d)
 digits-number (a ∷ []) d = absurd (false≢true d)
 digits-number (a ∷ b ∷ []) d = absurd (false≢true d)
@@ -200,13 +200,13 @@ digits-number (a ∷ b ∷ c ∷ []) d =
     ap (λ (k : ℕ). k ∷ (48 + n / 10 % 10) ∷ (48 + n % 10) ∷ []) u ∙ ap₂ (λ (k j : ℕ). a ∷ k ∷ j ∷ []) v w
 
 -- a type that is one of the two is named as it was
-named-back : (p : List ℕ) → digits 3 p ≡ true → rule18 (formOf (number p)) ≡ Fine → typeName (formOf (number p)) ≡ p
+named-back : (p : List ℕ) → isDigits 3 p ≡ true → rule18 (formOf (typeNumber p)) ≡ Fine → typeName (formOf (typeNumber p)) ≡ p
 unfolding rule18
-named-back p d e = go (eqb (number p) 103) (eqb (number p) 202) refl refl e
+named-back p d e = go (eqb (typeNumber p) 103) (eqb (typeNumber p) 202) refl refl e
   where
-    go : (a b : Bool) → eqb (number p) 103 ≡ a → eqb (number p) 202 ≡ b → rule18 (pick a Mt103 (pick b Mt202 Other)) ≡ Fine → typeName (pick a Mt103 (pick b Mt202 Other)) ≡ p
-    go true b x y e = ap threeDigits (sym (eqb-true (number p) 103 x)) ∙ digits-number p d
-    go false true x y e = ap threeDigits (sym (eqb-true (number p) 202 y)) ∙ digits-number p d
+    go : (a b : Bool) → eqb (typeNumber p) 103 ≡ a → eqb (typeNumber p) 202 ≡ b → rule18 (pick a Mt103 (pick b Mt202 Other)) ≡ Fine → typeName (pick a Mt103 (pick b Mt202 Other)) ≡ p
+    go true b x y e = ap threeDigits (sym (eqb-true (typeNumber p) 103 x)) ∙ digits-number p d
+    go false true x y e = ap threeDigits (sym (eqb-true (typeNumber p) 202 y)) ∙ digits-number p d
     go false false x y e = absurd (fine-broken 18 0 (sym e))
 
 -- ---- the type that the sheet of a message names
@@ -216,7 +216,7 @@ type-stands Mt103 m e = refl
 type-stands Mt202 m e = refl
 type-stands Other m e = absurd (fine-broken 18 0 (sym e))
 
-name-form : (form : Form) → rule18 form ≡ Fine → formOf (number (typeName form)) ≡ form
+name-form : (form : Form) → rule18 form ≡ Fine → formOf (typeNumber (typeName form)) ≡ form
 unfolding rule18
 name-form Mt103 e = refl
 name-form Mt202 e = refl
@@ -224,7 +224,7 @@ name-form Other e = absurd (fine-broken 18 0 (sym e))
 
 -- ---- a sheet that no rule before 17 refuses
 module _ (s : List ℕ) (c : Clean (sheetRules s)) where
-  is-sound : Sound s
+  is-sound : SoundSheet s
   is-sound = fine-sound s (sheet-rules s c .sound)
 
   type-back : typeRecord (sheetForm s) ≡ is-sound .head
@@ -248,7 +248,7 @@ module _ (s : List ℕ) (c : Clean (sheetRules s)) where
   pub type-in : formOf (kindIn s) ≡ sheetForm s
   type-in =
       ap (λ (x : List ℕ). formOf (kindIn x)) (sym sheet-back)
-      ∙ ap (λ (p : List ℕ). formOf (number p)) (type-stands (sheetForm s) (messageFor s) (sheet-rules s c .type)) ∙ name-form (sheetForm s) (sheet-rules s c .type)
+      ∙ ap (λ (p : List ℕ). formOf (typeNumber p)) (type-stands (sheetForm s) (messageFor s) (sheet-rules s c .type)) ∙ name-form (sheetForm s) (sheet-rules s c .type)
 
 -- ---- the two calls: a sheet that is written
 module _ (s out a : List ℕ) (n : ℕ) (g : MessageTo s out (Done n) a) where

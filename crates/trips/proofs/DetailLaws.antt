@@ -17,29 +17,30 @@ use Rattle.base.specs.Bytes.{empty, isIn}
 use Rattle.base.specs.Quoted.{bytes}
 use Rattle.base.specs.Says.{Not}
 use Rattle.base.proofs.Bools.{left, right, both}
+use Rattle.base.specs.Examples.{AllHold}
 use Rattle.fields.specs.Shapes.{goesOn}
-use Rattle.contents.specs.Words.{Size, join, behind}
-use Rattle.contents.specs.Lines.{opening, closing}
+use Rattle.contents.specs.Words.{Size, join, withMark}
+use Rattle.contents.specs.Lines.{codeOpening, codeClosing}
 use Rattle.contents.specs.Fields as fields
-use Rattle.contents.specs.Fields.{Each, One, IsRpp, Details, RppAndDetails}
+use Rattle.contents.specs.Fields.{One, IsRpp, Details, RppAndDetails}
 use Rattle.roles.specs.Speech.{codeSize}
-use Rattle.records.specs.Rule19.{digits}
+use Rattle.records.specs.Rule19.{isDigits}
 use Rattle.details.specs.Lines.{together, Later, none, line, Division, lines}
 use Rattle.details.specs.Breaking.{opens}
 use Rattle.details.specs.Layouts.{layout, marked}
-use Rattle.details.specs.declared.Place.{Place}
-use Rattle.details.specs.declared.Place.the-variants.{In70, In72, BehindRpp}
+use Rattle.details.specs.declared.DetailsField.{DetailsField}
+use Rattle.details.specs.declared.DetailsField.the-variants.{In70, In72, BehindRpp}
 use Rattle.writer.specs.Spread.{code, rppLine}
 use Rattle.written.proofs.CastLaws.{code-size}
 
 -- ---- details by their place: in 70; in 72 of a 202; there behind an RPP line
-abbrev pub IsIn : Place → Bool → List (List ℕ) → Type 0
+abbrev pub IsIn : DetailsField → Bool → List (List ℕ) → Type 0
 IsIn In70 s ls = fields.In70 s ls
 IsIn In72 s ls = fields.In72 s 6 ls
 IsIn BehindRpp s ls = fields.In72 s 5 ls
 
 -- what the grammar says of a place is its layout: the marks, the room behind them, and how many lines may follow
-record As (p : Place) (first later : String) (room rest more : ℕ) : Type 0 where
+record As (p : DetailsField) (first later : String) (room rest more : ℕ) : Type 0 where
   mark : layout p .mark ≡ bytes first
   next : layout p .next ≡ bytes later
   widths : layout p .widths ≡ room ∷ replicate more rest
@@ -55,23 +56,23 @@ as-behind : As BehindRpp "/NZP/" "//" 30 33 4
 as-behind = record { mark = refl; next = refl; widths = refl; wide = refl }
 
 -- the code
-code-on : (s : Bool) (vo t : List ℕ) → join (opening s ∷ vo ∷ closing s ∷ t ∷ []) ≡ code s vo ++ t
+code-on : (s : Bool) (vo t : List ℕ) → join (codeOpening s ∷ vo ∷ codeClosing s ∷ t ∷ []) ≡ code s vo ++ t
 code-on true vo t = ap (λ (k : List ℕ). bytes "'(VO" ++ k) (sym (append-assoc vo (bytes ")'") t))
 code-on false vo t = ap (λ (k : List ℕ). bytes "(VO" ++ k) (sym (append-assoc vo (bytes ")") t))
 
 -- ---- details: their lines, without marks
-pub record Told (p : Place) (s : Bool) (ls : List (List ℕ)) : Type 0 where
+pub record DetailsOver (p : DetailsField) (s : Bool) (ls : List (List ℕ)) : Type 0 where
   pub vo : List ℕ
   pub text : List ℕ
   pub texts : List (List ℕ)
   pub is : ls ≡ marked (layout p) ((code s vo ++ text) ∷ texts)
-  pub five : digits 5 vo ≡ true
+  pub five : isDigits 5 vo ≡ true
   pub short : length (layout p .mark ++ (code s vo ++ text)) ≤ 35
   pub later : Later (opens (layout p .barred)) (tail (layout p .widths)) texts
   pub some : empty (text ++ together texts) ≡ false
 
 -- what goes on as 4 wants it opens a later line lawfully
-lawful : (p : Place) (x : ℕ) (l : List ℕ) → goesOn (layout p .next ++ x ∷ l) ≡ true → opens (layout p .barred) x ≡ true
+lawful : (p : DetailsField) (x : ℕ) (l : List ℕ) → goesOn (layout p .next ++ x ∷ l) ≡ true → opens (layout p .barred) x ≡ true
 unfolding opens isIn
 lawful In70 x l e = go (eqb x 58) (eqb x 45) e
   where
@@ -83,7 +84,7 @@ lawful In70 x l e = go (eqb x 58) (eqb x 45) e
 lawful In72 x l e = refl
 lawful BehindRpp x l e = refl
 
-later-of : (p : Place) (n w : ℕ) (ts : List (List ℕ)) → Each (Size 1 w) ts → length ts ≤ n → all goesOn (map (λ (k : List ℕ). layout p .next ++ k) ts) ≡ true
+later-of : (p : DetailsField) (n w : ℕ) (ts : List (List ℕ)) → AllHold (Size 1 w) ts → length ts ≤ n → all goesOn (map (λ (k : List ℕ). layout p .next ++ k) ts) ≡ true
     → Later (opens (layout p .barred)) (replicate n w) ts
 later-of p n w [] e h g = none
 later-of p n w ([] ∷ ts) e h g = absurd (omega (arith, e .0 .least))
@@ -91,26 +92,26 @@ later-of p zero w ((x ∷ l) ∷ ts) e h g = absurd (omega arith)
 later-of p (suc n) w ((x ∷ l) ∷ ts) e h g =
     line (e .0 .most) (lawful p x l (left (goesOn (layout p .next ++ x ∷ l)) _ g)) (later-of p n w ts (e .1) (omega arith) (right (goesOn (layout p .next ++ x ∷ l)) _ g))
 
-later-each : {ok : ℕ → Bool} (n w : ℕ) {ts : List (List ℕ)} → Later ok (replicate n w) ts → Each (Size 1 w) ts × (length ts ≤ n)
+later-each : {ok : ℕ → Bool} (n w : ℕ) {ts : List (List ℕ)} → Later ok (replicate n w) ts → AllHold (Size 1 w) ts × (length ts ≤ n)
 later-each zero w none = (tt, omega arith)
 later-each (suc n) w none = (tt, omega arith)
 later-each (suc n) w (line h o m) = let r = later-each n w m in ((record { least = omega arith; most = h }, r .0), omega (arith, r .1))
 
-some-text : (w : ℕ) (t : List ℕ) (ts : List (List ℕ)) → Each (Size 1 w) ts → Not ((t ≡ []) × (ts ≡ [])) → empty (t ++ together ts) ≡ false
+some-text : (w : ℕ) (t : List ℕ) (ts : List (List ℕ)) → AllHold (Size 1 w) ts → Not ((t ≡ []) × (ts ≡ [])) → empty (t ++ together ts) ≡ false
 some-text w (x ∷ t) ts e n = refl
 some-text w [] [] e n = absurd (n (refl, refl))
 some-text w [] ([] ∷ ts) e n = absurd (omega (arith, e .0 .least))
 some-text w [] ((x ∷ l) ∷ ts) e n = refl
 
-module _ {p : Place} {first later : String} {room rest more : ℕ} (a : As p first later room rest more) (s : Bool) where
+module _ {p : DetailsField} {first later : String} {room rest more : ℕ} (a : As p first later room rest more) (s : Bool) where
   -- the lines, as the grammar and as the layout have them
   lines-as : (vo t : List ℕ) (ts : List (List ℕ))
-      → join (bytes first ∷ opening s ∷ vo ∷ closing s ∷ t ∷ []) ∷ map (λ (k : List ℕ). bytes later ++ k) ts ≡ marked (layout p) ((code s vo ++ t) ∷ ts)
+      → join (bytes first ∷ codeOpening s ∷ vo ∷ codeClosing s ∷ t ∷ []) ∷ map (λ (k : List ℕ). bytes later ++ k) ts ≡ marked (layout p) ((code s vo ++ t) ∷ ts)
   lines-as vo t ts = rw (a .mark, a .next, code-on s vo t)
 
-  told-by : {vo t : List ℕ} {ts ls : List (List ℕ)} → Details first later room rest (suc more) s vo t ts ls → all goesOn (tail ls) ≡ true → Told p s ls
-  unfolding digits
-  told-by {vo} {t} {ts} {ls} d g =
+  details-by : {vo t : List ℕ} {ts ls : List (List ℕ)} → Details first later room rest (suc more) s vo t ts ls → all goesOn (tail ls) ≡ true → DetailsOver p s ls
+  unfolding isDigits
+  details-by {vo} {t} {ts} {ls} d g =
       let e : ls ≡ marked (layout p) ((code s vo ++ t) ∷ ts) = d .lines ∙ lines-as vo t ts in
       let n = length-map ts (λ (k : List ℕ). layout p .next ++ k) in
       let c : length (code s vo ++ t) ≤ room = rw (code-on s vo t) at (d .front) in
@@ -126,9 +127,9 @@ module _ {p : Place} {first later : String} {room rest more : ℕ} (a : As p fir
       }
 
   -- the code stands whole in the first line, so behind it stands the text
-  pass-by : (vo text : List ℕ) {least : ℕ} {ws : List ℕ} {ls : List (List ℕ)} → digits 5 vo ≡ true → length (code s vo) ≡ least → empty text ≡ false → ws ≡ layout p .widths
+  pass-by : (vo text : List ℕ) {least : ℕ} {ws : List ℕ} {ls : List (List ℕ)} → isDigits 5 vo ≡ true → length (code s vo) ≡ least → empty text ≡ false → ws ≡ layout p .widths
       → Division (opens (layout p .barred)) least (code s vo ++ text) ws ls → (vo t : List ℕ) × (ts : List (List ℕ)) × Details first later room rest (suc more) s vo t ts (marked (layout p) ls)
-  unfolding digits
+  unfolding isDigits
   pass-by vo text f z e i (lines {w} {ws} {l} {ls} o c h m j) =
       let n : ℕ = length (code s vo) in
       let k : n ≤ length l = omega arith in
@@ -153,15 +154,15 @@ module _ {p : Place} {first later : String} {room rest more : ℕ} (a : As p fir
         },
       )
 
-pub told-lines : (p : Place) (s : Bool) (ls : List (List ℕ)) → IsIn p s ls → all goesOn (tail ls) ≡ true → Told p s ls
-told-lines In70 s ls d g = told-by as-70 s (d .3) g
-told-lines In72 s ls d g = told-by as-72 s (d .3) g
-told-lines BehindRpp s ls d g = told-by as-behind s (d .3) g
+pub details-lines : (p : DetailsField) (s : Bool) (ls : List (List ℕ)) → IsIn p s ls → all goesOn (tail ls) ≡ true → DetailsOver p s ls
+details-lines In70 s ls d g = details-by as-70 s (d .3) g
+details-lines In72 s ls d g = details-by as-72 s (d .3) g
+details-lines BehindRpp s ls d g = details-by as-behind s (d .3) g
 
 -- ---- an RPP line, and nothing or details behind it
 pub rpp-line : (l : List ℕ) → IsRpp l → (r : List ℕ) × (l ≡ rppLine r) × (empty r ≡ false)
 rpp-line l (number, date, turn, way, value, d) =
-    let r : List ℕ = join (bytes "." ∷ date ∷ bytes "." ∷ turn ∷ bytes "." ∷ way ∷ behind "." value ∷ []) in
+    let r : List ℕ = join (bytes "." ∷ date ∷ bytes "." ∷ turn ∷ bytes "." ∷ way ∷ withMark "." value ∷ []) in
     (number ++ r, d .line, go number r (d .serial .least))
   where
     go : (a b : List ℕ) → 1 ≤ length a → empty (a ++ b) ≡ false
@@ -175,22 +176,22 @@ rpp-alone (l ∷ k ∷ ls) d = absurd d
 
 -- 72 of a 202
 pub data Note (s : Bool) (ls : List (List ℕ)) : Type 0 where
-  with-rpp : (r : List ℕ) (ks : List (List ℕ)) → ls ≡ rppLine r ∷ ks → empty r ≡ false → Told BehindRpp s ks → Note s ls
-  without : Told In72 s ls → Note s ls
+  with-rpp : (r : List ℕ) (ks : List (List ℕ)) → ls ≡ rppLine r ∷ ks → empty r ≡ false → DetailsOver BehindRpp s ks → Note s ls
+  without : DetailsOver In72 s ls → Note s ls
 
 pub note-lines : (s : Bool) (ls : List (List ℕ)) → RppAndDetails s ls → all goesOn (tail ls) ≡ true → Note s ls
-note-lines s ls (inl d) g = without (told-lines In72 s ls d g)
+note-lines s ls (inl d) g = without (details-lines In72 s ls d g)
 note-lines s [] (inr d) g = absurd d
 note-lines s (l ∷ ls) (inr d) g =
     let w = rpp-line l (d .0) in
-    with-rpp (w .0) ls (ap (λ (k : List ℕ). k ∷ ls) (w .1)) (w .2) (told-lines BehindRpp s ls (d .1) (on ls g))
+    with-rpp (w .0) ls (ap (λ (k : List ℕ). k ∷ ls) (w .1)) (w .2) (details-lines BehindRpp s ls (d .1) (on ls g))
   where
     on : (ls : List (List ℕ)) → all goesOn ls ≡ true → all goesOn (tail ls) ≡ true
     on [] g = refl
     on (l ∷ ls) g = right (goesOn l) _ g
 
 -- ---- details broken into lines are right
-pub divided-pass : (p : Place) (s : Bool) (vo : List ℕ) → digits 5 vo ≡ true → {ws : List ℕ} {ls : List (List ℕ)} (text : List ℕ) → empty text ≡ false → ws ≡ layout p .widths
+pub divided-pass : (p : DetailsField) (s : Bool) (vo : List ℕ) → isDigits 5 vo ≡ true → {ws : List ℕ} {ls : List (List ℕ)} (text : List ℕ) → empty text ≡ false → ws ≡ layout p .widths
     → Division (opens (layout p .barred)) (codeSize s) (code s vo ++ text) ws ls → IsIn p s (marked (layout p) ls)
 divided-pass In70 s vo f text e i d = pass-by as-70 s vo text f (code-size s vo f) e i d
 divided-pass In72 s vo f text e i d = pass-by as-72 s vo text f (code-size s vo f) e i d

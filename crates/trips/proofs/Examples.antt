@@ -10,13 +10,13 @@ use Rattle.base.specs.Examples.{AllHold, _also_}
 use Rattle.base.specs.Choice.{pick}
 use Rattle.base.specs.Calls.{Answer, said, textOf, long, short}
 use Rattle.base.specs.Bytes.{empty, isIn, digit, capital, letter, marks, shared, xset, same}
-use Rattle.base.specs.Quoted.{bytes}
+use Rattle.base.specs.Quoted.{bytes, desk}
 use Rattle.base.specs.Rules.{then, first}
 use Rattle.base.specs.declared.Verdict.{Verdict}
 use Rattle.base.specs.declared.Verdict.the-variants.{Fine, Broken}
 use Rattle.base.proofs.RuleLaws.{first-last, first-clean}
 use Rattle.frame.specs.Cases.{sample}
-use Rattle.fields.specs.Field.{Field, field, message, body, cut, upto, past, grouped, fields}
+use Rattle.fields.specs.Field.{Field, field, message, body, cutLines, upto, past, grouped, fields}
 use Rattle.fields.specs.Frame.{rule1, framed, rule2, scan, rule3, tagged, lineBad, badLine, rule4}
 use Rattle.fields.specs.Shapes.{shaped}
 use Rattle.types.specs.declared.Form.{Form}
@@ -35,21 +35,20 @@ use Rattle.values.specs.Values.{payment, rppDates, parties, taxes, customerTaxe
 use Rattle.values.specs.Judged.{firstBad, rule9, rule10, rule11, rule12, rule13}
 use Rattle.contents.specs.Tags.{tags103, tags202, heldBy}
 use Rattle.roles.specs.Role.{shapeOf, cast}
-use Rattle.roles.specs.Speech.{Manner, speech, named, taxPlaced, told, names, details, noted, speeches}
+use Rattle.roles.specs.Speech.{Manner, speech, asName, asTaxName, asDetails, nameSpeeches, detailsSpeech, noteSpeeches, speeches}
 use Rattle.roles.specs.Speech as speeches-of
 use Rattle.roles.specs.Sentences.{Heard}
 use Rattle.roles.specs.declared.Shape.{Shape}
 use Rattle.roles.specs.declared.Shape.the-variants.{Details}
 use Rattle.roles.proofs.BreachLaws.{rule14-fine}
-use Rattle.roles.specs.Rule14.{mute, clauses, hidden, isInn, taxLike, breaks, unheard, spoken, rule14}
+use Rattle.roles.specs.Rule14.{mute, clauses, hidden, isCyrillicInn, taxLike, breaks14, unheard, speechesOf, rule14}
 use Rattle.alphabets.specs.Grid.{grid, kind}
 use Rattle.alphabets.specs.Grid as signs
 use Rattle.alphabets.specs.Bank.{after, reads, plainly, reading}
 use Rattle.alphabets.specs.Best.{latinNext, best, bad, writes}
 use Rattle.alphabets.proofs.Back.{reads-best}
-use Rattle.records.specs.Cases.{desk}
 use Rattle.records.specs.Record.{Record, sheet, pieces, recordOf, records, rest, begun}
-use Rattle.records.specs.Rule19.{digits, general, untaxed, sound, badFrom, judge, sheetSign, sheetForm, rule19}
+use Rattle.records.specs.Rule19.{isDigits, general, untaxed, sound, badFrom, judge, sheetSign, sheetForm, rule19}
 use Rattle.details.specs.Breaking.{opens, last, broken}
 use Rattle.details.specs.Breaking as breaking
 use Rattle.details.specs.Layouts.{linesFor, sizeFor}
@@ -66,8 +65,8 @@ abbrev Easy : Form → List ℕ → Type 0
 Easy form m = rule14 form (fields m) ≡ Fine → NoneBroken form m
 
 -- a text with this reading breaks no clause of 14
-heard-by : (m : Manner) (b d : List ℕ) → reads false b ≡ said d → clauses m (empty d) b d ≡ false → breaks m b ≡ false
-unfolding breaks
+heard-by : (m : Manner) (b d : List ℕ) → reads false b ≡ said d → clauses m (empty d) b d ≡ false → breaks14 m b ≡ false
+unfolding breaks14
 heard-by m b d e n = ap (λ (a : Answer). clauses m (mute a) b (textOf a)) e ∙ n
 
 -- ---- a trip: its message's refusal, its sheet, that sheet's refusal, and the message that is written, each computed once
@@ -94,16 +93,16 @@ there-and-back form m s n e h (r, t, w) v = (
 
 -- ---- the trips with short texts
 all-fine : (verdictOf Mt103 (bytes sample) ≡ Fine) × (verdictOf Mt202 (bytes plain202) ≡ Fine) × (verdictOf Mt103 (bytes otherwise103) ≡ Fine) × (verdictOf Mt103 (bytes best103) ≡ Fine)
-unfolding verdictOf rule18 places103 places202 long rule1 framed body same rule2 scan xset isIn digit capital letter marks shared rule3 cut tagged lineBad badLine rule4 upto past grouped fields find wrong walk walked signOf firstWrong rightField rule8 onward leap daysIn isDay yearOf realDay dated payment parties tests.looksTax taxes valuesOf firstBad rule9 rule10 rule11 rule12 rule13 spoken speeches names details noted speeches-of.behind shapeOf heldBy tags103 tags202 cast hidden isInn taxLike breaks unheard rule14 grid signs.sign reads capitalOrDigit tests.lead tests.ends tests.pair tests.isReference tests.isPurpose tests.isPayment tests.isOwnAccount tests.isPartyByBik tests.isParty tests.isBic tests.isAccount tests.isTax tests.isRpp tests.details tests.right rppDates customerTaxes payerTaxes
+unfolding verdictOf rule18 places103 places202 long rule1 framed body same rule2 scan xset isIn digit capital letter marks shared rule3 cutLines tagged lineBad badLine rule4 upto past grouped fields find wrong walk walked signOf firstWrong rightField rule8 onward leap daysIn isDay yearOf realDay dated payment parties tests.looksTax taxes valuesOf firstBad rule9 rule10 rule11 rule12 rule13 speechesOf speeches nameSpeeches detailsSpeech noteSpeeches speeches-of.laterText shapeOf heldBy tags103 tags202 cast hidden isCyrillicInn taxLike breaks14 unheard rule14 grid signs.character reads capitalOrDigit tests.leadDigits tests.ends tests.hasPair tests.isReference tests.isPurpose tests.isPayment tests.isOwnAccount tests.isPartyByBik tests.isParty tests.isBic tests.isAccount tests.isTax tests.isRpp tests.isDetails tests.right rppDates customerTaxes payerTaxes
 all-fine = (refl, refl, refl, refl)
 
 all-read : (sheetOf Mt103 (bytes sample) ≡ desk sheet103) × (sheetOf Mt202 (bytes plain202) ≡ desk plainSheet) × (sheetOf Mt103 (bytes otherwise103) ≡ desk otherwiseSheet)
-unfolding sheetOf recordsOf gather contentParts body cut upto past grouped fields signOf shapeOf heldBy tags103 tags202 cast tests.looksTax same isIn digit speeches-of.behind plainly xset reads signs.sign grid marks capital letter shared
+unfolding sheetOf recordsOf gather contentParts body cutLines upto past grouped fields signOf shapeOf heldBy tags103 tags202 cast tests.looksTax same isIn digit speeches-of.laterText plainly xset reads signs.character grid marks capital letter shared
 all-read = (refl, refl, refl)
 
 all-written : Written Mt103 (desk sheet103) (bytes sample) × Written Mt202 (desk plainSheet) (bytes plain202) × Written Mt202 (desk signedSheet) (bytes signed202)
     × Written Mt103 (desk otherwiseSheet) (bytes best103)
-unfolding same tags103 shapeOf heldBy cast grid marks isIn digit capital letter shared long places103 places202 rule18 shaped signOf tests.looksTax isInn xset plainly kind latinNext best bad writes pieces recordOf records rest begun digits general untaxed sound badFrom judge sheetSign sheetForm rule19 opens last broken breaking.breaks sizeFor unsaid rule15 crowded rule16 tags202 linesFor contentLines spread fieldsOf messageFor message
+unfolding same tags103 shapeOf heldBy cast grid marks isIn digit capital letter shared long places103 places202 rule18 shaped signOf tests.looksTax isCyrillicInn xset plainly kind latinNext best bad writes pieces recordOf records rest begun isDigits general untaxed sound badFrom judge sheetSign sheetForm rule19 opens last broken breaking.breaks sizeFor unsaid rule15 crowded rule16 tags202 linesFor contentLines spread fieldsOf messageFor message
 all-written = ((refl, refl, refl), (refl, refl, refl), (refl, refl, refl), (refl, refl, refl))
 
 short-by-one : short (desk sheet103) (replicate 166 0) ≡ Broken 17 167
@@ -117,22 +116,22 @@ unfolding best bad latinNext kind grid marks isIn digit capital letter shared
 signed-reads = (reads-best false (desk "СБЕРБАНК OOO") refl, reads-best false (desk "ПЕРЕВОД СРЕДСТВ ПО ДОГОВОРУ A") refl)
 
 signed-easy : Easy Mt202 (bytes signed202)
-unfolding rule18 places103 places202 long rule1 framed body same rule2 scan xset isIn digit capital letter marks shared rule3 cut tagged lineBad badLine rule4 upto past grouped fields find wrong walk walked signOf firstWrong rightField rule8 onward leap daysIn isDay yearOf realDay dated payment parties tests.looksTax taxes valuesOf firstBad rule9 rule10 rule11 rule12 rule13 capitalOrDigit tests.lead tests.ends tests.pair tests.isReference tests.isPurpose tests.isPayment tests.isOwnAccount tests.isPartyByBik tests.isParty tests.isBic tests.isAccount tests.isTax tests.isRpp tests.details tests.right tags103 tags202 heldBy rppDates customerTaxes payerTaxes
+unfolding rule18 places103 places202 long rule1 framed body same rule2 scan xset isIn digit capital letter marks shared rule3 cutLines tagged lineBad badLine rule4 upto past grouped fields find wrong walk walked signOf firstWrong rightField rule8 onward leap daysIn isDay yearOf realDay dated payment parties tests.looksTax taxes valuesOf firstBad rule9 rule10 rule11 rule12 rule13 capitalOrDigit tests.leadDigits tests.ends tests.hasPair tests.isReference tests.isPurpose tests.isPayment tests.isOwnAccount tests.isPartyByBik tests.isParty tests.isBic tests.isAccount tests.isTax tests.isRpp tests.isDetails tests.right tags103 tags202 heldBy rppDates customerTaxes payerTaxes
 signed-easy e =
     record {
       pass = record { type = refl; size = refl; frame = refl; bytes = refl; lines = refl; walk = refl };
       inside = record { contents = refl; days = refl; currency = refl; banks = refl; parties = refl; taxes = refl; texts = e };
     }
 
-signed-texts : spoken Mt202 5 (fields (bytes signed202)) ≡ speech named 120 (bytes "SBERBANK 'OOO'") ∷ speech told 185 (bytes "PEREVOD SREDSTV PO DOGOVORU 'A'") ∷ []
-unfolding spoken speeches names details noted speeches-of.behind shapeOf heldBy tags103 tags202 cast tests.looksTax same digit body cut upto past grouped fields isIn
+signed-texts : speechesOf Mt202 5 (fields (bytes signed202)) ≡ speech asName 120 (bytes "SBERBANK 'OOO'") ∷ speech asDetails 185 (bytes "PEREVOD SREDSTV PO DOGOVORU 'A'") ∷ []
+unfolding speechesOf speeches nameSpeeches detailsSpeech noteSpeeches speeches-of.laterText shapeOf heldBy tags103 tags202 cast tests.looksTax same digit body cutLines upto past grouped fields isIn
 signed-texts = refl
 
 signed-14 : rule14 Mt202 (fields (bytes signed202)) ≡ Fine
-unfolding hidden taxLike tests.looksTax isInn same digit isIn
+unfolding hidden taxLike tests.looksTax isCyrillicInn same digit isIn
 signed-14 =
     rule14-fine Mt202 (fields (bytes signed202)) .1
-    (λ e. subst Heard (sym signed-texts) (heard-by named _ _ (signed-reads .0) refl, (heard-by told _ _ (signed-reads .1) refl, tt)))
+    (λ e. subst Heard (sym signed-texts) (heard-by asName _ _ (signed-reads .0) refl, (heard-by asDetails _ _ (signed-reads .1) refl, tt)))
 
 -- its sheet, of the readings of the two
 abbrev signed-with : Answer → Answer → List ℕ
@@ -143,7 +142,7 @@ signed-with a b =
     ∷ field (bytes "72") (bytes "7.240301.5.ELEK.240301" ∷ bytes "10100" ∷ textOf b ∷ []) ∷ [])
 
 signed-sheet : sheetOf Mt202 (bytes signed202) ≡ desk signedSheet
-unfolding sheetOf recordsOf gather contentParts body cut upto past grouped fields signOf shapeOf heldBy tags103 tags202 cast tests.looksTax same isIn digit speeches-of.behind
+unfolding sheetOf recordsOf gather contentParts body cutLines upto past grouped fields signOf shapeOf heldBy tags103 tags202 cast tests.looksTax same isIn digit speeches-of.laterText
 signed-sheet = ap₂ signed-with (signed-reads .0) (signed-reads .1)
 
 signed-fine : verdictOf Mt202 (bytes signed202) ≡ Fine
@@ -162,12 +161,12 @@ worked =
 -- ---- the idle pair
 -- a run of - reads as itself, whatever follows
 dashes : (n : ℕ) (b d : List ℕ) → reads false b ≡ said d → reads false (replicate n 45 ++ b) ≡ said (replicate n 45 ++ d)
-unfolding reads signs.sign isIn digit marks shared
+unfolding reads signs.character isIn digit marks shared
 dashes zero b d e = e
 dashes (suc n) b d e = ap (after 45) (dashes n b d e)
 
 idle-reads : reads false (replicate 23 45 ++ bytes "''--") ≡ said (replicate 23 45 ++ bytes "--")
-unfolding reads signs.sign isIn digit marks shared
+unfolding reads signs.character isIn digit marks shared
 idle-reads = dashes 23 (bytes "''--") (bytes "--") refl
 
 -- its fields: before the details, the details, behind them
@@ -184,25 +183,25 @@ abbrev aft : List Field
 aft = field (bytes "71A") (bytes "OUR" ∷ []) ∷ []
 
 idle-fields : fields (bytes idle) ≡ fore ++ field (bytes "70") (dashed ∷ bytes "''--" ∷ []) ∷ aft
-unfolding body cut upto past grouped fields
+unfolding body cutLines upto past grouped fields
 idle-fields = refl
 
-idle-texts : spoken Mt103 5 (fore ++ field (bytes "70") (dashed ∷ bytes "''--" ∷ []) ∷ aft)
-    ≡ speech taxPlaced 61 (bytes "'NORD'") ∷ speech taxPlaced 126 (bytes "OOO PoTR") ∷ speech told 151 (replicate 23 45 ++ bytes "''--") ∷ []
-unfolding spoken speeches names details speeches-of.behind shapeOf heldBy tags103 cast tests.looksTax same digit
+idle-texts : speechesOf Mt103 5 (fore ++ field (bytes "70") (dashed ∷ bytes "''--" ∷ []) ∷ aft)
+    ≡ speech asTaxName 61 (bytes "'NORD'") ∷ speech asTaxName 126 (bytes "OOO PoTR") ∷ speech asDetails 151 (replicate 23 45 ++ bytes "''--") ∷ []
+unfolding speechesOf speeches nameSpeeches detailsSpeech speeches-of.laterText shapeOf heldBy tags103 cast tests.looksTax same digit
 idle-texts = refl
 
-names-heard : (breaks taxPlaced (bytes "'NORD'") ≡ false) × (breaks taxPlaced (bytes "OOO PoTR") ≡ false)
-unfolding breaks hidden isInn taxLike tests.looksTax same reads signs.sign grid marks isIn digit capital letter shared
+names-heard : (breaks14 asTaxName (bytes "'NORD'") ≡ false) × (breaks14 asTaxName (bytes "OOO PoTR") ≡ false)
+unfolding breaks14 hidden isCyrillicInn taxLike tests.looksTax same reads signs.character grid marks isIn digit capital letter shared
 names-heard = (refl, refl)
 
 idle-14 : rule14 Mt103 (fields (bytes idle)) ≡ Fine
 idle-14 =
     rule14-fine Mt103 (fields (bytes idle)) .1
-    (λ e. subst Heard (sym (ap (spoken Mt103 5) idle-fields ∙ idle-texts)) (names-heard .0, (names-heard .1, (heard-by told _ _ idle-reads refl, tt))))
+    (λ e. subst Heard (sym (ap (speechesOf Mt103 5) idle-fields ∙ idle-texts)) (names-heard .0, (names-heard .1, (heard-by asDetails _ _ idle-reads refl, tt))))
 
 idle-easy : Easy Mt103 (bytes idle)
-unfolding rule18 places103 places202 long rule1 framed body same rule2 scan xset isIn digit capital letter marks shared rule3 cut tagged lineBad badLine rule4 upto past grouped fields find wrong walk walked signOf firstWrong rightField rule8 onward leap daysIn isDay yearOf realDay dated payment parties tests.looksTax taxes valuesOf firstBad rule9 rule10 rule11 rule12 rule13 capitalOrDigit tests.lead tests.ends tests.pair tests.isReference tests.isPurpose tests.isPayment tests.isOwnAccount tests.isPartyByBik tests.isParty tests.isBic tests.isAccount tests.isTax tests.isRpp tests.details tests.right tags103 tags202 heldBy rppDates customerTaxes payerTaxes
+unfolding rule18 places103 places202 long rule1 framed body same rule2 scan xset isIn digit capital letter marks shared rule3 cutLines tagged lineBad badLine rule4 upto past grouped fields find wrong walk walked signOf firstWrong rightField rule8 onward leap daysIn isDay yearOf realDay dated payment parties tests.looksTax taxes valuesOf firstBad rule9 rule10 rule11 rule12 rule13 capitalOrDigit tests.leadDigits tests.ends tests.hasPair tests.isReference tests.isPurpose tests.isPayment tests.isOwnAccount tests.isPartyByBik tests.isParty tests.isBic tests.isAccount tests.isTax tests.isRpp tests.isDetails tests.right tags103 tags202 heldBy rppDates customerTaxes payerTaxes
 idle-easy e =
     record {
       pass = record { type = refl; size = refl; frame = refl; bytes = refl; lines = refl; walk = refl };
@@ -213,7 +212,7 @@ idle-fine : verdictOf Mt103 (bytes idle) ≡ Fine
 idle-fine = rules-accepted Mt103 (bytes idle) (idle-easy idle-14)
 
 -- ---- its sheet
-details-record : (form : Form) (t l : List ℕ) (ls : List (List ℕ)) (b d : List ℕ) → shapeOf form t ≡ Details → drop 11 l ++ speeches-of.behind 0 ls ≡ b → reads false b ≡ said d
+details-record : (form : Form) (t l : List ℕ) (ls : List (List ℕ)) (b d : List ℕ) → shapeOf form t ≡ Details → drop 11 l ++ speeches-of.laterText 0 ls ≡ b → reads false b ≡ said d
     → recordFor form true (field t (l ∷ ls)) ≡ field t (codeDigits true l ∷ d ∷ [])
 unfolding contentParts
 details-record form t l ls b d e h r =
@@ -237,8 +236,8 @@ is-details : shapeOf Mt103 (bytes "70") ≡ Details
 unfolding shapeOf heldBy tags103 same
 is-details = refl
 
-is-text : drop 11 dashed ++ speeches-of.behind 0 (bytes "''--" ∷ []) ≡ replicate 23 45 ++ bytes "''--"
-unfolding speeches-of.behind
+is-text : drop 11 dashed ++ speeches-of.laterText 0 (bytes "''--" ∷ []) ≡ replicate 23 45 ++ bytes "''--"
+unfolding speeches-of.laterText
 is-text = refl
 
 idle-record : recordFor Mt103 true (field (bytes "70") (dashed ∷ bytes "''--" ∷ [])) ≡ field (bytes "70") (codeDigits true dashed ∷ (replicate 23 45 ++ bytes "--") ∷ [])
@@ -258,7 +257,7 @@ idle-sheet =
     (gather-around Mt103 true fore (field (bytes "70") (dashed ∷ bytes "''--" ∷ [])) aft _ idle-record)
 
 idle-crowded : first (sheetRules (sheet (typeRecord Mt103 ∷ its-records))) ≡ Broken 16 0
-unfolding contentParts gather same tags103 shapeOf heldBy cast reads signs.sign grid marks isIn digit capital letter shared long places103 places202 rule18 shaped signOf tests.looksTax isInn xset plainly kind latinNext best bad writes pieces recordOf records rest begun digits general untaxed sound badFrom judge sheetSign sheetForm rule19 opens last broken breaking.breaks sizeFor unsaid rule15 crowded rule16
+unfolding contentParts gather same tags103 shapeOf heldBy cast reads signs.character grid marks isIn digit capital letter shared long places103 places202 rule18 shaped signOf tests.looksTax isCyrillicInn xset plainly kind latinNext best bad writes pieces recordOf records rest begun isDigits general untaxed sound badFrom judge sheetSign sheetForm rule19 opens last broken breaking.breaks sizeFor unsaid rule15 crowded rule16
 idle-crowded = refl
 
 pub stopped : AllHold Holds stops

@@ -60,10 +60,10 @@ KeptPart s (name l) = Kept s l
 KeptPart s (taxName l) = TaxKept s l
 
 -- shapes that hold details or an RPP line
-pub data Noted : Shape → Type 0 where
-  details : Noted Details
-  note103 : Noted Note103
-  note202 : Noted Note202
+pub data DetailsOrRpp : Shape → Type 0 where
+  details : DetailsOrRpp Details
+  note103 : DetailsOrRpp Note103
+  note202 : DetailsOrRpp Note202
 
 -- ---- its record: it says what the field does; right by 19, written by 15, without tab and LF; it fits, but for details with the sign
 pub record Sheeted (form : Form) (s : Bool) (t : List ℕ) (ls : List (List ℕ)) : Type 0 where

@@ -1,4 +1,4 @@
--- Every field of a message that no rule refuses is held: its tag and lines are as 2, 3 and 4 want them, its content is right by 8, and with
+-- AllHold field of a message that no rule refuses is held: its tag and lines are as 2, 3 and 4 want them, its content is right by 8, and with
 -- the sign no text of it breaks 14 (N2-N4, N8, N14). Assumes nothing.
 use Prim.Native.Nat.{ℕ, _+_}
 use mathlib.Core.Path.{_≡_, refl, ap, _∙_, subst}
@@ -9,6 +9,7 @@ use Rattle.base.specs.Choice.{all}
 use Rattle.base.specs.Bytes.{xset}
 use Rattle.base.specs.declared.Verdict.the-variants.{Fine}
 use Rattle.base.proofs.Bools.{left, right, both, all-front, all-behind}
+use Rattle.base.specs.Examples.{AllHold}
 use Rattle.fields.specs.Field.{Field, field, linesOf, fields}
 use Rattle.fields.specs.Places.{startOf, nextOf}
 use Rattle.fields.specs.Shapes.{shaped, goesOn, proper}
@@ -19,14 +20,13 @@ use Rattle.contents.specs.Rule8.{rightField}
 use Rattle.contents.proofs.RuleLaws.{rule8-fine}
 use Rattle.roles.specs.Role.{shapeOf}
 use Rattle.roles.specs.Speech.{Speech, speech, speeches}
-use Rattle.roles.specs.Rule14.{texts, spoken}
+use Rattle.roles.specs.Rule14.{texts, speechesOf}
 use Rattle.roles.specs.Sentences.{Heard}
 use Rattle.roles.specs.declared.Shape.{Shape}
 use Rattle.roles.proofs.BreachLaws.{rule14-fine}
-use Rattle.roles.proofs.CodeLaws.{speeches-moved}
+use Rattle.roles.proofs.BackTableLaws.{speeches-moved}
 use Rattle.judge.specs.Message.{verdictOf}
 use Rattle.judge.proofs.RuleLaws.{accepted-rules}
-use Rattle.written.specs.Sentences.{Every}
 use Rattle.written.proofs.ReadyLaws.{Fair}
 use Rattle.trips.proofs.Held.{HeldField}
 
@@ -54,8 +54,8 @@ heard-start sh o ls h =
 -- ---- field by field, the first colon at o
 module _ (form : Form) (s : Bool) where
   each-held : (o : ℕ) (fs : List Field) → all proper fs ≡ true → all (all xset) (linesOf fs) ≡ true → all (rightField form s) fs ≡ true
-      → (s ≡ true → Heard (spoken form o fs)) → Every (HeldField form s) fs
-  unfolding spoken
+      → (s ≡ true → Heard (speechesOf form o fs)) → AllHold (HeldField form s) fs
+  unfolding speechesOf
   each-held o [] p x r h = tt
   each-held o (field t [] ∷ fs) p x r h = absurd (false≢true p)
   each-held o (field t (l ∷ ls) ∷ fs) p x r h =
@@ -68,13 +68,13 @@ module _ (form : Form) (s : Bool) where
           tagged = left (shaped t) (all goesOn ls) q;
           fair = fair;
           right = left (rightField form s f) _ r;
-          heard = λ g. heard-start (shapeOf form t) (startOf o f) (l ∷ ls) (heard-front (texts form o f) (spoken form (nextOf o f) fs) (h g));
+          heard = λ g. heard-start (shapeOf form t) (startOf o f) (l ∷ ls) (heard-front (texts form o f) (speechesOf form (nextOf o f) fs) (h g));
         },
         each-held (nextOf o f) fs (right (proper f) (all proper fs) p) (all-behind (all xset) ls (linesOf fs) y) (right (rightField form s f) _ r)
-            (λ g. heard-behind (texts form o f) (spoken form (nextOf o f) fs) (h g)),
+            (λ g. heard-behind (texts form o f) (speechesOf form (nextOf o f) fs) (h g)),
       )
 
-pub all-held : (form : Form) (m : List ℕ) → verdictOf form m ≡ Fine → Every (HeldField form (signOf (fields m))) (fields m)
+pub all-held : (form : Form) (m : List ℕ) → verdictOf form m ≡ Fine → AllHold (HeldField form (signOf (fields m))) (fields m)
 all-held form m e =
     let c = accepted-rules form m e in
     let p = c .pass in

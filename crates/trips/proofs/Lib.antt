@@ -3,14 +3,14 @@ pub mod SaidLaws
 pub mod ReadingLaws
 pub mod NameLaws
 pub mod DetailLaws
-pub mod ToldLaws
+pub mod DetailRecordLaws
 pub mod ShownLaws
 pub mod HeldLaws
 pub mod ValueLaws
 pub mod BackLaws
 pub mod SheetLaws
-pub mod NotedLaws
-pub mod NamedLaws
+pub mod DetailAgainLaws
+pub mod NameAgainLaws
 pub mod ShortLaws
 pub mod RightLaws
 pub mod VerdictLaws

@@ -10,18 +10,18 @@ use Rattle.base.specs.Choice.{all}
 use Rattle.base.specs.Bytes.{byte, begins, empty, isIn, xset}
 use Rattle.base.specs.Calls.{Answer, said, stuck, textOf}
 use Rattle.base.proofs.ByteLaws.{begins-byte}
-use Rattle.alphabets.specs.Grid.{Kind, kind, spell, allowed, sign}
+use Rattle.alphabets.specs.Grid.{Kind, kind, spell, allowed, character}
 use Rattle.alphabets.specs.Bank.{reads, reading}
 use Rattle.alphabets.specs.Best.{writing}
 use Rattle.alphabets.proofs.GridLaws.{write-read}
 use Rattle.alphabets.proofs.Shortest.{Came, turned, signed, came}
 use Rattle.alphabets.proofs.Theorems.{plain-iff}
 use Rattle.contents.specs.Tests.{looksTax}
-use Rattle.roles.specs.Speech.{named, taxPlaced}
-use Rattle.roles.specs.Rule14.{mute, hidden, isInn, taxLike, clauses, breaks}
+use Rattle.roles.specs.Speech.{asName, asTaxName}
+use Rattle.roles.specs.Rule14.{mute, hidden, isCyrillicInn, taxLike, clauses, breaks14}
 use Rattle.records.specs.Record.{plainText}
 use Rattle.trips.proofs.SaidLaws.{says-written, says-text}
-use Rattle.written.proofs.SpeltLaws.{said-is, Mark, slash, colon, dash, mark-kind, mark-sign, not-apostrophe, not-none}
+use Rattle.written.proofs.SpeltLaws.{said-is, Mark, slash, colon, dash, mark-kind, mark-character, not-apostrophe, not-none}
 
 -- ---- the first byte
 -- a sign of the Russian side is one of the three marks exactly if its byte is
@@ -31,13 +31,13 @@ mark-same c x y m a e = go (eqb y c) (eqb x c) refl refl
     spelt : y ≡ c → x ≡ c
     spelt q = sym e ∙ ap (λ (n : ℕ). spell (kind n) false n) q ∙ ap (λ (k : Kind). spell k false c) (mark-kind c m)
 
-    told : x ≡ c → y ≡ c
-    told q = sym (write-read false y a .reads-back) ∙ ap (sign false) (e ∙ q) ∙ mark-sign c m
+    as-mark : x ≡ c → y ≡ c
+    as-mark q = sym (write-read false y a .reads-back) ∙ ap (character false) (e ∙ q) ∙ mark-character c m
 
     go : (u v : Bool) → eqb y c ≡ u → eqb x c ≡ v → u ≡ v
     go true true p q = refl
     go true false p q = absurd (eqb-false x c q (spelt (eqb-true y c p)))
-    go false true p q = absurd (eqb-false y c p (told (eqb-true x c q)))
+    go false true p q = absurd (eqb-false y c p (as-mark (eqb-true x c q)))
     go false false p q = refl
 
 shown : (x : ℕ) (b d : List ℕ) → x ≡ 39 → hidden (x ∷ b) d ≡ false → isIn (byte d 0) (47 ∷ 58 ∷ 45 ∷ []) ≡ false
@@ -81,7 +81,7 @@ pub record ClearTax (s : Bool) (l : List ℕ) : Type 0 where
   pub as-name : Clear s l
   pub untaxed : looksTax l ≡ false
   pub untaxed-read : looksTax (readAs s l) ≡ false
-  pub no-inn : s ≡ true → isInn (readAs s l) ≡ false
+  pub no-inn : s ≡ true → isCyrillicInn (readAs s l) ≡ false
 
 clear-by : (s : Bool) (l d : List ℕ) → reading s l ≡ said d → empty d ≡ false → ((c : ℕ) → Mark c → begins c d ≡ begins c l) → Clear s l
 clear-by s l d r m h =
@@ -107,29 +107,29 @@ or-none : (a b : Bool) → (a || b) ≡ false → (a ≡ false) × (b ≡ false)
 or-none true b e = absurd (true≢false e)
 or-none false b e = (refl, e)
 
-pub heard-clear : (l : List ℕ) → breaks named l ≡ false → Clear true l
-unfolding breaks
+pub heard-clear : (l : List ℕ) → breaks14 asName l ≡ false → Clear true l
+unfolding breaks14
 heard-clear l e = go (reading true l) refl e
   where
-    go : (a : Answer) → reading true l ≡ a → clauses named (mute a) l (textOf a) ≡ false → Clear true l
+    go : (a : Answer) → reading true l ≡ a → clauses asName (mute a) l (textOf a) ≡ false → Clear true l
     go (stuck k) r e = absurd (true≢false e)
     go (said d) r e = let f = or-none (empty d) (hidden l d) e in signed-clear l d r (f .0) (f .1)
 
-pub heard-tax : (l : List ℕ) → breaks taxPlaced l ≡ false → looksTax l ≡ false → ClearTax true l
-unfolding breaks taxLike
+pub heard-tax : (l : List ℕ) → breaks14 asTaxName l ≡ false → looksTax l ≡ false → ClearTax true l
+unfolding breaks14 taxLike
 heard-tax l e t = go (reading true l) refl e
   where
-    go : (a : Answer) → reading true l ≡ a → clauses taxPlaced (mute a) l (textOf a) ≡ false → ClearTax true l
+    go : (a : Answer) → reading true l ≡ a → clauses asTaxName (mute a) l (textOf a) ≡ false → ClearTax true l
     go (stuck k) r e = absurd (true≢false e)
     go (said d) r e =
         let f = or-none (empty d) (hidden l d || taxLike d) e in
         let g = or-none (hidden l d) (taxLike d) (f .1) in
-        let h = or-none (looksTax d) (isInn d) (g .1) in
+        let h = or-none (looksTax d) (isCyrillicInn d) (g .1) in
         record {
           as-name = signed-clear l d r (f .0) (g .0);
           untaxed = t;
           untaxed-read = ap looksTax (ap textOf r) ∙ h .0;
-          no-inn = λ q. ap isInn (ap textOf r) ∙ h .1;
+          no-inn = λ q. ap isCyrillicInn (ap textOf r) ∙ h .1;
         }
 
 -- ---- it can be written

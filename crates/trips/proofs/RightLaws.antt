@@ -17,10 +17,10 @@ use Rattle.written.proofs.ReadyLaws.{Ready}
 use Rattle.sheets.specs.Gather.{contentParts}
 use Rattle.trips.specs.Shown as shown
 use Rattle.trips.specs.Shown.{LineByLine}
-use Rattle.trips.proofs.Held.{Held, Noted}
+use Rattle.trips.proofs.Held.{Held, DetailsOrRpp}
 use Rattle.trips.proofs.Held as held
-use Rattle.trips.proofs.NamedLaws.{named-again}
-use Rattle.trips.proofs.NotedLaws.{noted-again}
+use Rattle.trips.proofs.NameAgainLaws.{names-again}
+use Rattle.trips.proofs.DetailAgainLaws.{details-again}
 
 pub right-again : (form : Form) (s : Bool) (t : List ℕ) (ls : List (List ℕ)) → Held form s t ls → Ready s (shapeOf form t) (contentParts s (shapeOf form t) ls)
     → rightField form s (field t (contentLines s (shapeOf form t) (contentParts s (shapeOf form t) ls))) ≡ true
@@ -33,17 +33,17 @@ right-again form s t ls h w = field-says form s (field t (contentLines s (shapeO
     Again : Type 0
     Again = Right (heldBy form t) s (contentLines s (shapeOf form t) (contentParts s (shapeOf form t) ls))
 
-    named : LineByLine (shapeOf form t) → Again
-    named v = field-says form s (field t (contentLines s (shapeOf form t) (contentParts s (shapeOf form t) ls))) .0 (named-again form s t ls v h)
+    by-names : LineByLine (shapeOf form t) → Again
+    by-names v = field-says form s (field t (contentLines s (shapeOf form t) (contentParts s (shapeOf form t) ls))) .0 (names-again form s t ls v h)
 
-    noted : Noted (shapeOf form t) → Again
-    noted v = noted-again (heldBy form t) s ls v was w
+    by-details : DetailsOrRpp (shapeOf form t) → Again
+    by-details v = details-again (heldBy form t) s ls v was w
 
     go : (sh : Shape) → shapeOf form t ≡ sh → Again
-    go Plain e = named (rw e shown.plain)
-    go Payer e = named (rw e shown.payer)
-    go Payee e = named (rw e shown.payee)
-    go Agent e = named (rw e shown.agent)
-    go Details e = noted (rw e held.details)
-    go Note103 e = noted (rw e held.note103)
-    go Note202 e = noted (rw e held.note202)
+    go Plain e = by-names (rw e shown.plain)
+    go Payer e = by-names (rw e shown.payer)
+    go Payee e = by-names (rw e shown.payee)
+    go Agent e = by-names (rw e shown.agent)
+    go Details e = by-details (rw e held.details)
+    go Note103 e = by-details (rw e held.note103)
+    go Note202 e = by-details (rw e held.note202)

@@ -15,8 +15,8 @@ use Rattle.alphabets.specs.Bank.{reads, plainly, reading}
 use Rattle.alphabets.specs.Best.{writing}
 use Rattle.alphabets.proofs.Shortest.{Came, turned, signed, came}
 use Rattle.alphabets.proofs.Theorems.{plain-only, plain-iff, unwritable-iff}
-use Rattle.roles.specs.Speech.{told}
-use Rattle.roles.specs.Rule14.{mute, breaks}
+use Rattle.roles.specs.Speech.{asDetails}
+use Rattle.roles.specs.Rule14.{mute, breaks14}
 use Rattle.records.specs.Record.{plainText}
 use Rattle.written.proofs.SpeltLaws.{isSaid}
 
@@ -30,8 +30,8 @@ pub record Means (s : Bool) (b : List ℕ) : Type 0 where
 pub says-plain : (b : List ℕ) → all xset b ≡ true → empty b ≡ false → Means false b
 says-plain b e z = record { desk = b; reads = plain-iff b .1 e; means = z }
 
-pub says-signed : (b : List ℕ) → breaks told b ≡ false → Means true b
-unfolding breaks
+pub says-signed : (b : List ℕ) → breaks14 asDetails b ≡ false → Means true b
+unfolding breaks14
 says-signed b e = go (reading true b) refl e
   where
     go : (a : Answer) → reading true b ≡ a → mute a ≡ false → Means true b

@@ -17,6 +17,7 @@ use Rattle.base.proofs.Bools.{left, right, both}
 use Rattle.base.proofs.ByteLaws.{same-is}
 use Rattle.base.proofs.RuleLaws.{fine-broken}
 use Rattle.base.proofs.CallLaws.{not-long}
+use Rattle.base.specs.Examples.{AllHold}
 use Rattle.alphabets.specs.Bank.{plainly}
 use Rattle.fields.specs.Field.{Field, field, fields}
 use Rattle.fields.specs.Frame.{limit}
@@ -35,14 +36,13 @@ use Rattle.frame.specs.Frame.{EachFrameRule}
 use Rattle.judge.specs.Message.{verdictOf}
 use Rattle.judge.proofs.RuleLaws.{accepted-rules}
 use Rattle.records.specs.Record.{Record, sheet, pieces, front, final, recordOf, records, rest, begun, plainText, writable}
-use Rattle.records.specs.Rule19.{digits, good, typed, formIn, namedForm, sheetForm, sheetSign, rule19}
-use Rattle.records.specs.Sentences.{Sound}
+use Rattle.records.specs.Rule19.{isDigits, good, typed, formIn, namedForm, sheetForm, sheetSign, rule19}
+use Rattle.records.specs.Sentences.{SoundSheet}
 use Rattle.records.proofs.PieceLaws.{some-piece}
 use Rattle.records.proofs.SheetLaws.{records-sheet, rest-sheet}
 use Rattle.records.proofs.RuleLaws.{sound-fine}
 use Rattle.writer.specs.Sheet.{crowded, someCrowded, rule15, rule16, sheetRules}
 use Rattle.writer.proofs.RuleLaws.{rules-sheet}
-use Rattle.written.specs.Sentences.{Every}
 use Rattle.written.proofs.BuiltLaws.{shape-20}
 use Rattle.written.proofs.ReadyLaws.{speaking, rule15-fine}
 use Rattle.written.proofs.ExactLaws.{crowded-none}
@@ -60,7 +60,7 @@ record Typed (form : Form) : Type 0 where
   says : (s : Bool) → speaking form s (typeRecord form) ≡ true
 
 is-typed : (form : Form) → rule18 form ≡ Fine → Typed form
-unfolding rule18 same digits digit shapeOf heldBy tags103 tags202 cast plainly xset letter capital shared
+unfolding rule18 same isDigits digit shapeOf heldBy tags103 tags202 cast plainly xset letter capital shared
 is-typed Mt103 e = record { names = refl; worth = refl; textual = refl; says = λ s. refl }
 is-typed Mt202 e = record { names = refl; worth = refl; textual = refl; says = λ s. refl }
 is-typed Other e = absurd (fine-broken 18 0 (sym e))
@@ -112,21 +112,21 @@ unfolding digit capital
 tag-plain t e = both (shaped-without 9 refl refl t e) (shaped-without 10 refl refl t e)
 
 module _ (form : Form) (s : Bool) where
-  all-writable : (fs : List Field) → all shapedTag fs ≡ true → Every (SheetedField form s) fs → all writable (map (recordFor form s) fs) ≡ true
+  all-writable : (fs : List Field) → all shapedTag fs ≡ true → AllHold (SheetedField form s) fs → all writable (map (recordFor form s) fs) ≡ true
   all-writable [] e w = refl
   all-writable (field t ls ∷ fs) e w =
       both (both (tag-plain t (left (shaped t) _ e)) (w .0 .textual)) (all-writable fs (right (shaped t) _ e) (w .1))
 
-  all-good : (fs : List Field) → all shapedTag fs ≡ true → Every (SheetedField form s) fs → all (good form s) (map (recordFor form s) fs) ≡ true
+  all-good : (fs : List Field) → all shapedTag fs ≡ true → AllHold (SheetedField form s) fs → all (good form s) (map (recordFor form s) fs) ≡ true
   all-good [] e w = refl
   all-good (field t ls ∷ fs) e w = both (both (left (shaped t) _ e) (w .0 .is-sound)) (all-good fs (right (shaped t) _ e) (w .1))
 
-  all-speaking : (fs : List Field) → Every (SheetedField form s) fs → all (speaking form s) (map (recordFor form s) fs) ≡ true
+  all-speaking : (fs : List Field) → AllHold (SheetedField form s) fs → all (speaking form s) (map (recordFor form s) fs) ≡ true
   all-speaking [] w = refl
   all-speaking (field t ls ∷ fs) w = both (w .0 .says) (all-speaking fs (w .1))
 
   -- what 16 refuses of them is 70 of a 103, with the sign
-  which-crowded : (fs : List Field) → Every (SheetedField form s) fs → someCrowded form s (map (recordFor form s) fs) ≡ true → Crowded70 form s fs
+  which-crowded : (fs : List Field) → AllHold (SheetedField form s) fs → someCrowded form s (map (recordFor form s) fs) ≡ true → Crowded70 form s fs
   which-crowded [] w e = absurd (false≢true e)
   which-crowded (field t ls ∷ fs) w e = go (crowded s (shapeOf form t) (contentParts s (shapeOf form t) ls)) refl e (which-crowded fs (w .1))
     where
@@ -142,7 +142,7 @@ module _ (form : Form) (s : Bool) where
           record { type = v .type; sign = v .sign; before = field t ls ∷ v .before; lines = v .lines; behind = v .behind; list = ap (λ (l : List Field). field t ls ∷ l) (v .list); no-way = v .no-way }
 
 -- ---- the sheet
-module _ (form : Form) (s : Bool) (fs : List Field) (eighteen : rule18 form ≡ Fine) (sign : s ≡ signOf fs) (tags : all shapedTag fs ≡ true) (each : Every (SheetedField form s) fs) where
+module _ (form : Form) (s : Bool) (fs : List Field) (eighteen : rule18 form ≡ Fine) (sign : s ≡ signOf fs) (tags : all shapedTag fs ≡ true) (each : AllHold (SheetedField form s) fs) where
   abbrev pub sheetFor : List ℕ
   sheetFor = sheet (typeRecord form ∷ gather form s fs)
 
@@ -174,7 +174,7 @@ module _ (form : Form) (s : Bool) (fs : List Field) (eighteen : rule18 form ≡ 
   read-as f = ap (λ (k : Form). f k (sheetSign sheetFor) (records sheetFor)) its-type ∙ ap₂ (f form) its-sign its-records
 
   -- ---- rule by rule
-  pub its-sound : Sound sheetFor
+  pub its-sound : SoundSheet sheetFor
   unfolding gather
   its-sound =
       record {
@@ -226,7 +226,7 @@ module _ (form : Form) (s : Bool) (fs : List Field) (eighteen : rule18 form ≡ 
         )
 
 -- ---- the sheet of an accepted message whose fields all have their records
-module _ (form : Form) (m : List ℕ) (fine : verdictOf form m ≡ Fine) (each : Every (SheetedField form (signOf (fields m))) (fields m)) where
+module _ (form : Form) (m : List ℕ) (fine : verdictOf form m ≡ Fine) (each : AllHold (SheetedField form (signOf (fields m))) (fields m)) where
   clean : EachFrameRule (λ v. v ≡ Fine) form m
   clean = accepted-rules form m fine .pass
 

@@ -15,21 +15,21 @@ use Rattle.roles.specs.declared.Shape.{Shape}
 use Rattle.roles.specs.declared.Shape.the-variants.{Plain, Payer, Payee, Agent, Details, Note103, Note202}
 use Rattle.details.specs.Lines.{together}
 use Rattle.details.specs.Layouts.{Layout, layout, marked}
-use Rattle.details.specs.declared.Place.{Place}
-use Rattle.details.specs.declared.Place.the-variants.{In72}
+use Rattle.details.specs.declared.DetailsField.{DetailsField}
+use Rattle.details.specs.declared.DetailsField.the-variants.{In72}
 use Rattle.writer.specs.Spread.{code, rppLine}
 use Rattle.written.specs.Sentences.{OneByOne}
 use Rattle.sheets.specs.Gather.{codeDigits}
-use Rattle.trips.specs.Shown.{LineByLine, plain, payer, payee, agent, PartOf, ToldAs, Shows, each, details, note103, note202, behindRpp}
-use Rattle.trips.proofs.ToldLaws.{code-digits}
+use Rattle.trips.specs.Shown.{LineByLine, plain, payer, payee, agent, ReadPart, ShownDetails, Shows, each, details, note103, note202, behindRpp}
+use Rattle.trips.proofs.DetailRecordLaws.{code-digits}
 
 -- ---- a line's part
-part-one : (s : Bool) (x : Part) {p q : List ℕ} → PartOf s x p → PartOf s x q → p ≡ q
+part-one : (s : Bool) (x : Part) {p q : List ℕ} → ReadPart s x p → ReadPart s x q → p ≡ q
 part-one s (copy l) a b = a ∙ sym b
 part-one s (name l) a b = ap textOf (sym a ∙ b)
 part-one s (taxName l) a b = ap textOf (sym a ∙ b)
 
-pub parts-one : (s : Bool) (xs : List Part) (ps qs : List (List ℕ)) → OneByOne (PartOf s) xs ps → OneByOne (PartOf s) xs qs → ps ≡ qs
+pub parts-one : (s : Bool) (xs : List Part) (ps qs : List (List ℕ)) → OneByOne (ReadPart s) xs ps → OneByOne (ReadPart s) xs qs → ps ≡ qs
 parts-one s [] [] [] a b = refl
 parts-one s [] [] (q ∷ qs) a b = absurd b
 parts-one s [] (p ∷ ps) qs a b = absurd a
@@ -51,10 +51,10 @@ rows-back v [] = refl
 rows-back v (l ∷ ls) = ap₂ (λ (y : List ℕ) (ys : List (List ℕ)). y ∷ ys) (drop-append-seam (v .mark) l) (later-back (v .next) ls)
 
 -- so the digits and the text are one only
-pub told-one : {s : Bool} {p : Place} {ls : List (List ℕ)} {vo text vo′ text′ : List ℕ} → ToldAs s p ls vo text → ToldAs s p ls vo′ text′ → (vo ≡ vo′) × (text ≡ text′)
-told-one {s} {p} {ls} {vo} {text} {vo′} {text′} a b =
+pub details-one : {s : Bool} {p : DetailsField} {ls : List (List ℕ)} {vo text vo′ text′ : List ℕ} → ShownDetails s p ls vo text → ShownDetails s p ls vo′ text′ → (vo ≡ vo′) × (text ≡ text′)
+details-one {s} {p} {ls} {vo} {text} {vo′} {text′} a b =
     let r : a .rows ≡ b .rows = sym (rows-back (layout p) (a .rows)) ∙ ap (unmarked (layout p)) (sym (a .marks) ∙ b .marks) ∙ rows-back (layout p) (b .rows) in
-    let j : code s vo ++ a .spelt ≡ code s vo′ ++ b .spelt = sym (a .joined) ∙ ap together r ∙ b .joined in
+    let j : code s vo ++ a .spelt ≡ code s vo′ ++ b .spelt = sym (a .spells) ∙ ap together r ∙ b .spells in
     let v : vo ≡ vo′ = sym (code-digits s vo (a .spelt) (a .number)) ∙ ap (codeDigits s) j ∙ code-digits s vo′ (b .spelt) (b .number) in
     let w : a .spelt ≡ b .spelt =
     sym (drop-append-seam (code s vo) (a .spelt)) ∙ ap (drop (length (code s vo))) (j ∙ ap (λ (x : List ℕ). code s x ++ b .spelt) (sym v)) ∙ drop-append-seam (code s vo) (b .spelt) in
@@ -76,7 +76,7 @@ by-line payer = refl
 by-line payee = refl
 by-line agent = refl
 
-not-rpp : {s : Bool} {r vo text : List ℕ} {ls : List (List ℕ)} → ToldAs s In72 (rppLine r ∷ ls) vo text → ⊥
+not-rpp : {s : Bool} {r vo text : List ℕ} {ls : List (List ℕ)} → ShownDetails s In72 (rppLine r ∷ ls) vo text → ⊥
 not-rpp {s} {r} {vo} {text} {ls} a = go (a .rows) (a .marks)
   where
     go : (rows : List (List ℕ)) → rppLine r ∷ ls ≡ marked (layout In72) rows → ⊥
@@ -91,12 +91,12 @@ shows-one (each v a) note103 = absurd (true≢false (sym (by-line v)))
 shows-one (each v a) (note202 b) = absurd (true≢false (sym (by-line v)))
 shows-one (each v a) (behindRpp z b) = absurd (true≢false (sym (by-line v)))
 shows-one (details a) (each v b) = absurd (true≢false (sym (by-line v)))
-shows-one (details a) (details b) = let t = told-one a b in ap₂ (λ (x y : List ℕ). x ∷ y ∷ []) (t .0) (t .1)
+shows-one (details a) (details b) = let t = details-one a b in ap₂ (λ (x y : List ℕ). x ∷ y ∷ []) (t .0) (t .1)
 shows-one note103 (each v b) = absurd (true≢false (sym (by-line v)))
 shows-one note103 note103 = refl
 shows-one (note202 a) (each v b) = absurd (true≢false (sym (by-line v)))
-shows-one (note202 a) (note202 b) = let t = told-one a b in ap₂ (λ (x y : List ℕ). [] ∷ x ∷ y ∷ []) (t .0) (t .1)
+shows-one (note202 a) (note202 b) = let t = details-one a b in ap₂ (λ (x y : List ℕ). [] ∷ x ∷ y ∷ []) (t .0) (t .1)
 shows-one (note202 a) (behindRpp z b) = absurd (not-rpp a)
 shows-one (behindRpp z a) (each v b) = absurd (true≢false (sym (by-line v)))
 shows-one (behindRpp z a) (note202 b) = absurd (not-rpp b)
-shows-one (behindRpp {r} z a) (behindRpp y b) = let t = told-one a b in ap₂ (λ (x y : List ℕ). r ∷ x ∷ y ∷ []) (t .0) (t .1)
+shows-one (behindRpp {r} z a) (behindRpp y b) = let t = details-one a b in ap₂ (λ (x y : List ℕ). r ∷ x ∷ y ∷ []) (t .0) (t .1)

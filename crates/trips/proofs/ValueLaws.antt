@@ -12,6 +12,7 @@ use Rattle.base.specs.declared.Verdict.the-variants.{Fine, Broken}
 use Rattle.base.proofs.Bools.{left, right}
 use Rattle.base.proofs.ByteLaws.{same-is}
 use Rattle.base.proofs.RuleLaws.{fine-broken}
+use Rattle.base.specs.Examples.{AllHold}
 use Rattle.fields.specs.Field.{Field, field}
 use Rattle.fields.specs.Places.{startOf, nextOf}
 use Rattle.types.specs.declared.Form.{Form}
@@ -23,18 +24,17 @@ use Rattle.contents.specs.Tags.{Tag, tag as tagged, tags103, tags202, heldIn, h
 use Rattle.contents.specs.Tests.{looksTax}
 use Rattle.contents.specs.Parts.{taxInn, taxKpp}
 use Rattle.contents.proofs.RuleLaws.{field-says}
-use Rattle.values.specs.Values.{Kind, tag, tax, Value, at, placeOf, kindOf, moved, rppDates, ofFirst, taxes, customerTaxes, payerTaxes, noteDates, valuesOf, valuesIn}
-use Rattle.values.specs.Judged.{firstBad, has, noDay, foreign, apart, kppIn, is26T, is56, is57, is77B, without57, taxWhole, taxBroken, rule9, rule10, rule11, rule12, rule13}
+use Rattle.values.specs.Values.{ValueKind, tag, tax, Value, at, placeOf, kindOf, moved, rppDates, ofFirst, taxes, customerTaxes, payerTaxes, noteDates, valuesOf, valuesIn}
+use Rattle.values.specs.Judged.{firstBad, has, noDay, foreign, bikDiffers, kppIn, is26T, is56, is57, is77B, without57, taxWhole, taxBroken, rule9, rule10, rule11, rule12, rule13}
 use Rattle.roles.specs.Role.{shapeFor, shapeOf, copy, name, taxName, taxed, cast}
 use Rattle.roles.specs.Speech.{codeSize}
 use Rattle.roles.specs.declared.Shape.{Shape}
 use Rattle.roles.specs.declared.Shape.the-variants.{Plain, Payer, Payee, Agent, Details, Note103, Note202}
-use Rattle.details.specs.declared.Place.the-variants.{In72}
-use Rattle.written.specs.Sentences.{Every}
-use Rattle.writer.specs.Spread.{told, rppLine, noteLines, contentLines}
+use Rattle.details.specs.declared.DetailsField.the-variants.{In72}
+use Rattle.writer.specs.Spread.{codeAndText, rppLine, noteLines, contentLines}
 use Rattle.writer.specs.Sheet.{crowded}
 use Rattle.written.proofs.ReadyLaws.{Ready, Laid, laid}
-use Rattle.sheets.specs.Gather.{toldParts, noteParts, contentParts}
+use Rattle.sheets.specs.Gather.{detailsParts, noteParts, contentParts}
 use Rattle.trips.specs.Again.{again, lineAgain, fieldAgain}
 use Rattle.trips.specs.Shown.{LineByLine, plain, payer, payee, agent}
 use Rattle.trips.proofs.Held.{Held, HeldField, KeptPart}
@@ -75,7 +75,7 @@ details-70 Mt202 t e =
 details-70 Other t e = absurd (false≢true (ap isDetails e))
 
 -- ---- the tax line: wherever its place begins
-abbrev taxKinds : List ℕ → List (List ℕ) → List Kind
+abbrev taxKinds : List ℕ → List (List ℕ) → List ValueKind
 taxKinds t [] = []
 taxKinds t (l ∷ ls) = pick (looksTax l) (tax t (taxInn l) (taxKpp l) ∷ []) []
 
@@ -90,7 +90,7 @@ tax-kinds t n (l ∷ ls) = go (looksTax l)
 
 -- the lines written again: the tax line is copied, and a name there is none
 module _ (s : Bool) (t : List ℕ) where
-  abbrev kinds : (List ℕ → List (List ℕ) → List Value) → List (List ℕ) → List Kind
+  abbrev kinds : (List ℕ → List (List ℕ) → List Value) → List (List ℕ) → List ValueKind
   kinds f ls = map kindOf (f t ls)
 
   one-tax : (b : Bool) (p : List ℕ) (ks ls : List (List ℕ)) → looksTax p ≡ b → KeptPart s (pick b (copy p) (taxName p))
@@ -99,16 +99,16 @@ module _ (s : Bool) (t : List ℕ) where
   one-tax false p ks ls e w =
       ap (λ (q : Bool). pick q (tax t (taxInn (again s p)) (taxKpp (again s p)) ∷ []) []) (w .untaxed-again) ∙ sym (ap (λ (q : Bool). pick q (tax t (taxInn p) (taxKpp p) ∷ []) []) e)
 
-  tax-again : (ps : List (List ℕ)) → Every (KeptPart s) (taxed ps) → taxKinds t (map (lineAgain s) (taxed ps)) ≡ taxKinds t ps
+  tax-again : (ps : List (List ℕ)) → AllHold (KeptPart s) (taxed ps) → taxKinds t (map (lineAgain s) (taxed ps)) ≡ taxKinds t ps
   tax-again [] w = refl
   tax-again (p ∷ ps) w = one-tax (looksTax p) p (map (lineAgain s) (map name ps)) ps refl (w .0)
 
   -- beside an account
-  beside-again : (k l : List ℕ) (ps : List (List ℕ)) → Every (KeptPart s) (taxed ps) → kinds customerTaxes (k ∷ map (lineAgain s) (taxed ps)) ≡ kinds customerTaxes (l ∷ ps)
+  beside-again : (k l : List ℕ) (ps : List (List ℕ)) → AllHold (KeptPart s) (taxed ps) → kinds customerTaxes (k ∷ map (lineAgain s) (taxed ps)) ≡ kinds customerTaxes (l ∷ ps)
   unfolding customerTaxes
   beside-again k l ps w = tax-kinds t _ (map (lineAgain s) (taxed ps)) ∙ tax-again ps w ∙ sym (tax-kinds t _ ps)
 
-  payee-again : (ls : List (List ℕ)) → Every (KeptPart s) (cast Payee ls) → kinds customerTaxes (map (lineAgain s) (cast Payee ls)) ≡ kinds customerTaxes ls
+  payee-again : (ls : List (List ℕ)) → AllHold (KeptPart s) (cast Payee ls) → kinds customerTaxes (map (lineAgain s) (cast Payee ls)) ≡ kinds customerTaxes ls
   unfolding cast
   payee-again [] w = refl
   payee-again (p ∷ ps) w = beside-again (lineAgain s (pick (begins 47 p) (copy p) (name p))) p ps (w .1)
@@ -117,7 +117,7 @@ module _ (s : Bool) (t : List ℕ) where
   front-again true p w = refl
   front-again false p w = w .as-name .slash
 
-  payer-by : (b : Bool) (p : List ℕ) (ps : List (List ℕ)) → begins 47 p ≡ b → Every (KeptPart s) (pick b (copy p ∷ taxed ps) (taxed (p ∷ ps)))
+  payer-by : (b : Bool) (p : List ℕ) (ps : List (List ℕ)) → begins 47 p ≡ b → AllHold (KeptPart s) (pick b (copy p ∷ taxed ps) (taxed (p ∷ ps)))
       → kinds payerTaxes (map (lineAgain s) (pick b (copy p ∷ taxed ps) (taxed (p ∷ ps)))) ≡ kinds payerTaxes (p ∷ ps)
   unfolding payerTaxes
   payer-by true p ps e w =
@@ -130,7 +130,7 @@ module _ (s : Bool) (t : List ℕ) where
       ∙ tax-kinds t 0 (l ∷ ks) ∙ one-tax (looksTax p) p ks ps refl (w .0) ∙ sym (tax-kinds t 0 (p ∷ ps))
       ∙ sym (ap (λ (q : Bool). map kindOf (pick q (customerTaxes t (p ∷ ps)) (taxes t 0 (p ∷ ps)))) e)
 
-  payer-again : (ls : List (List ℕ)) → Every (KeptPart s) (cast Payer ls) → kinds payerTaxes (map (lineAgain s) (cast Payer ls)) ≡ kinds payerTaxes ls
+  payer-again : (ls : List (List ℕ)) → AllHold (KeptPart s) (cast Payer ls) → kinds payerTaxes (map (lineAgain s) (cast Payer ls)) ≡ kinds payerTaxes ls
   unfolding cast payerTaxes
   payer-again [] w = refl
   payer-again (p ∷ ps) w = payer-by (begins 47 p) p ps refl w
@@ -159,7 +159,7 @@ note-again s ls (inl d) = go (d .3 .lines)
     go : {ls ks : List (List ℕ)} {k : List ℕ} → ls ≡ (bytes "/NZP/" ++ k) ∷ ks → crowded s Note202 (noteParts s ls) ≡ false → ofFirst noteDates (noteLines s (noteParts s ls)) ≡ ofFirst noteDates ls
     go {ks = ks} {k = k} e =
         rw e (λ u.
-        let w : Laid In72 (codeSize s) (told s (toldParts s 5 2 ((bytes "/NZP/" ++ k) ∷ ks))) = laid In72 (codeSize s) (told s (toldParts s 5 2 ((bytes "/NZP/" ++ k) ∷ ks))) u in
+        let w : Laid In72 (codeSize s) (codeAndText s (detailsParts s 5 2 ((bytes "/NZP/" ++ k) ∷ ks))) = laid In72 (codeSize s) (codeAndText s (detailsParts s 5 2 ((bytes "/NZP/" ++ k) ∷ ks))) u in
         rw (w .is) refl)
 note-again s [] (inr d) = absurd d
 note-again s (l ∷ ls) (inr d) = let k = rpp-line l (d .0) in go (k .0) (k .1) (k .2)
@@ -186,8 +186,8 @@ module _ (form : Form) (s : Bool) (t : List ℕ) (ls : List (List ℕ)) (h : Hel
       by-line : linesAgain form s t ls ≡ map (lineAgain s) (cast sh ls)
       by-line = held-lines form s t ls (subst LineByLine (sym e) v) h ∙ ap (λ (x : Shape). map (lineAgain s) (cast x ls)) e
 
-      each-kept : Every (KeptPart s) (cast sh ls)
-      each-kept = subst (λ (x : Shape). Every (KeptPart s) (cast x ls)) e (held-kept form s t ls (subst LineByLine (sym e) v) h)
+      each-kept : AllHold (KeptPart s) (cast sh ls)
+      each-kept = subst (λ (x : Shape). AllHold (KeptPart s) (cast x ls)) e (held-kept form s t ls (subst LineByLine (sym e) v) h)
 
     as-shaped : linesAgain form s t ls ≡ contentLines s sh (contentParts s sh ls)
     as-shaped = ap (λ (x : Shape). contentLines s x (contentParts s x ls)) e
@@ -201,7 +201,7 @@ module _ (form : Form) (s : Bool) (t : List ℕ) (ls : List (List ℕ)) (h : Hel
   plain-values : (c : Content) → shapeOf form t ≡ Plain → Again c
   plain-values c e = ap (λ (k : List (List ℕ)). map kindOf (valuesOf t c k)) (by-line Plain e plain ∙ copied s ls)
 
-  payee-values : (f : List (List ℕ) → List Kind) → shapeOf form t ≡ Payee → ((ks : List (List ℕ)) → f ks ≡ map kindOf (customerTaxes t ks)) → f (linesAgain form s t ls) ≡ f ls
+  payee-values : (f : List (List ℕ) → List ValueKind) → shapeOf form t ≡ Payee → ((ks : List (List ℕ)) → f ks ≡ map kindOf (customerTaxes t ks)) → f (linesAgain form s t ls) ≡ f ls
   payee-values f e i = ap f (by-line Payee e payee) ∙ i (map (lineAgain s) (cast Payee ls)) ∙ payee-again s t ls (each-kept Payee e payee) ∙ sym (i ls)
 
   note-values : RppAndDetails s ls → crowded s Note202 (contentParts s Note202 ls) ≡ false → ofFirst noteDates (contentLines s Note202 (contentParts s Note202 ls)) ≡ ofFirst noteDates ls
@@ -239,10 +239,10 @@ ReadyField form s (field t ls) = Ready s (shapeOf form t) (contentParts s (shape
 
 kinds-append : (n : ℕ) (vs ws : List Value) → map kindOf (map (moved n) vs ++ ws) ≡ map kindOf vs ++ map kindOf ws
 kinds-append n [] ws = refl
-kinds-append n (at p k ∷ vs) ws = ap (λ (ks : List Kind). k ∷ ks) (kinds-append n vs ws)
+kinds-append n (at p k ∷ vs) ws = ap (λ (ks : List ValueKind). k ∷ ks) (kinds-append n vs ws)
 
 -- wherever the fields begin
-pub kinds-again : (form : Form) (s : Bool) (o p : ℕ) (fs : List Field) → Every (HeldField form s) fs → Every (ReadyField form s) fs
+pub kinds-again : (form : Form) (s : Bool) (o p : ℕ) (fs : List Field) → AllHold (HeldField form s) fs → AllHold (ReadyField form s) fs
     → map kindOf (valuesIn form o (map (fieldAgain form s) fs)) ≡ map kindOf (valuesIn form p fs)
 kinds-again form s o p [] h w = refl
 kinds-again form s o p (field t ls ∷ fs) h w =
@@ -250,21 +250,21 @@ kinds-again form s o p (field t ls ∷ fs) h w =
     let ks : List (List ℕ) = linesAgain form s t ls in
     let vs : List Value = valuesIn form (nextOf o g) (map (fieldAgain form s) fs) in
     let ws : List Value = valuesIn form (nextOf p (field t ls)) fs in
-    ap (λ (k : List Kind). tag t ∷ k)
-    (kinds-append (startOf o g) (valuesOf t (heldBy form t) ks) vs ∙ ap₂ (λ (x y : List Kind). x ++ y) (values-again form s t ls (h .0) (w .0)) (kinds-again form s (nextOf o g) (nextOf p (field t ls)) fs (h .1) (w .1))
+    ap (λ (k : List ValueKind). tag t ∷ k)
+    (kinds-append (startOf o g) (valuesOf t (heldBy form t) ks) vs ∙ ap₂ (λ (x y : List ValueKind). x ++ y) (values-again form s t ls (h .0) (w .0)) (kinds-again form s (nextOf o g) (nextOf p (field t ls)) fs (h .1) (w .1))
     ∙ sym (kinds-append (startOf p (field t ls)) (valuesOf t (heldBy form t) ls) ws))
 
 -- ---- 9 to 13 are tests of the values alone, not of their places
-has-same : (t : Kind → Bool) (vs ws : List Value) → map kindOf vs ≡ map kindOf ws → has t vs ≡ has t ws
+has-same : (t : ValueKind → Bool) (vs ws : List Value) → map kindOf vs ≡ map kindOf ws → has t vs ≡ has t ws
 has-same t [] [] e = refl
 has-same t [] (w ∷ ws) e = absurd (true≢false (ap empty e))
 has-same t (v ∷ vs) [] e = absurd (false≢true (ap empty e))
 has-same t (v ∷ vs) (w ∷ ws) e =
     let a : kindOf v ≡ kindOf w = cc in
     let b : map kindOf vs ≡ map kindOf ws = cc in
-    ap₂ (λ (k : Kind) (q : Bool). t k || q) a (has-same t vs ws b)
+    ap₂ (λ (k : ValueKind) (q : Bool). t k || q) a (has-same t vs ws b)
 
-pub fine-same : (n : ℕ) (bad worse : Kind → Bool) (vs ws : List Value) → map kindOf vs ≡ map kindOf ws → ((k : Kind) → bad k ≡ worse k) → firstBad n worse ws ≡ Fine → firstBad n bad vs ≡ Fine
+pub fine-same : (n : ℕ) (bad worse : ValueKind → Bool) (vs ws : List Value) → map kindOf vs ≡ map kindOf ws → ((k : ValueKind) → bad k ≡ worse k) → firstBad n worse ws ≡ Fine → firstBad n bad vs ≡ Fine
 unfolding firstBad
 fine-same n bad worse [] [] e h f = refl
 fine-same n bad worse [] (w ∷ ws) e h f = absurd (true≢false (ap empty e))
@@ -295,7 +295,7 @@ module _ (form : Form) (gs fs : List Field) (e : map kindOf (valuesIn form 5 gs)
 
   pub rule12-again : rule12 form fs ≡ Fine → rule12 form gs ≡ Fine
   unfolding rule12
-  rule12-again f = fine-same 12 apart apart (valuesIn form 5 gs) (valuesIn form 5 fs) e (λ k. refl) f
+  rule12-again f = fine-same 12 bikDiffers bikDiffers (valuesIn form 5 gs) (valuesIn form 5 fs) e (λ k. refl) f
 
   whole-same : taxWhole (valuesIn form 5 gs) ≡ taxWhole (valuesIn form 5 fs)
   whole-same =

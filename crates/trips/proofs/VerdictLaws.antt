@@ -12,10 +12,10 @@ use Rattle.base.specs.declared.Verdict.the-variants.{Fine, Broken}
 use Rattle.base.proofs.Bools.{both}
 use Rattle.base.proofs.RuleLaws.{fine-broken}
 use Rattle.base.proofs.CallLaws.{not-long}
-use Rattle.fields.specs.Field.{Field, field, tagOf, closing, laid, lined, linesOf, message, fields}
+use Rattle.fields.specs.Field.{Field, field, tagOf, closing, withCrLf, lined, linesOf, message, fields}
 use Rattle.fields.specs.Frame.{limit, rule1}
-use Rattle.fields.specs.Places.{sizeOf, nextOf}
-use Rattle.fields.proofs.FieldLaws.{laid-size}
+use Rattle.fields.specs.Places.{linesSize, nextOf}
+use Rattle.fields.proofs.FieldLaws.{crlf-size}
 use Rattle.fields.proofs.PlaceLaws.{size-append}
 use Rattle.types.specs.declared.Form.{Form}
 use Rattle.types.specs.Form.{Place, placesOf}
@@ -32,7 +32,6 @@ use Rattle.judge.proofs.RuleLaws.{accepted-rules, rules-accepted}
 use Rattle.judge.proofs.VerdictTheorems.{frame-clean}
 use Rattle.records.specs.Record.{records}
 use Rattle.records.specs.Rule19.{sheetForm, sheetSign}
-use Rattle.written.specs.Sentences.{Every}
 use Rattle.writer.specs.Spread.{contentLines, fieldFor, spread}
 use Rattle.writer.specs.Sheet.{fieldsOf, messageFor, sheetRules}
 use Rattle.written.proofs.BuiltLaws.{AllPass, records-pass, built-rule2, built-rule3, built-rule4, built-fields, built-sign}
@@ -45,6 +44,7 @@ use Rattle.trips.proofs.RightLaws.{right-again}
 use Rattle.trips.proofs.ShortLaws.{right-short}
 use Rattle.trips.proofs.ValueLaws.{ReadyField, kinds-again, rule9-again, rule10-again, rule11-again, rule12-again, rule13-again}
 use Rattle.base.specs.Rules.{Clean}
+use Rattle.base.specs.Examples.{AllHold}
 
 -- ---- 5 to 7: the walk sees tags alone
 pub walk-tags : (ps : List Place) (next o p : ℕ) (gs fs : List Field) → map tagOf gs ≡ map tagOf fs → walk ps next p fs ≡ Fine → walk ps next o gs ≡ Fine
@@ -79,40 +79,40 @@ module _ (form : Form) (s : Bool) where
   spread-gather [] = refl
   spread-gather (field t ls ∷ fs) = ap (λ (gs : List Field). fieldAgain form s (field t ls) ∷ gs) (spread-gather fs)
 
-  pub all-ready : (fs : List Field) → AllPass form s (map (recordFor form s) fs) → Every (ReadyField form s) fs
+  pub all-ready : (fs : List Field) → AllPass form s (map (recordFor form s) fs) → AllHold (ReadyField form s) fs
   all-ready [] w = tt
   all-ready (field t ls ∷ fs) w = (w .0 .1, all-ready fs (w .1))
 
-  all-right : (fs : List Field) → Every (HeldField form s) fs → Every (ReadyField form s) fs → all (rightField form s) (map (fieldAgain form s) fs) ≡ true
+  all-right : (fs : List Field) → AllHold (HeldField form s) fs → AllHold (ReadyField form s) fs → all (rightField form s) (map (fieldAgain form s) fs) ≡ true
   all-right [] h w = refl
   all-right (field t ls ∷ fs) h w = both (right-again form s t ls (h .0) (w .0)) (all-right fs (h .1) (w .1))
 
   -- 1: each field takes at most 300 bytes
-  all-short : (fs : List Field) → Every (HeldField form s) fs → Every (ReadyField form s) fs → sizeOf (linesOf (map (fieldAgain form s) fs)) ≤ 300 * length fs
+  all-short : (fs : List Field) → AllHold (HeldField form s) fs → AllHold (ReadyField form s) fs → linesSize (linesOf (map (fieldAgain form s) fs)) ≤ 300 * length fs
   all-short [] h w = omega arith
   all-short (field t ls ∷ fs) h w =
       let g : Field = fieldAgain form s (field t ls) in
       let ks : List (List ℕ) = contentLines s (shapeOf form t) (contentParts s (shapeOf form t) ls) in
       let a = right-short form s t ks (h .0 .tagged) (right-again form s t ls (h .0) (w .0)) in
-      let b = laid-size (lined (field t ks)) in
+      let b = crlf-size (lined (field t ks)) in
       let c = size-append (lined (field t ks)) (linesOf (map (fieldAgain form s) fs)) in
       let d = all-short fs (h .1) (w .1) in
       omega arith
 
 -- ---- the length of a message
-message-size : (fs : List Field) → length (message fs) ≡ 7 + sizeOf (linesOf fs)
+message-size : (fs : List Field) → length (message fs) ≡ 7 + linesSize (linesOf fs)
 unfolding message
-message-size fs = let a = length-append (laid (linesOf fs)) closing in let b = laid-size (linesOf fs) in omega arith
+message-size fs = let a = length-append (withCrLf (linesOf fs)) closing in let b = crlf-size (linesOf fs) in omega arith
 
 -- ---- a sheet whose records are those of an accepted message, and which no rule before 17 refuses
 module _ (form : Form) (m : List ℕ) (e : verdictOf form m ≡ Fine) (s : List ℕ) (c : Clean (sheetRules s)) (k : sheetForm s ≡ form) (g : sheetSign s ≡ signOf (fields m)) (r : tail (records s) ≡ gather form (signOf (fields m)) (fields m)) where
-  held : Every (HeldField form (signOf (fields m))) (fields m)
+  held : AllHold (HeldField form (signOf (fields m))) (fields m)
   held = all-held form m e
 
   clean : NoneBroken form m
   clean = accepted-rules form m e
 
-  ready : Every (ReadyField form (signOf (fields m))) (fields m)
+  ready : AllHold (ReadyField form (signOf (fields m))) (fields m)
   unfolding gather
   ready =
       all-ready form (signOf (fields m)) (fields m)
@@ -127,9 +127,9 @@ module _ (form : Form) (m : List ℕ) (e : verdictOf form m ≡ Fine) (s : List 
   sign-is : signOf (fields (messageFor s)) ≡ signOf (fields m)
   sign-is = ap signOf (built-fields s c) ∙ built-sign s c ∙ g
 
-  size-is : length (messageFor s) ≡ 7 + sizeOf (linesOf (map (fieldAgain form (signOf (fields m))) (fields m)))
+  size-is : length (messageFor s) ≡ 7 + linesSize (linesOf (map (fieldAgain form (signOf (fields m))) (fields m)))
   unfolding messageFor
-  size-is = message-size (fieldsOf s) ∙ ap (λ (fs : List Field). 7 + sizeOf (linesOf fs)) (sym (built-fields s c) ∙ fields-are)
+  size-is = message-size (fieldsOf s) ∙ ap (λ (fs : List Field). 7 + linesSize (linesOf fs)) (sym (built-fields s c) ∙ fields-are)
 
   rule1-again : rule1 (messageFor s) ≡ Fine
   unfolding rule1

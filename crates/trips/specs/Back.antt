@@ -2,7 +2,7 @@
 use Prim.Native.Nat.{ℕ}
 use mathlib.Core.List.{List}
 use Rattle.fields.specs.Field.{upto, past}
-use Rattle.records.specs.Rule19.{number}
+use Rattle.records.specs.Rule19.{typeNumber}
 
 -- between the first tab and the LF behind that
 abbrev pub typeIn : List ℕ → List ℕ
@@ -10,4 +10,4 @@ typeIn s = upto 10 (past 9 s)
 
 -- the same as a number
 abbrev pub kindIn : List ℕ → ℕ
-kindIn s = number (typeIn s)
+kindIn s = typeNumber (typeIn s)

@@ -6,12 +6,11 @@ use mathlib.Core.Path.{_≡_}
 use mathlib.Core.List.{List, [], _∷_}
 use lib.ListN.{replicate}
 use Rattle.types.specs.Form.{formOf}
-use Rattle.base.specs.Quoted.{bytes}
+use Rattle.base.specs.Quoted.{bytes, desk}
 use Rattle.base.specs.Rules.{first}
 use Rattle.base.specs.declared.Verdict.the-variants.{Fine, Broken}
 use Rattle.frame.specs.Cases.{sample}
 use Rattle.judge.specs.Message.{verdictOf}
-use Rattle.records.specs.Cases.{desk}
 use Rattle.writer.specs.Sheet.{messageFor, sheetRules, writeRules}
 use Rattle.written.specs.Cases.{sheet103}
 use Rattle.sheets.specs.Gather.{sheetOf}

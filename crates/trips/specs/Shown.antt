@@ -13,11 +13,11 @@ use Rattle.roles.specs.Role.{shapeOf, Part, copy, name, taxName, cast}
 use Rattle.roles.specs.declared.Shape.{Shape}
 use Rattle.roles.specs.declared.Shape.the-variants.{Plain, Payer, Payee, Agent, Details, Note103, Note202}
 use Rattle.records.specs.Record.{Record}
-use Rattle.records.specs.Rule19.{digits}
+use Rattle.records.specs.Rule19.{isDigits}
 use Rattle.details.specs.Lines.{together}
 use Rattle.details.specs.Layouts.{layout, marked}
-use Rattle.details.specs.declared.Place.{Place}
-use Rattle.details.specs.declared.Place.the-variants.{In70, In72, BehindRpp}
+use Rattle.details.specs.declared.DetailsField.{DetailsField}
+use Rattle.details.specs.declared.DetailsField.the-variants.{In70, In72, BehindRpp}
 use Rattle.writer.specs.Spread.{code, rppLine}
 use Rattle.written.specs.Sentences.{OneByOne}
 
@@ -29,27 +29,27 @@ pub data LineByLine : Shape → Type 0 where
   agent : LineByLine Agent
 
 -- the part of a line: a copied line itself; of a name what it reads as
-abbrev pub PartOf : Bool → Part → List ℕ → Type 0
-PartOf s (copy l) p = p ≡ l
-PartOf s (name l) p = reading s l ≡ said p
-PartOf s (taxName l) p = reading s l ≡ said p
+abbrev pub ReadPart : Bool → Part → List ℕ → Type 0
+ReadPart s (copy l) p = p ≡ l
+ReadPart s (name l) p = reading s l ≡ said p
+ReadPart s (taxName l) p = reading s l ≡ said p
 
 -- details: their lines, the marks left out, are together the code and a text that reads as the sheet's
-pub record ToldAs (s : Bool) (place : Place) (ls : List (List ℕ)) (vo text : List ℕ) : Type 0 where
+pub record ShownDetails (s : Bool) (into : DetailsField) (ls : List (List ℕ)) (vo text : List ℕ) : Type 0 where
   pub spelt : List ℕ
   pub rows : List (List ℕ)
-  pub marks : ls ≡ marked (layout place) rows
-  pub number : digits 5 vo ≡ true
-  pub joined : together rows ≡ code s vo ++ spelt
+  pub marks : ls ≡ marked (layout into) rows
+  pub number : isDigits 5 vo ≡ true
+  pub spells : together rows ≡ code s vo ++ spelt
   pub reads : reading s spelt ≡ said text
 
 -- the lines of a field, and the parts of its record
 pub data Shows (s : Bool) : Shape → List (List ℕ) → List (List ℕ) → Type 0 where
-  each : {sh : Shape} {ls ps : List (List ℕ)} → LineByLine sh → OneByOne (PartOf s) (cast sh ls) ps → Shows s sh ls ps
-  details : {ls : List (List ℕ)} {vo text : List ℕ} → ToldAs s In70 ls vo text → Shows s Details ls (vo ∷ text ∷ [])
+  each : {sh : Shape} {ls ps : List (List ℕ)} → LineByLine sh → OneByOne (ReadPart s) (cast sh ls) ps → Shows s sh ls ps
+  details : {ls : List (List ℕ)} {vo text : List ℕ} → ShownDetails s In70 ls vo text → Shows s Details ls (vo ∷ text ∷ [])
   note103 : {r : List ℕ} → Shows s Note103 (rppLine r ∷ []) (r ∷ [])
-  note202 : {ls : List (List ℕ)} {vo text : List ℕ} → ToldAs s In72 ls vo text → Shows s Note202 ls ([] ∷ vo ∷ text ∷ [])
-  behindRpp : {r vo text : List ℕ} {ls : List (List ℕ)} → empty r ≡ false → ToldAs s BehindRpp ls vo text → Shows s Note202 (rppLine r ∷ ls) (r ∷ vo ∷ text ∷ [])
+  note202 : {ls : List (List ℕ)} {vo text : List ℕ} → ShownDetails s In72 ls vo text → Shows s Note202 ls ([] ∷ vo ∷ text ∷ [])
+  behindRpp : {r vo text : List ℕ} {ls : List (List ℕ)} → empty r ≡ false → ShownDetails s BehindRpp ls vo text → Shows s Note202 (rppLine r ∷ ls) (r ∷ vo ∷ text ∷ [])
 
 -- a record of a field: the same tag, and such parts
 abbrev pub Shown : Form → Bool → Field → Record → Type 0

@@ -17,15 +17,15 @@ use Rattle.base.proofs.RuleLaws.{fine-broken}
 use Rattle.base.proofs.Table.{and-left, and-right, is-true}
 use Rattle.types.specs.declared.Form.{Form}
 use Rattle.types.specs.declared.Form.the-variants.{Other, Mt103, Mt202}
-use Rattle.types.specs.Form.{Place, must, may, formOf, typeOf, places103, places202, placesOf}
+use Rattle.types.specs.Form.{Place, mandatory, optional, formOf, typeOf, places103, places202, placesOf}
 use Rattle.types.specs.Walk.{among, isOf, find, skips, wrong, rule18}
 use Rattle.fields.specs.Shapes.{unpack}
-use Rattle.types.specs.Tables.{most, tagsOf, tagTable, mustTable, TablesOf, told, toldFrom, findFrom, stepIn, missing, StepFor}
+use Rattle.types.specs.Tables.{most, placeTags, tagTable, mandatoryTable, TablesOf, tablePlaces, tablePlacesFrom, findFrom, stepIn, missing, StepFor}
 use Rattle.types.specs.declared.Step.{Step}
 use Rattle.base.proofs.ByteLaws.{same-is}
 use Rattle.fields.proofs.PackLaws.{unpack-pack}
 use Rattle.types.proofs.WalkLaws.{find-stands, wrong-seated}
-use Rattle.types.proofs.StepLaws.{told-skips}
+use Rattle.types.proofs.StepLaws.{table-skips}
 use Rattle.types.specs.Sentences.{placeAt, Stands}
 
 -- ---- what holds of each form's places holds of any
@@ -41,17 +41,17 @@ form-type Mt103 = refl
 form-type Mt202 = refl
 
 -- ---- the tables, computed for each form
-abbrev Told : List Place → Type 0
-Told ps = told (tagTable ps) (mustTable ps) (length ps) ≡ ps
+abbrev TablesAgree : List Place → Type 0
+TablesAgree ps = tablePlaces (tagTable ps) (mandatoryTable ps) (length ps) ≡ ps
 
-tables : (form : Form) → told (tagTable (placesOf form)) (mustTable (placesOf form)) (length (placesOf form)) ≡ placesOf form
-unfolding places103 places202 tagTable mustTable toldFrom
-tables form = each-form Told refl refl refl form
+tables : (form : Form) → tablePlaces (tagTable (placesOf form)) (mandatoryTable (placesOf form)) (length (placesOf form)) ≡ placesOf form
+unfolding places103 places202 tagTable mandatoryTable tablePlacesFrom
+tables form = each-form TablesAgree refl refl refl form
 
 -- ---- a tag stands at one place, computed for each form
 abbrev aloneFrom : List Place → ℕ → List Place → Bool
 aloneFrom ps i [] = true
-aloneFrom ps i (q ∷ qs) = all (λ t. eqb (find ps t) i) (tagsOf q) && aloneFrom ps (suc i) qs
+aloneFrom ps i (q ∷ qs) = all (λ t. eqb (find ps t) i) (placeTags q) && aloneFrom ps (suc i) qs
 
 abbrev Alone : List Place → Type 0
 Alone ps = T (aloneFrom ps 0 ps)
@@ -60,9 +60,9 @@ all-alone : (form : Form) → Alone (placesOf form)
 unfolding places103 places202 find same
 all-alone form = each-form Alone tt tt tt form
 
-of-place : (t : List ℕ) (p : Place) → isOf t p ≡ among t (tagsOf p)
-of-place t (must ts) = refl
-of-place t (may ts) = refl
+of-place : (t : List ℕ) (p : Place) → isOf t p ≡ among t (placeTags p)
+of-place t (mandatory ts) = refl
+of-place t (optional ts) = refl
 
 one-of : (ps : List Place) (i : ℕ) (t : List ℕ) (us : List (List ℕ)) → T (all (λ u. eqb (find ps u) i) us) → among t us ≡ true → find ps t ≡ i
 one-of ps i t [] h e = absurd (false≢true e)
@@ -76,9 +76,9 @@ one-of ps i t (u ∷ us) h e = go (same t u) refl e (one-of ps i t us (and-right
 alone-from : (ps : List Place) (t : List ℕ) (i : ℕ) (qs : List Place) → T (aloneFrom ps i qs) → (k : ℕ) → k < length qs → isOf t (placeAt qs k) ≡ true → find ps t ≡ i + k
 alone-from ps t i [] h k l e = absurd (omega arith)
 alone-from ps t i (q ∷ qs) h zero l e =
-    one-of ps i t (tagsOf q) (and-left (all (λ u. eqb (find ps u) i) (tagsOf q)) (aloneFrom ps (suc i) qs) h) (sym (of-place t q) ∙ e) ∙ omega arith
+    one-of ps i t (placeTags q) (and-left (all (λ u. eqb (find ps u) i) (placeTags q)) (aloneFrom ps (suc i) qs) h) (sym (of-place t q) ∙ e) ∙ omega arith
 alone-from ps t i (q ∷ qs) h (suc k) l e =
-    alone-from ps t (suc i) qs (and-right (all (λ u. eqb (find ps u) i) (tagsOf q)) (aloneFrom ps (suc i) qs) h) k (omega arith) e ∙ omega arith
+    alone-from ps t (suc i) qs (and-right (all (λ u. eqb (find ps u) i) (placeTags q)) (aloneFrom ps (suc i) qs) h) k (omega arith) e ∙ omega arith
 
 find-alone : (ps : List Place) → Alone ps → (t : List ℕ) (k : ℕ) → k < length ps → isOf t (placeAt ps k) ≡ true → find ps t ≡ k
 find-alone ps h t k l e = alone-from ps t 0 ps h k l e ∙ zero-add k
@@ -87,7 +87,7 @@ find-alone ps h t k l e = alone-from ps t 0 ps h k l e ∙ zero-add k
 found : (ps : List Place) → Alone ps → (next : ℕ) (t : List ℕ) → findFrom ps next t < length ps → find ps t ≡ findFrom ps next t
 found ps h next t l =
     let s : Stands (drop next ps) t (find (drop next ps) t) = find-stands (drop next ps) t (omega (arith, length-drop next ps)) in
-    find-alone ps h t (findFrom ps next t) l (ap (isOf t) (sym (getD-drop next ps (find (drop next ps) t) (may []))) ∙ s .has)
+    find-alone ps h t (findFrom ps next t) l (ap (isOf t) (sym (getD-drop next ps (find (drop next ps) t) (optional []))) ∙ s .has)
 
 step-alone : (ps : List Place) → Alone ps → (next : ℕ) (t : List ℕ) → stepIn ps next t ≡ record { place = find ps t; wrong = wrong ps next (find ps t) }
 unfolding stepIn
@@ -107,18 +107,18 @@ unfolding places103 places202
 few-places form = each-form (λ ps. length ps ≤ most) (omega arith) (omega arith) (omega arith) form
 
 module _ {form : Form} {tags : List ℕ} {musts : List Bool} {count : ℕ} (l : TablesOf form tags musts count) where
-  told-places : told tags musts count ≡ placesOf form
-  told-places = rw (l .tags-are, l .musts-are, l .count-is) (tables form)
+  table-places : tablePlaces tags musts count ≡ placesOf form
+  table-places = rw (l .tags-are, l .musts-are, l .count-is) (tables form)
 
-  pub step-of-form : (next tag : ℕ) → StepFor form next tag (stepIn (told tags musts count) next (unpack tag))
+  pub step-of-form : (next tag : ℕ) → StepFor form next tag (stepIn (tablePlaces tags musts count) next (unpack tag))
   step-of-form next tag t e p =
-      ap₂ (λ (ps : List Place) (u : List ℕ). stepIn ps next u) told-places (ap unpack (sym p) ∙ unpack-pack t e) ∙ step-alone (placesOf form) (all-alone form) next t
+      ap₂ (λ (ps : List Place) (u : List ℕ). stepIn ps next u) table-places (ap unpack (sym p) ∙ unpack-pack t e) ∙ step-alone (placesOf form) (all-alone form) next t
 
   pub missing-of-form : (next : ℕ) → missing musts count next ≡ skips (placesOf form) next (length (placesOf form))
   unfolding missing
   missing-of-form next =
       let m : min count most ≡ length (placesOf form) = omega (arith, l .count-is, few-places form) in
-      sym (told-skips tags musts (min count most) next (min count most)) ∙ ap₂ (λ (ps : List Place) (n : ℕ). skips ps next n) told-places m
+      sym (table-skips tags musts (min count most) next (min count most)) ∙ ap₂ (λ (ps : List Place) (n : ℕ). skips ps next n) table-places m
 
 -- ---- 18
 pub no-places : (form : Form) → length (placesOf form) ≡ 0 → rule18 form ≡ Broken 18 0

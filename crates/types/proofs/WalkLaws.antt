@@ -15,8 +15,8 @@ use Rattle.fields.specs.Field.{Field, fields, tagOf}
 use Rattle.fields.specs.Places.{nextOf}
 use Rattle.types.specs.declared.Form.{Form}
 use Rattle.types.specs.Form.{Place, placesOf}
-use Rattle.types.specs.Walk.{isOf, optional, find, skips, wrong, walk, walked}
-use Rattle.types.specs.Sentences.{placeAt, Stands, Unknown, Skipped, Judged, unknown, notLater, skipping, right, Seated, AllRight, behind, after, Accepted, Refused, atField, atEnd}
+use Rattle.types.specs.Walk.{isOf, isOptional, find, skips, wrong, walk, walked}
+use Rattle.types.specs.Sentences.{placeAt, Stands, Unknown, Skipped, Judged, unknown, notLater, skipping, right, Seated, AllRight, nextPlace, endOfFields, Accepted, Refused, atField, atEnd}
 
 -- ---- a tag's place
 -- where one place more stands in front
@@ -60,26 +60,26 @@ unknown-find [] t u = refl
 unknown-find (p ∷ ps) t u = ap (λ (b : Bool). pick b 0 (suc (find ps t))) (u 0) ∙ ap suc (unknown-find ps t (λ i. u (suc i)))
 
 -- ---- a mandatory place between two others
-skip-met : (ps : List Place) (next q : ℕ) → all optional (drop next (take q ps)) ≡ false → Skipped ps next q
+skip-met : (ps : List Place) (next q : ℕ) → all isOptional (drop next (take q ps)) ≡ false → Skipped ps next q
 skip-met ps zero zero e = absurd (true≢false e)
 skip-met ps (suc next) zero e = absurd (true≢false e)
 skip-met [] zero (suc q) e = absurd (true≢false e)
 skip-met [] (suc next) (suc q) e = absurd (true≢false e)
-skip-met (p ∷ ps) zero (suc q) e = go (optional p) refl e (skip-met ps zero q)
+skip-met (p ∷ ps) zero (suc q) e = go (isOptional p) refl e (skip-met ps zero q)
   where
-    go : (b : Bool) → optional p ≡ b → (b && all optional (take q ps)) ≡ false → (all optional (take q ps) ≡ false → Skipped ps zero q) → Skipped (p ∷ ps) zero (suc q)
+    go : (b : Bool) → isOptional p ≡ b → (b && all isOptional (take q ps)) ≡ false → (all isOptional (take q ps) ≡ false → Skipped ps zero q) → Skipped (p ∷ ps) zero (suc q)
     go true o e r = let s = r e in record { at = suc (s .at); low = omega arith; high = omega (arith, s .high); mandatory = s .mandatory }
     go false o e r = record { at = zero; low = omega arith; high = omega arith; mandatory = o }
 skip-met (p ∷ ps) (suc next) (suc q) e =
     let s = skip-met ps next q e in record { at = suc (s .at); low = omega (arith, s .low); high = omega (arith, s .high); mandatory = s .mandatory }
 
-skip-seen : (ps : List Place) (next q i : ℕ) → next ≤ i → i < q → optional (placeAt ps i) ≡ false → all optional (drop next (take q ps)) ≡ false
+skip-seen : (ps : List Place) (next q i : ℕ) → next ≤ i → i < q → isOptional (placeAt ps i) ≡ false → all isOptional (drop next (take q ps)) ≡ false
 skip-seen ps next zero i l h e = absurd (omega arith)
 skip-seen [] next (suc q) i l h e = absurd (true≢false e)
-skip-seen (p ∷ ps) zero (suc q) zero l h e = ap (λ (b : Bool). b && all optional (take q ps)) e
-skip-seen (p ∷ ps) zero (suc q) (suc i) l h e = go (optional p) (skip-seen ps zero q i (omega arith) (omega arith) e)
+skip-seen (p ∷ ps) zero (suc q) zero l h e = ap (λ (b : Bool). b && all isOptional (take q ps)) e
+skip-seen (p ∷ ps) zero (suc q) (suc i) l h e = go (isOptional p) (skip-seen ps zero q i (omega arith) (omega arith) e)
   where
-    go : (b : Bool) → all optional (take q ps) ≡ false → (b && all optional (take q ps)) ≡ false
+    go : (b : Bool) → all isOptional (take q ps) ≡ false → (b && all isOptional (take q ps)) ≡ false
     go true r = r
     go false r = refl
 skip-seen (p ∷ ps) (suc next) (suc q) zero l h e = absurd (omega arith)
@@ -87,7 +87,7 @@ skip-seen (p ∷ ps) (suc next) (suc q) (suc i) l h e = skip-seen ps next q i (o
 
 pub skips-iff : (ps : List Place) (next q : ℕ) → (skips ps next q ≡ true) ↔ Skipped ps next q
 skips-iff ps next q = (
-  λ e. skip-met ps next q (not-true (all optional (drop next (take q ps))) e),
+  λ e. skip-met ps next q (not-true (all isOptional (drop next (take q ps))) e),
   λ s. ap not (skip-seen ps next q (s .at) (s .low) (s .high) (s .mandatory)),
 )
 
@@ -191,19 +191,19 @@ accepted ps next o (f ∷ fs) e = go (eqb (wrong ps next (find ps (tagOf f))) 0)
         absurd (fine-broken (wrong ps next (find ps (tagOf f))) o (sym e ∙ walk-stop ps next o f fs (eqb-false (wrong ps next (find ps (tagOf f))) 0 w)))
 
 -- the walk goes on behind right fields
-passed : (ps : List Place) (next o : ℕ) (fs gs : List Field) → AllRight ps next fs → walk ps next o (fs ++ gs) ≡ walk ps (behind ps next fs) (after o fs) gs
+passed : (ps : List Place) (next o : ℕ) (fs gs : List Field) → AllRight ps next fs → walk ps next o (fs ++ gs) ≡ walk ps (nextPlace ps next fs) (endOfFields o fs) gs
 passed ps next o [] gs h = refl
 passed ps next o (f ∷ fs) gs h =
     walk-on ps next o f (fs ++ gs) (wrong-iff ps next (tagOf f) 0 .1 (h .0)) ∙ passed ps (suc (find ps (tagOf f))) (nextOf o f) fs gs (h .1)
 
-passed-all : (ps : List Place) (next o : ℕ) (fs : List Field) → AllRight ps next fs → walk ps next o fs ≡ walk ps (behind ps next fs) (after o fs) []
+passed-all : (ps : List Place) (next o : ℕ) (fs : List Field) → AllRight ps next fs → walk ps next o fs ≡ walk ps (nextPlace ps next fs) (endOfFields o fs) []
 passed-all ps next o fs h = ap (walk ps next o) (sym (append-nil fs)) ∙ passed ps next o fs [] h
 
 -- accepted exactly if each field is right and no mandatory place is missing
 pub accepted-iff : (ps : List Place) (next o : ℕ) (fs : List Field) → (walk ps next o fs ≡ Fine) ↔ Accepted ps next fs
 accepted-iff ps next o fs = (
   accepted ps next o fs,
-  λ a. passed-all ps next o fs (a .fine) ∙ walk-end ps (behind ps next fs) (after o fs) false (not-skips ps (behind ps next fs) (length ps) (a .whole)),
+  λ a. passed-all ps next o fs (a .fine) ∙ walk-end ps (nextPlace ps next fs) (endOfFields o fs) false (not-skips ps (nextPlace ps next fs) (length ps) (a .whole)),
 )
 
 -- ---- refused
@@ -252,13 +252,13 @@ refused ps next o (f ∷ fs) n p e = go (eqb (wrong ps next (find ps (tagOf f)))
 
 at-fault : (ps : List Place) (next o : ℕ) (fs : List Field) (n p : ℕ) → Refused ps next o fs n p → walk ps next o fs ≡ Broken n p
 at-fault ps next o fs n p (atField r) =
-    let w = judged ps (behind ps next (r .before)) (tagOf (r .this)) n (r .fault) in
+    let w = judged ps (nextPlace ps next (r .before)) (tagOf (r .this)) n (r .fault) in
     ap (walk ps next o) (r .list) ∙ passed ps next o (r .before) (r .this ∷ r .rest) (r .fine)
-    ∙ walk-stop ps (behind ps next (r .before)) (after o (r .before)) (r .this) (r .rest) (λ q. r .faulty (sym w ∙ q))
-    ∙ ap (λ (k : ℕ). Broken k (after o (r .before))) w ∙ ap (λ (k : ℕ). Broken n k) (sym (r .colon))
+    ∙ walk-stop ps (nextPlace ps next (r .before)) (endOfFields o (r .before)) (r .this) (r .rest) (λ q. r .faulty (sym w ∙ q))
+    ∙ ap (λ (k : ℕ). Broken k (endOfFields o (r .before))) w ∙ ap (λ (k : ℕ). Broken n k) (sym (r .colon))
 at-fault ps next o fs n p (atEnd r) =
-    passed-all ps next o fs (r .fine) ∙ walk-end ps (behind ps next fs) (after o fs) true (skips-iff ps (behind ps next fs) (length ps) .1 (r .missing))
-    ∙ ap (λ (k : ℕ). Broken k (after o fs)) (sym (r .number)) ∙ ap (λ (k : ℕ). Broken n k) (sym (r .dash))
+    passed-all ps next o fs (r .fine) ∙ walk-end ps (nextPlace ps next fs) (endOfFields o fs) true (skips-iff ps (nextPlace ps next fs) (length ps) .1 (r .missing))
+    ∙ ap (λ (k : ℕ). Broken k (endOfFields o fs)) (sym (r .number)) ∙ ap (λ (k : ℕ). Broken n k) (sym (r .dash))
 
 -- refused exactly by the first faulty field, or by a mandatory place that is missing at the end
 pub refused-iff : (ps : List Place) (next o : ℕ) (fs : List Field) (n p : ℕ) → (walk ps next o fs ≡ Broken n p) ↔ Refused ps next o fs n p

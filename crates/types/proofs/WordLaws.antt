@@ -17,12 +17,12 @@ use Rattle.base.specs.Choice.{pick}
 use Rattle.base.specs.declared.Verdict.the-variants.{Fine}
 use Rattle.fields.specs.Field.{Field, fields, tagOf}
 use Rattle.types.specs.declared.Form.{Form}
-use Rattle.types.specs.Form.{Place, may, placesOf}
-use Rattle.types.specs.Walk.{optional, find, walk, walked, word, present}
+use Rattle.types.specs.Form.{Place, optional, placesOf}
+use Rattle.types.specs.Walk.{isOptional, find, walk, walked, word, present}
 use Rattle.base.specs.Bits.{bit}
 use Rattle.types.proofs.WalkLaws.{seated, accepted-iff}
 use Rattle.base.proofs.BitLaws.{ones-0, ones-under, under, lower, bit-0, bit-under}
-use Rattle.types.specs.Sentences.{placeAt, AllRight, behind, Accepted, placeOfField, Present, Sound}
+use Rattle.types.specs.Sentences.{placeAt, AllRight, nextPlace, Accepted, placeOfField, Present, SoundWalk}
 
 -- ---- the fields of an accepted walk
 pub few : (ps : List Place) (next : ℕ) (fs : List Field) → next ≤ length ps → AllRight ps next fs → next + length fs ≤ length ps
@@ -86,21 +86,21 @@ pub present-iff : (ps : List Place) (fs : List Field) (i : ℕ) → (present ps 
 present-iff ps fs i = (present-to ps fs i, λ p. present-from ps fs i (p .number) (p .within) (p .place))
 
 -- a mandatory place is one of the type's
-mandatory-within : (ps : List Place) (i : ℕ) → optional (placeAt ps i) ≡ false → i < length ps
+mandatory-within : (ps : List Place) (i : ℕ) → isOptional (placeAt ps i) ≡ false → i < length ps
 mandatory-within ps i e = go (decLt i (length ps))
   where
     go : Dec (i < length ps) → i < length ps
     go (yes h) = h
-    go (no h) = absurd (true≢false (sym (ap optional (List·getD-eq-default ps (may []) {n = i} (omega arith))) ∙ e))
+    go (no h) = absurd (true≢false (sym (ap isOptional (List·getD-eq-default ps (optional []) {n = i} (omega arith))) ∙ e))
 
 -- every mandatory place is present
-pub needed : (ps : List Place) (next : ℕ) (fs : List Field) → Accepted ps next fs → (i : ℕ) → next ≤ i → optional (placeAt ps i) ≡ false → present ps fs i ≡ true
+pub needed : (ps : List Place) (next : ℕ) (fs : List Field) → Accepted ps next fs → (i : ℕ) → next ≤ i → isOptional (placeAt ps i) ≡ false → present ps fs i ≡ true
 unfolding present
 needed ps next [] a i h e = absurd (a .whole (record { at = i; low = h; high = mandatory-within ps i e; mandatory = e }))
 needed ps next (f ∷ fs) a i h e =
     go (decLt i (find ps (tagOf f))) (decLt (find ps (tagOf f)) i) (needed ps (suc (find ps (tagOf f))) fs (record { fine = a .fine .1; whole = a .whole }) i)
   where
-    go : Dec (i < find ps (tagOf f)) → Dec (find ps (tagOf f) < i) → (suc (find ps (tagOf f)) ≤ i → optional (placeAt ps i) ≡ false → present ps fs i ≡ true)
+    go : Dec (i < find ps (tagOf f)) → Dec (find ps (tagOf f) < i) → (suc (find ps (tagOf f)) ≤ i → isOptional (placeAt ps i) ≡ false → present ps fs i ≡ true)
         → (eqb (find ps (tagOf f)) i || present ps fs i) ≡ true
     go (yes l) b r = absurd (seated ps next (tagOf f) (a .fine .0) .free (record { at = i; low = h; high = l; mandatory = e }))
     go (no l) (yes g) r = ap (λ (b : Bool). eqb (find ps (tagOf f)) i || b) (r g e) ∙ or-true (eqb (find ps (tagOf f)) i)
@@ -125,7 +125,7 @@ word-ones ps next (f ∷ fs) r =
     ap (λ (x : ℕ). ones (2 ^ q + x)) (m .1) ∙ ones-under q (m .0) ∙ ap (λ (x : ℕ). suc (ones x)) (sym (m .1)) ∙ ap suc (word-ones ps (suc q) fs (r .1))
 
 -- and all below the place behind the last
-word-under : (ps : List Place) (next : ℕ) (fs : List Field) → AllRight ps next fs → word ps fs + 2 ^ next ≤ 2 ^ behind ps next fs
+word-under : (ps : List Place) (next : ℕ) (fs : List Field) → AllRight ps next fs → word ps fs + 2 ^ next ≤ 2 ^ nextPlace ps next fs
 unfolding word
 word-under ps next [] r = omega arith
 word-under ps next (f ∷ fs) r =
@@ -136,12 +136,12 @@ word-under ps next (f ∷ fs) r =
     let i = word-under ps (suc q) fs (r .1) in
     omega arith
 
-behind-within : (ps : List Place) (next : ℕ) (fs : List Field) → next ≤ length ps → AllRight ps next fs → behind ps next fs ≤ length ps
-behind-within ps next [] h r = h
-behind-within ps next (f ∷ fs) h r = behind-within ps (suc (find ps (tagOf f))) fs (seated ps next (tagOf f) (r .0) .within) (r .1)
+next-within : (ps : List Place) (next : ℕ) (fs : List Field) → next ≤ length ps → AllRight ps next fs → nextPlace ps next fs ≤ length ps
+next-within ps next [] h r = h
+next-within ps next (f ∷ fs) h r = next-within ps (suc (find ps (tagOf f))) fs (seated ps next (tagOf f) (r .0) .within) (r .1)
 
 pub word-below : (ps : List Place) (next : ℕ) (fs : List Field) → next ≤ length ps → AllRight ps next fs → word ps fs < 2 ^ length ps
-word-below ps next fs h r = omega (arith, word-under ps next fs r, pow-pos next, pow-mono (behind-within ps next fs h r))
+word-below ps next fs h r = omega (arith, word-under ps next fs r, pow-pos next, pow-mono (next-within ps next fs h r))
 
 -- ---- the fields before field k: their bits are those below its place
 right-before : (ps : List Place) (next : ℕ) (fs : List Field) (k : ℕ) → AllRight ps next fs → AllRight ps next (take k fs)
@@ -149,10 +149,10 @@ right-before ps next fs zero r = tt
 right-before ps next [] (suc k) r = tt
 right-before ps next (f ∷ fs) (suc k) r = (r .0, right-before ps (suc (find ps (tagOf f))) fs k (r .1))
 
-behind-before : (ps : List Place) (next : ℕ) (fs : List Field) (k : ℕ) → AllRight ps next fs → k < length fs → behind ps next (take k fs) ≤ placeOfField ps fs k
-behind-before ps next [] k r h = absurd (omega arith)
-behind-before ps next (f ∷ fs) zero r h = seated ps next (tagOf f) (r .0) .low
-behind-before ps next (f ∷ fs) (suc k) r h = behind-before ps (suc (find ps (tagOf f))) fs k (r .1) (omega arith)
+next-before : (ps : List Place) (next : ℕ) (fs : List Field) (k : ℕ) → AllRight ps next fs → k < length fs → nextPlace ps next (take k fs) ≤ placeOfField ps fs k
+next-before ps next [] k r h = absurd (omega arith)
+next-before ps next (f ∷ fs) zero r h = seated ps next (tagOf f) (r .0) .low
+next-before ps next (f ∷ fs) (suc k) r h = next-before ps (suc (find ps (tagOf f))) fs k (r .1) (omega arith)
 
 word-parts : (ps : List Place) (next : ℕ) (fs : List Field) (k : ℕ) → AllRight ps next fs → k < length fs → (c : ℕ) × (word ps fs ≡ c * 2 ^ placeOfField ps fs k + word ps (take k fs))
 unfolding word
@@ -171,7 +171,7 @@ ones-before ps next fs k r h =
     let q = placeOfField ps fs k in
     let a = right-before ps next fs k r in
     let w = word-parts ps next fs k r h in
-    let b : word ps (take k fs) < 2 ^ q = omega (arith, word-under ps next (take k fs) a, pow-pos next, pow-mono (behind-before ps next fs k r h)) in
+    let b : word ps (take k fs) < 2 ^ q = omega (arith, word-under ps next (take k fs) a, pow-pos next, pow-mono (next-before ps next fs k r h)) in
     ap ones (ap (λ (x : ℕ). x % 2 ^ q) (w .1) ∙ low (w .0) q b) ∙ word-ones ps next (take k fs) a ∙ length-take-le k fs (omega arith)
 
 either-one : (a b : Bool) → _≡_ {A = ℕ} (pick a 1 (pick b 1 0)) (pick (a || b) 1 0)
@@ -196,7 +196,7 @@ bit-iff ps next fs r i = (λ e. present-to ps fs i (go (present ps fs i) (sym (w
     go false e = absurd (omega arith)
 
 -- ---- a walk that is accepted from the first place on
-pub sound : (ps : List Place) (o : ℕ) (fs : List Field) → walk ps 0 o fs ≡ Fine → Sound ps fs
+pub sound : (ps : List Place) (o : ℕ) (fs : List Field) → walk ps 0 o fs ≡ Fine → SoundWalk ps fs
 sound ps o fs e =
     let a = accepted-iff ps 0 o fs .0 e in
     let r = a .fine in
@@ -210,6 +210,6 @@ sound ps o fs e =
       bits = bit-iff ps 0 fs r;
     }
 
-pub walked-sound : (form : Form) (m : List ℕ) → walked form m ≡ Fine → Sound (placesOf form) (fields m)
+pub walked-sound : (form : Form) (m : List ℕ) → walked form m ≡ Fine → SoundWalk (placesOf form) (fields m)
 unfolding walked
 walked-sound form m e = sound (placesOf form) 5 (fields m) e

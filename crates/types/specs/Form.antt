@@ -9,7 +9,7 @@ use Rattle.types.specs.declared.Form.{Form}
 use Rattle.types.specs.declared.Form.the-variants.{Other, Mt103, Mt202}
 
 pub data Place : Type 0 where
-  must may : List (List ℕ) → Place
+  mandatory optional : List (List ℕ) → Place
 
 -- ---- a form's key, from the number of a type; of any other type there is no form
 abbrev pub formOf : ℕ → Form
@@ -29,13 +29,13 @@ either t u = bytes t ∷ bytes u ∷ []
 
 unfoldable pub places103 : List Place
 places103 =
-    must (one "20") ∷ must (one "23B") ∷ may (one "26T") ∷ must (one "32A") ∷ must (one "50K") ∷ may (one "52A") ∷ must (one "53B")
-    ∷ may (either "56A" "56D") ∷ may (either "57A" "57D") ∷ must (one "59") ∷ must (one "70") ∷ must (one "71A") ∷ may (one "72") ∷ may (one "77B") ∷ []
+    mandatory (one "20") ∷ mandatory (one "23B") ∷ optional (one "26T") ∷ mandatory (one "32A") ∷ mandatory (one "50K") ∷ optional (one "52A") ∷ mandatory (one "53B")
+    ∷ optional (either "56A" "56D") ∷ optional (either "57A" "57D") ∷ mandatory (one "59") ∷ mandatory (one "70") ∷ mandatory (one "71A") ∷ optional (one "72") ∷ optional (one "77B") ∷ []
 
 unfoldable pub places202 : List Place
 places202 =
-    must (one "20") ∷ must (one "21") ∷ must (one "32A") ∷ may (one "52A") ∷ must (one "53B")
-    ∷ may (either "56A" "56D") ∷ may (either "57A" "57D") ∷ must (either "58A" "58D") ∷ must (one "72") ∷ []
+    mandatory (one "20") ∷ mandatory (one "21") ∷ mandatory (one "32A") ∷ optional (one "52A") ∷ mandatory (one "53B")
+    ∷ optional (either "56A" "56D") ∷ optional (either "57A" "57D") ∷ mandatory (either "58A" "58D") ∷ mandatory (one "72") ∷ []
 
 abbrev pub placesOf : Form → List Place
 placesOf Mt103 = places103

@@ -9,13 +9,13 @@ use lib.ListN.{length, getD}
 use Rattle.base.specs.Bits.{bit}
 use Rattle.fields.specs.Field.{Field, field, tagOf}
 use Rattle.fields.specs.Places.{nextOf}
-use Rattle.types.specs.Form.{Place, may}
-use Rattle.types.specs.Walk.{isOf, optional, find, word}
+use Rattle.types.specs.Form.{Place, optional}
+use Rattle.types.specs.Walk.{isOf, isOptional, find, word}
 
 -- ---- a field's fault
 -- the place at i; behind the last there is nothing that a message must have
 abbrev pub placeAt : List Place → ℕ → Place
-placeAt ps i = getD ps i (may [])
+placeAt ps i = getD ps i (optional [])
 
 -- q is the first place with the tag
 pub record Stands (ps : List Place) (t : List ℕ) (q : ℕ) : Type 0 where
@@ -32,7 +32,7 @@ pub record Skipped (ps : List Place) (next q : ℕ) : Type 0 where
   pub at : ℕ
   pub low : next ≤ at
   pub high : at < q
-  pub mandatory : optional (placeAt ps at) ≡ false
+  pub mandatory : isOptional (placeAt ps at) ≡ false
 
 -- what is wrong with a field of tag t, where the field before it stands just before place next
 pub data Judged (ps : List Place) (next : ℕ) (t : List ℕ) : ℕ → Type 0 where
@@ -53,18 +53,18 @@ AllRight ps next [] = Unit {0}
 AllRight ps next (f ∷ fs) = Judged ps next (tagOf f) 0 × AllRight ps (suc (find ps (tagOf f))) fs
 
 -- the place behind the last field's, and where that field ends
-abbrev pub behind : List Place → ℕ → List Field → ℕ
-behind ps next [] = next
-behind ps next (f ∷ fs) = behind ps (suc (find ps (tagOf f))) fs
+abbrev pub nextPlace : List Place → ℕ → List Field → ℕ
+nextPlace ps next [] = next
+nextPlace ps next (f ∷ fs) = nextPlace ps (suc (find ps (tagOf f))) fs
 
-abbrev pub after : ℕ → List Field → ℕ
-after o [] = o
-after o (f ∷ fs) = after (nextOf o f) fs
+abbrev pub endOfFields : ℕ → List Field → ℕ
+endOfFields o [] = o
+endOfFields o (f ∷ fs) = endOfFields (nextOf o f) fs
 
 -- all fields are right, and no mandatory place is missing at the end
 pub record Accepted (ps : List Place) (next : ℕ) (fs : List Field) : Type 0 where
   pub fine : AllRight ps next fs
-  pub whole : Skipped ps (behind ps next fs) (length ps) → ⊥
+  pub whole : Skipped ps (nextPlace ps next fs) (length ps) → ⊥
 
 -- the first faulty field has its colon at p, and n is what is wrong with it
 pub record Faulty (ps : List Place) (next o : ℕ) (fs : List Field) (n p : ℕ) : Type 0 where
@@ -73,16 +73,16 @@ pub record Faulty (ps : List Place) (next o : ℕ) (fs : List Field) (n p : ℕ)
   pub rest : List Field
   pub list : fs ≡ before ++ this ∷ rest
   pub fine : AllRight ps next before
-  pub fault : Judged ps (behind ps next before) (tagOf this) n
+  pub fault : Judged ps (nextPlace ps next before) (tagOf this) n
   pub faulty : n ≡ 0 → ⊥
-  pub colon : p ≡ after o before
+  pub colon : p ≡ endOfFields o before
 
 -- all fields are right, a mandatory place is missing at the end, and the - stands at p
 pub record Missing (ps : List Place) (next o : ℕ) (fs : List Field) (n p : ℕ) : Type 0 where
   pub fine : AllRight ps next fs
-  pub missing : Skipped ps (behind ps next fs) (length ps)
+  pub missing : Skipped ps (nextPlace ps next fs) (length ps)
   pub number : n ≡ 7
-  pub dash : p ≡ after o fs
+  pub dash : p ≡ endOfFields o fs
 
 pub data Refused (ps : List Place) (next o : ℕ) (fs : List Field) (n p : ℕ) : Type 0 where
   atField : Faulty ps next o fs n p → Refused ps next o fs n p
@@ -103,11 +103,11 @@ pub record Present (ps : List Place) (fs : List Field) (i : ℕ) : Type 0 where
   pub place : placeOfField ps fs number ≡ i
 
 -- what an accepted walk has: few fields, each at a later place than the one before, every mandatory one; as many ones in the word as fields, and a bit for each place present
-pub record Sound (ps : List Place) (fs : List Field) : Type 0 where
+pub record SoundWalk (ps : List Place) (fs : List Field) : Type 0 where
   pub few-fields : length fs ≤ length ps
   pub later : (j k : ℕ) → j < k → k < length fs → placeOfField ps fs j < placeOfField ps fs k
   pub own : (i : ℕ) (a b : Present ps fs i) → a .number ≡ b .number
-  pub all-needed : (i : ℕ) → optional (placeAt ps i) ≡ false → Present ps fs i
+  pub all-needed : (i : ℕ) → isOptional (placeAt ps i) ≡ false → Present ps fs i
   pub as-many : ones (word ps fs) ≡ length fs
   pub below : word ps fs < 2 ^ length ps
   pub bits : (i : ℕ) → (bit (word ps fs) i ≡ 1) ↔ Present ps fs i

@@ -7,8 +7,8 @@ use lib.Dec.{eqb}
 use lib.ListN.{length, drop, getD, replicate}
 use Rattle.base.specs.Choice.{pick}
 use Rattle.types.specs.declared.Form.{Form}
-use Rattle.types.specs.Form.{Place, must, may, placesOf}
-use Rattle.types.specs.Walk.{optional, find, skips, wrong}
+use Rattle.types.specs.Form.{Place, mandatory, optional, placesOf}
+use Rattle.types.specs.Walk.{isOptional, find, skips, wrong}
 use Rattle.fields.specs.Shapes.{shaped, pack, unpack}
 use Rattle.types.specs.declared.Step.{Step}
 
@@ -27,44 +27,44 @@ pair [] = 0 ∷ 0 ∷ []
 pair (t ∷ []) = pack t ∷ pack t ∷ []
 pair (t ∷ u ∷ us) = pack t ∷ pack u ∷ []
 
-abbrev pub tagsOf : Place → List (List ℕ)
-tagsOf (must ts) = ts
-tagsOf (may ts) = ts
+abbrev pub placeTags : Place → List (List ℕ)
+placeTags (mandatory ts) = ts
+placeTags (optional ts) = ts
 
 abbrev pub pairs : List Place → List ℕ
 pairs [] = []
-pairs (p ∷ ps) = pair (tagsOf p) ++ pairs ps
+pairs (p ∷ ps) = pair (placeTags p) ++ pairs ps
 
 unfoldable pub tagTable : List Place → List ℕ
 tagTable ps = padded (most + most) 0 (pairs ps)
 
-unfoldable pub mustTable : List Place → List Bool
-mustTable ps = padded most false (map (λ p. not (optional p)) ps)
+unfoldable pub mandatoryTable : List Place → List Bool
+mandatoryTable ps = padded most false (map (λ p. not (isOptional p)) ps)
 
 -- the tables that are lent are this type's
 pub record TablesOf (form : Form) (tags : List ℕ) (musts : List Bool) (count : ℕ) : Type 0 where
   pub tags-are : tags ≡ tagTable (placesOf form)
-  pub musts-are : musts ≡ mustTable (placesOf form)
+  pub musts-are : musts ≡ mandatoryTable (placesOf form)
   pub count-is : count ≡ length (placesOf form)
 
 -- ---- from tables to the places that they stand for
-abbrev pub toldAs : Bool → List (List ℕ) → Place
-toldAs true ts = must ts
-toldAs false ts = may ts
+abbrev pub placeBy : Bool → List (List ℕ) → Place
+placeBy true ts = mandatory ts
+placeBy false ts = optional ts
 
 abbrev pub unpair : ℕ → ℕ → List (List ℕ)
 unpair x y = pick (eqb x y) (unpack x ∷ []) (unpack x ∷ unpack y ∷ [])
 
-abbrev pub toldAt : List ℕ → List Bool → ℕ → Place
-toldAt tags musts i = toldAs (getD musts i false) (unpair (getD tags (i + i) 0) (getD tags (i + i + 1) 0))
+abbrev pub tablePlace : List ℕ → List Bool → ℕ → Place
+tablePlace tags musts i = placeBy (getD musts i false) (unpair (getD tags (i + i) 0) (getD tags (i + i + 1) 0))
 
 -- n places from i on
-unfoldable pub toldFrom : List ℕ → List Bool → ℕ → ℕ → List Place
-toldFrom tags musts i zero = []
-toldFrom tags musts i (suc n) = toldAt tags musts i ∷ toldFrom tags musts (suc i) n
+unfoldable pub tablePlacesFrom : List ℕ → List Bool → ℕ → ℕ → List Place
+tablePlacesFrom tags musts i zero = []
+tablePlacesFrom tags musts i (suc n) = tablePlace tags musts i ∷ tablePlacesFrom tags musts (suc i) n
 
-abbrev pub told : List ℕ → List Bool → ℕ → List Place
-told tags musts count = toldFrom tags musts 0 (min count most)
+abbrev pub tablePlaces : List ℕ → List Bool → ℕ → List Place
+tablePlaces tags musts count = tablePlacesFrom tags musts 0 (min count most)
 
 -- ---- what is found in them
 -- the first place from next on with the tag
@@ -85,7 +85,7 @@ stepIn ps next t =
 
 -- a mandatory place stands from next on; the tags do not matter
 unfoldable pub missing : List Bool → ℕ → ℕ → Bool
-missing musts count next = skips (told [] musts count) next (min count most)
+missing musts count next = skips (tablePlaces [] musts count) next (min count most)
 
 -- the place of a field with that tag's number in its form, and what is wrong with it there
 abbrev pub StepFor : Form → ℕ → ℕ → Step → Type 0

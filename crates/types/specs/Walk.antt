@@ -11,19 +11,19 @@ use Rattle.base.specs.declared.Verdict.the-variants.{Fine, Broken}
 use Rattle.fields.specs.Field.{Field, tagOf, fields}
 use Rattle.fields.specs.Places.{nextOf}
 use Rattle.types.specs.declared.Form.{Form}
-use Rattle.types.specs.Form.{Place, must, may, placesOf}
+use Rattle.types.specs.Form.{Place, mandatory, optional, placesOf}
 
 abbrev pub among : List ℕ → List (List ℕ) → Bool
 among t [] = false
 among t (u ∷ us) = same t u || among t us
 
 abbrev pub isOf : List ℕ → Place → Bool
-isOf t (must us) = among t us
-isOf t (may us) = among t us
+isOf t (mandatory us) = among t us
+isOf t (optional us) = among t us
 
-abbrev pub optional : Place → Bool
-optional (must us) = false
-optional (may us) = true
+abbrev pub isOptional : Place → Bool
+isOptional (mandatory us) = false
+isOptional (optional us) = true
 
 -- the first place with that tag, or how many places there are
 unfoldable pub find : List Place → List ℕ → ℕ
@@ -32,7 +32,7 @@ find (p ∷ ps) t = pick (isOf t p) 0 (suc (find ps t))
 
 -- a mandatory place stands from next up to, not including, q
 abbrev pub skips : List Place → ℕ → ℕ → Bool
-skips ps next q = not (all optional (drop next (take q ps)))
+skips ps next q = not (all isOptional (drop next (take q ps)))
 
 -- what is wrong with a field of place q behind the place before next: 5, 6, 7, or 0 for nothing
 unfoldable pub wrong : List Place → ℕ → ℕ → ℕ

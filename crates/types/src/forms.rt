@@ -2,7 +2,7 @@
 ghost use mathlib.Core.Path.{_≡_};
 ghost use lib.ListN.{length};
 ghost use Rattle.types.specs.Form.{formOf, placesOf};
-ghost use Rattle.types.specs.Tables.{tagTable, mustTable};
+ghost use Rattle.types.specs.Tables.{tagTable, mandatoryTable};
 use super::Form;
 use super::PLACES;
 use super::TAGS;
@@ -150,7 +150,7 @@ pub fn tags_of(form: Form) -> [u32; TAGS]
 }
 
 pub fn musts_of(form: Form) -> [bool; PLACES]
-    ensures { λ r. ⌜ r ≡ mustTable (placesOf form) ⌝ }
+    ensures { λ r. ⌜ r ≡ mandatoryTable (placesOf form) ⌝ }
 {
     match form {
         Form::Other => [false; PLACES],

@@ -4,7 +4,7 @@ ghost use mathlib.Core.List.{[]};
 ghost use Prim.Native.Nat.{_≤_, _<_, min};
 ghost use Rattle.types.specs.Walk.{isOf, find, skips, wrong};
 ghost use Rattle.fields.specs.Shapes.{unpack};
-ghost use Rattle.types.specs.Tables.{most, told, toldAt, toldFrom, sought, stepIn, missing};
+ghost use Rattle.types.specs.Tables.{most, tablePlaces, tablePlace, tablePlacesFrom, sought, stepIn, missing};
 use super::PLACES;
 use super::Step;
 use super::TAGS;
@@ -17,7 +17,7 @@ pub fn within(count: usize) -> usize
 
 fn has_tag(tags: &[u32; TAGS], q: usize, tag: u32) -> bool
     requires { ⌜ q < most ⌝ }
-    ensures { λ r. ⌜ r ≡ isOf (unpack tag) (toldAt (now (tags .entry)) [] q) ⌝ }
+    ensures { λ r. ⌜ r ≡ isOf (unpack tag) (tablePlace (now (tags .entry)) [] q) ⌝ }
 {
     if tags[q + q] == tag {
         return true;
@@ -27,7 +27,7 @@ fn has_tag(tags: &[u32; TAGS], q: usize, tag: u32) -> bool
 
 fn place_in(tags: &[u32; TAGS], count: usize, tag: u32) -> usize
     requires { ⌜ count ≤ most ⌝ }
-    ensures { λ r. ⌜ r ≡ find (toldFrom (now (tags .entry)) [] 0 count) (unpack tag) ⌝ }
+    ensures { λ r. ⌜ r ≡ find (tablePlacesFrom (now (tags .entry)) [] 0 count) (unpack tag) ⌝ }
 {
     let mut q = 0;
     while q < count {
@@ -41,7 +41,7 @@ fn place_in(tags: &[u32; TAGS], count: usize, tag: u32) -> usize
 
 fn is_skipping(musts: &[bool; PLACES], count: usize, from: usize, to: usize) -> bool
     requires { ⌜ (count ≤ most) × (to ≤ count) ⌝ }
-    ensures { λ r. ⌜ r ≡ skips (toldFrom [] (now (musts .entry)) 0 count) from to ⌝ }
+    ensures { λ r. ⌜ r ≡ skips (tablePlacesFrom [] (now (musts .entry)) 0 count) from to ⌝ }
 {
     let mut q = from;
     while q < to {
@@ -55,7 +55,7 @@ fn is_skipping(musts: &[bool; PLACES], count: usize, from: usize, to: usize) -> 
 
 fn wrong_of(musts: &[bool; PLACES], count: usize, next: usize, place: usize) -> u32
     requires { ⌜ count ≤ most ⌝ }
-    ensures { λ r. ⌜ r ≡ wrong (toldFrom [] (now (musts .entry)) 0 count) next place ⌝ }
+    ensures { λ r. ⌜ r ≡ wrong (tablePlacesFrom [] (now (musts .entry)) 0 count) next place ⌝ }
 {
     if count <= place {
         return 5;
@@ -72,7 +72,7 @@ fn wrong_of(musts: &[bool; PLACES], count: usize, next: usize, place: usize) -> 
 // From next on, up to the tag or a mandatory place: most fields are met so after a step or two.
 fn seek(tags: &[u32; TAGS], musts: &[bool; PLACES], count: usize, next: usize, tag: u32) -> usize
     requires { ⌜ count ≤ most ⌝ }
-    ensures { λ r. ⌜ r ≡ sought (toldFrom (now (tags .entry)) (now (musts .entry)) 0 count) next (unpack tag) ⌝ }
+    ensures { λ r. ⌜ r ≡ sought (tablePlacesFrom (now (tags .entry)) (now (musts .entry)) 0 count) next (unpack tag) ⌝ }
 {
     let mut q = next;
     while q < count {
@@ -94,7 +94,7 @@ pub fn step_of(
     next: usize,
     tag: u32,
 ) -> Step
-    ensures { λ r. ⌜ r ≡ stepIn (told (now (tags .entry)) (now (musts .entry)) count) next (unpack tag) ⌝ }
+    ensures { λ r. ⌜ r ≡ stepIn (tablePlaces (now (tags .entry)) (now (musts .entry)) count) next (unpack tag) ⌝ }
 {
     let c = within(count);
     let q = seek(tags, musts, c, next, tag);

@@ -16,7 +16,7 @@ use Rattle.base.specs.Bytes.{begins, empty, same}
 use Rattle.base.specs.Quoted.{bytes}
 use Rattle.base.specs.Says.{Says, Not}
 use Rattle.base.proofs.SaysLaws.{says-not, says-same, says-so}
-use Rattle.fields.specs.Places.{sizeOf}
+use Rattle.fields.specs.Places.{linesSize}
 use Rattle.contents.specs.declared.Content.{Content}
 use Rattle.contents.specs.declared.Content.the-variants as holds
 use Rattle.contents.specs.declared.lines.Party.{Party}
@@ -27,19 +27,19 @@ use Rattle.contents.specs.declared.whole.Bank.the-variants as bank
 use Rattle.contents.specs.Words.{Text, Line}
 use Rattle.contents.specs.Fields.{Then, Any, In72, Right}
 use Rattle.contents.specs.Parts.{paidDate, paidCurrency}
-use Rattle.contents.specs.Answers.{cut, RppWith, BesideSaid, Behind, CustomerSaid, Bare, PayerSaid, IsA, BicSaid, NameSaid, isHeld, isBank, LineOf}
+use Rattle.contents.specs.Answers.{cut, RppWith, BesideSaid, AccountFirst, CustomerSaid, NoAccount, PayerSaid, IsA, BicSaid, NameSaid, isHeld, isBank, SingleLine}
 use Rattle.contents.proofs.LineTests.{begins-says}
 use Rattle.contents.proofs.RightLaws.{customer-is, payer-is, bic-is, name-is}
 use Rattle.values.specs.Day.{realDay}
 use Rattle.values.specs.Values as kinds
-use Rattle.values.specs.Values.{Kind, date, tax, Value, at, payment, rppDates, parties, ofFirst, taxes, customerTaxes, payerTaxes, noteDates, valuesOf}
-use Rattle.values.specs.Judged.{noDay, foreign, apart, hasKpp, has}
+use Rattle.values.specs.Values.{ValueKind, date, tax, Value, at, payment, rppDates, parties, ofFirst, taxes, customerTaxes, payerTaxes, noteDates, valuesOf}
+use Rattle.values.specs.Judged.{noDay, foreign, bikDiffers, hasKpp, has}
 use Rattle.values.specs.Answers.{faultOf, Finding, FoundIn, nothing}
 use Rattle.values.specs.Steps.{finds, heldFound, bankFound, LedBy, isNothing, madeOf, OneLine, NoValues}
 use Rattle.values.specs.declared.Finds.{Finds}
 use Rattle.values.specs.declared.Found.{Found}
 use Rattle.values.specs.declared.Found.the-variants.{Wrong, Has, Plain}
-use Rattle.values.proofs.ValueLaws.{Every, every-first, every-rpp, every-party}
+use Rattle.values.proofs.ValueLaws.{EveryKind, every-first, every-rpp, every-party}
 use Rattle.values.proofs.StepLaws.{has-none, fault-none}
 use Rattle.values.proofs.FrontLaws.{swap}
 use Rattle.values.proofs.GrammarLaws.{note-values, nzp-values, bic-values, tax-values, untaxed-values}
@@ -123,11 +123,11 @@ made-found content sign ls {x} {r} e y w =
 module _ (content : Content) (ls : List Line) where
   -- by the content's values, whatever the tag
   finding-of : (vs : Text → List Value) → ((t : Text) → valuesOf t content ls ≡ vs t) → {d c p : ℕ} {k : Bool} → ((t : Text) → d ≡ faultOf noDay (vs t)) → ((t : Text) → c ≡ faultOf foreign (vs t))
-      → ((t : Text) → p ≡ faultOf apart (vs t)) → ((t : Text) → k ≡ has hasKpp (vs t)) → Finding content ls (finds d c p k)
+      → ((t : Text) → p ≡ faultOf bikDiffers (vs t)) → ((t : Text) → k ≡ has hasKpp (vs t)) → Finding content ls (finds d c p k)
   finding-of vs e a b c d = record {
     day-is = λ t. a t ∙ sym (ap (faultOf noDay) (e t));
     currency-is = λ t. b t ∙ sym (ap (faultOf foreign) (e t));
-    party-is = λ t. c t ∙ sym (ap (faultOf apart) (e t));
+    party-is = λ t. c t ∙ sym (ap (faultOf bikDiffers) (e t));
     kpp-is = λ t. d t ∙ sym (ap (has hasKpp) (e t));
   }
 
@@ -143,17 +143,17 @@ module _ (content : Content) (ls : List Line) where
   pub finding-rpp : ((t : Text) → valuesOf t content ls ≡ ofFirst rppDates ls) → {d : ℕ} → d ≡ faultOf noDay (ofFirst rppDates ls) → Finding content ls (finds d 0 0 false)
   finding-rpp e q =
       let vs = ofFirst rppDates ls in
-      finding-of (λ t. vs) e (λ t. q) (λ t. sym (fault-none foreign vs (dates foreign (λ s. refl)))) (λ t. sym (fault-none apart vs (dates apart (λ s. refl)))) (λ t. sym (has-none hasKpp vs (dates hasKpp (λ s. refl))))
+      finding-of (λ t. vs) e (λ t. q) (λ t. sym (fault-none foreign vs (dates foreign (λ s. refl)))) (λ t. sym (fault-none bikDiffers vs (dates bikDiffers (λ s. refl)))) (λ t. sym (has-none hasKpp vs (dates hasKpp (λ s. refl))))
     where
-      dates : (u : Kind → Bool) → ((s : Text) → u (date s) ≡ false) → Every (λ k. u k ≡ false) (ofFirst rppDates ls)
+      dates : (u : ValueKind → Bool) → ((s : Text) → u (date s) ≡ false) → EveryKind (λ k. u k ≡ false) (ofFirst rppDates ls)
       dates u h = every-first (λ k. u k ≡ false) rppDates (every-rpp (λ k. u k ≡ false) h) ls
 
-  finding-party : ((t : Text) → valuesOf t content ls ≡ ofFirst parties ls) → Finding content ls (finds 0 0 (faultOf apart (ofFirst parties ls)) false)
+  finding-party : ((t : Text) → valuesOf t content ls ≡ ofFirst parties ls) → Finding content ls (finds 0 0 (faultOf bikDiffers (ofFirst parties ls)) false)
   finding-party e =
       let vs = ofFirst parties ls in
       finding-of (λ t. vs) e (λ t. sym (fault-none noDay vs (pairs noDay (λ b a. refl)))) (λ t. sym (fault-none foreign vs (pairs foreign (λ b a. refl)))) (λ t. refl) (λ t. sym (has-none hasKpp vs (pairs hasKpp (λ b a. refl))))
     where
-      pairs : (u : Kind → Bool) → ((b a : Text) → u (kinds.party b a) ≡ false) → Every (λ k. u k ≡ false) (ofFirst parties ls)
+      pairs : (u : ValueKind → Bool) → ((b a : Text) → u (kinds.party b a) ≡ false) → EveryKind (λ k. u k ≡ false) (ofFirst parties ls)
       pairs u h = every-first (λ k. u k ≡ false) parties (every-party (λ k. u k ≡ false) h) ls
 
 -- ---- 32A
@@ -184,10 +184,10 @@ module _ (content : Content) (ls : List Line) where
       let w = b .1 .0 in
       good-made content ls _ (finding-tax content ls n (cut 3 inn m) (cut (4 + (inn + 3)) kpp m) (λ t. e t ∙ tax-values t n m ms (w .0)) (kpp-size (cut (4 + (inn + 3)) kpp m) kpp (w .2)))
 
-behind-good : (content : Content) (ls : List Line) (twelve : Bool) → ((t : Text) → valuesOf t content ls ≡ customerTaxes t ls) → (h : Held) → Behind twelve ls h → Good content ls (heldFound h)
+account-good : (content : Content) (ls : List Line) (twelve : Bool) → ((t : Text) → valuesOf t content ls ≡ customerTaxes t ls) → (h : Held) → AccountFirst twelve ls h → Good content ls (heldFound h)
 unfolding customerTaxes
-behind-good content [] twelve e h b = absurd b
-behind-good content (l ∷ ls) twelve e h b = beside-good content (l ∷ ls) ls (sizeOf (l ∷ [])) (length l + 2) twelve e h (b .1)
+account-good content [] twelve e h b = absurd b
+account-good content (l ∷ ls) twelve e h b = beside-good content (l ∷ ls) ls (linesSize (l ∷ [])) (length l + 2) twelve e h (b .1)
 
 held-has : (h : Held) → isHas (heldFound h) ≡ isHeld h
 held-has held.Wrong = refl
@@ -196,8 +196,8 @@ held-has (held.Taxed p inn kpp) = has-made (finds 0 0 0 (not (eqb kpp 0)))
 
 customer-good : (content : Content) (ls : List Line) (twelve : Bool) → ((t : Text) → valuesOf t content ls ≡ customerTaxes t ls) → (h : Held) → CustomerSaid twelve ls h → Good content ls (heldFound h)
 customer-good content ls twelve e held.Wrong s = tt
-customer-good content ls twelve e held.Plain s = behind-good content ls twelve e held.Plain s
-customer-good content ls twelve e (held.Taxed p inn kpp) s = behind-good content ls twelve e (held.Taxed p inn kpp) s
+customer-good content ls twelve e held.Plain s = account-good content ls twelve e held.Plain s
+customer-good content ls twelve e (held.Taxed p inn kpp) s = account-good content ls twelve e (held.Taxed p inn kpp) s
 
 module _ (sign : Bool) (ls : List Line) (h : Held) where
   pub bank-held : CustomerSaid false ls h → FoundIn holds.BeneficiaryBank sign ls (heldFound h)
@@ -209,13 +209,13 @@ module _ (sign : Bool) (ls : List Line) (h : Held) where
   customer-held s = found-by holds.Beneficiary sign ls (heldFound h) (customer-is true ls h (isHas (heldFound h)) (held-has h) s) (customer-good holds.Beneficiary ls true (λ t. refl) h s)
 
 -- 50K by its first line
-payer-behind : (ls : List Line) (h : Held) → Behind true ls h → Good holds.Payer ls (heldFound h)
+payer-account : (ls : List Line) (h : Held) → AccountFirst true ls h → Good holds.Payer ls (heldFound h)
 unfolding valuesOf payerTaxes
-payer-behind [] h b = absurd b
-payer-behind (l ∷ ls) h b =
-    behind-good holds.Payer (l ∷ ls) true (λ t. ap (λ (q : Bool). pick q (customerTaxes t (l ∷ ls)) (taxes t 0 (l ∷ ls))) (ap (begins 47) (b .0 .1 .line))) h b
+payer-account [] h b = absurd b
+payer-account (l ∷ ls) h b =
+    account-good holds.Payer (l ∷ ls) true (λ t. ap (λ (q : Bool). pick q (customerTaxes t (l ∷ ls)) (taxes t 0 (l ∷ ls))) (ap (begins 47) (b .0 .1 .line))) h b
 
-payer-bare : (ls : List Line) (h : Held) → Bare ls h → Good holds.Payer ls (heldFound h)
+payer-bare : (ls : List Line) (h : Held) → NoAccount ls h → Good holds.Payer ls (heldFound h)
 unfolding valuesOf payerTaxes taxes
 payer-bare [] h b = beside-good holds.Payer [] [] 0 0 true (λ t. refl) h (b .1)
 payer-bare (l ∷ ls) h b =
@@ -224,8 +224,8 @@ payer-bare (l ∷ ls) h b =
 
 payer-good : (ls : List Line) (h : Held) → PayerSaid ls h → Good holds.Payer ls (heldFound h)
 payer-good ls held.Wrong s = tt
-payer-good ls held.Plain s = ⊎-elim (payer-behind ls held.Plain) (payer-bare ls held.Plain) s
-payer-good ls (held.Taxed p inn kpp) s = ⊎-elim (payer-behind ls (held.Taxed p inn kpp)) (payer-bare ls (held.Taxed p inn kpp)) s
+payer-good ls held.Plain s = ⊎-elim (payer-account ls held.Plain) (payer-bare ls held.Plain) s
+payer-good ls (held.Taxed p inn kpp) s = ⊎-elim (payer-account ls (held.Taxed p inn kpp)) (payer-bare ls (held.Taxed p inn kpp)) s
 
 pub payer-held : (sign : Bool) (ls : List Line) (h : Held) → PayerSaid ls h → FoundIn holds.Payer sign ls (heldFound h)
 payer-held sign ls h s = found-by holds.Payer sign ls (heldFound h) (payer-is ls h (isHas (heldFound h)) (held-has h) s) (payer-good ls h s)
@@ -248,7 +248,7 @@ name-led ls (bank.Led p) s = led _ p ls s
 bank-has : (ls : List Line) (b : Bank) → isHas (bankFound ls b) ≡ isBank b
 bank-has ls bank.Wrong = refl
 bank-has ls bank.Alone = refl
-bank-has ls (bank.Led p) = has-made (finds 0 0 (faultOf apart (ofFirst parties ls)) false)
+bank-has ls (bank.Led p) = has-made (finds 0 0 (faultOf bikDiffers (ofFirst parties ls)) false)
 
 bic-good : (ls : List Line) (b : Bank) → BicSaid ls b → Good holds.BankByBic ls (bankFound ls b)
 unfolding valuesOf
@@ -273,15 +273,15 @@ module _ (sign : Bool) (ls : List Line) (b : Bank) where
 
 -- ---- a content of one line
 module _ (content : Content) (o : OneLine content) (sign : Bool) (s : Text) where
-  pub is-line : linesIn s ≡ s ∷ [] → LineOf content s → Right content sign (linesIn s)
+  pub is-line : linesIn s ≡ s ∷ [] → SingleLine content s → Right content sign (linesIn s)
   is-line e p = o sign (linesIn s) .1 (rw e p)
 
-  pub not-line : linesIn s ≡ s ∷ [] → Not (LineOf content s) → Not (Right content sign (linesIn s))
+  pub not-line : linesIn s ≡ s ∷ [] → Not (SingleLine content s) → Not (Right content sign (linesIn s))
   not-line e n x = n (rw e at (o sign (linesIn s) .0 x))
 
 -- by the content's name
-pub line-asks : (k : Content) (s : Text) {content : Content} {r : Bool} → content ≡ k → NoValues k → OneLine k → Says (LineOf k s) r → NoValues content × OneLine content × Says (LineOf content s) r
-line-asks k s {r = r} e n o h = subst (λ (x : Content). NoValues x × OneLine x × Says (LineOf x s) r) (sym e) (n, o, h)
+pub line-asks : (k : Content) (s : Text) {content : Content} {r : Bool} → content ≡ k → NoValues k → OneLine k → Says (SingleLine k s) r → NoValues content × OneLine content × Says (SingleLine content s) r
+line-asks k s {r = r} e n o h = subst (λ (x : Content). NoValues x × OneLine x × Says (SingleLine x s) r) (sym e) (n, o, h)
 
 pub plain-asks : (k : Content) (sign : Bool) (ls : List Line) {content : Content} {r : Bool} → content ≡ k → NoValues k → Says (Right k sign ls) r → NoValues content × Says (Right content sign ls) r
 plain-asks k sign ls {r = r} e n h = subst (λ (x : Content). NoValues x × Says (Right x sign ls) r) (sym e) (n, h)

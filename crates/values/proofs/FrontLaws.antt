@@ -10,13 +10,13 @@ use lib.ListN.{length, take, drop, length-append, length-take, length-drop}
 use lib.Seq.{drop-drop, take-take}
 use borrow.Author.Tests.{eq-eqb, ne-eqb, eqb-true, eqb-false}
 use Rattle.base.specs.Choice.{pick}
-use Rattle.base.specs.Bytes.{upTo, empty, same}
+use Rattle.base.specs.Bytes.{countUpTo, empty, same}
 use Rattle.base.specs.Quoted.{bytes}
 use Rattle.base.specs.Says.{Not}
 use Rattle.base.proofs.ByteLaws.{is-empty, is-filled, drop-take}
 use Rattle.fields.specs.Lines.{linesIn}
 use Rattle.contents.specs.declared.lines.Party.the-variants as party
-use Rattle.contents.specs.Words.{Text, Line, join, behind, Digits, Perhaps}
+use Rattle.contents.specs.Words.{Text, Line, join, withMark, Digits, Perhaps}
 use Rattle.contents.specs.Lines.{RppLine}
 use Rattle.contents.specs.Fields.{Then, Any}
 use Rattle.contents.specs.Answers.{cut, Stand, BikWith, RppWith, IsA}
@@ -25,7 +25,7 @@ use Rattle.contents.proofs.LineTests.{way-size}
 use Rattle.values.specs.Day.{realDay}
 use Rattle.values.specs.Values as kinds
 use Rattle.values.specs.Values.{date, at, dateIfAny, rppDates, bothParts, parties, ofFirst}
-use Rattle.values.specs.Judged.{noDay, lastThree, apart}
+use Rattle.values.specs.Judged.{noDay, lastThree, bikDiffers}
 use Rattle.values.specs.Answers.{faultOf}
 use Rattle.values.proofs.GrammarLaws.{rpp-values, bik-values, account-values}
 
@@ -36,18 +36,18 @@ swap false x y = refl
 
 -- ---- the first line of a content stands at its front
 module _ (c : Text) (l : Line) (ms : List Line) (q : linesIn c ≡ l ∷ ms) where
-  first-is : l ≡ take (0 + upTo 13 c) c
+  first-is : l ≡ take (0 + countUpTo 13 c) c
   first-is =
-      let f = front-0 c (0 + upTo 13 c) refl in
-      let e : l ∷ ms ≡ take (0 + upTo 13 c) c ∷ f .0 = sym q ∙ f .1 in
+      let f = front-0 c (0 + countUpTo 13 c) refl in
+      let e : l ∷ ms ≡ take (0 + countUpTo 13 c) c ∷ f .0 = sym q ∙ f .1 in
       cc
 
   first-long : length l ≤ length c
-  first-long = omega (arith, ap length first-is, taken-0 c (0 + upTo 13 c) refl, within-0 c (0 + upTo 13 c) refl)
+  first-long = omega (arith, ap length first-is, taken-0 c (0 + countUpTo 13 c) refl, within-0 c (0 + countUpTo 13 c) refl)
 
   first-cut : (i n : ℕ) → i + n ≤ length l → cut i n l ≡ cut i n c
   first-cut i n h =
-      let e : ℕ = 0 + upTo 13 c in
+      let e : ℕ = 0 + countUpTo 13 c in
       let z : length l ≡ e = ap length first-is ∙ sym (taken-0 c e refl) in
       ap (cut i n) first-is ∙ ap (take n) (drop-take i e c) ∙ take-take n (e - i) (drop i c) (omega arith)
 
@@ -71,7 +71,7 @@ perhaps-size n s (inr d) z = d .size
 
 -- ---- Cparty, N12: by the bytes of the content
 abbrev partyFault : List Line → ℕ
-partyFault ls = faultOf apart (ofFirst parties ls)
+partyFault ls = faultOf bikDiffers (ofFirst parties ls)
 
 pub party-wrong : (ls : List Line) → Then (IsA party.Wrong) Any ls → ⊥
 party-wrong [] w = w
@@ -80,12 +80,12 @@ party-wrong (l ∷ ls) w = w .0
 pub party-account : (ls : List Line) → Then (IsA party.Account) Any ls → partyFault ls ≡ 0
 unfolding faultOf
 party-account [] w = absurd w
-party-account (l ∷ ls) w = ap (faultOf apart) (account-values (w .0))
+party-account (l ∷ ls) w = ap (faultOf bikDiffers) (account-values (w .0))
 
 pub party-bik : (n : ℕ) (ls : List Line) → Then (BikWith n) Any ls → n ≡ 0 → partyFault ls ≡ 0
 unfolding faultOf
 party-bik n [] w e = absurd w
-party-bik n (l ∷ ls) w e = ap (faultOf apart) (bik-values (w .0 .0) ∙ ap (λ (k : ℕ). bothParts (cut 4 9 l) (cut 14 k l)) e)
+party-bik n (l ∷ ls) w e = ap (faultOf bikDiffers) (bik-values (w .0 .0) ∙ ap (λ (k : ℕ). bothParts (cut 4 9 l) (cut 14 k l)) e)
 
 module _ (c : Text) where
   both-by : (n : ℕ) (ls : List Line) → linesIn c ≡ ls → Then (BikWith n) Any ls → Not (n ≡ 0)
@@ -98,11 +98,11 @@ module _ (c : Text) where
       let e : n ≡ 20 = sym st ∙ perhaps-size 20 (cut 14 n l) (p .number) (λ y. z (sym st ∙ y)) in
       let h = stand-within 14 n l st z in
       let k = first-long c l ls q in
-      let a : lastThree (cut 4 9 l) ≡ cut 10 3 c = last-cut 4 9 l (p .code .size) (omega arith) ∙ first-cut c l ls q 10 3 (omega arith) in
+      let a : lastThree (cut 4 9 l) ≡ cut 10 3 c = last-cut 4 9 l (p .nine .size) (omega arith) ∙ first-cut c l ls q 10 3 (omega arith) in
       let f : 14 + (n - 3) ≡ 31 = omega arith in
       let b : lastThree (cut 14 n l) ≡ cut 31 3 c = last-cut 14 n l st (omega arith) ∙ ap (λ (i : ℕ). cut i 3 l) f ∙ first-cut c l ls q 31 3 (omega arith) in (
         omega arith,
-        ap (faultOf apart) (bik-values p ∙ both-some (cut 4 9 l) (cut 14 n l) (omega arith)) ∙ ap₂ (λ (x y : Text). pick (not (same x y)) 1 0) a b ∙ sym (swap (same (cut 10 3 c) (cut 31 3 c)) 0 1),
+        ap (faultOf bikDiffers) (bik-values p ∙ both-some (cut 4 9 l) (cut 14 n l) (omega arith)) ∙ ap₂ (λ (x y : Text). pick (not (same x y)) 1 0) a b ∙ sym (swap (same (cut 10 3 c) (cut 31 3 c)) 0 1),
       )
 
   pub party-both : (n : ℕ) → Then (BikWith n) Any (linesIn c) → Not (n ≡ 0) → (34 ≤ length c) × (partyFault (linesIn c) ≡ pick (same (cut 10 3 c) (cut 31 3 c)) 0 1)
@@ -124,9 +124,9 @@ pub record RppRead (c : Text) (n value : ℕ) (ls : List Line) : Type 0 where
   pub due-room : Not (value ≡ 0) → 21 + (n + 5) ≤ length c
   pub faults : rppFault ls ≡ pick (realDay (cut (1 + (n + 5)) 6 c)) (pick (eqb value 0) 0 (pick (realDay (cut (15 + (n + 5)) 6 c)) 0 (16 + (n + 5)))) (2 + (n + 5))
 
-behind-size : (s : Text) → Not (length s ≡ 0) → length (behind "." s) ≡ suc (length s)
-behind-size [] z = absurd (z refl)
-behind-size (x ∷ s) z = refl
+mark-size : (s : Text) → Not (length s ≡ 0) → length (withMark "." s) ≡ suc (length s)
+mark-size [] z = absurd (z refl)
+mark-size (x ∷ s) z = refl
 
 read-by : (c : Text) (n value : ℕ) (ls : List Line) → linesIn c ≡ ls → Then (RppWith n value) Any ls → RppRead c n value ls
 read-by c n value [] q w = absurd w
@@ -146,7 +146,7 @@ read-by c n value (l ∷ ls) q w = record {
     mark : ℕ
     mark = length (join (bytes "/RPP/" ∷ cut 5 n l ∷ bytes "." ∷ []))
 
-    size : length l ≡ 14 + (n + 5) + length (behind "." v)
+    size : length l ≡ 14 + (n + 5) + length (withMark "." v)
     size =
         let z = simp length-append at (ap length (p .line)) in
         omega (arith, w .0 .1, p .day .size, p .order .size, way-size (cut (10 + (n + 5)) 4 l) (p .kind))
@@ -155,7 +155,7 @@ read-by c n value (l ∷ ls) q w = record {
     six z = perhaps-size 6 v (p .due) (λ e. z (sym (w .0 .2) ∙ e))
 
     due : Not (value ≡ 0) → length l ≡ 21 + (n + 5)
-    due z = omega (arith, size, six z, behind-size v (λ e. z (sym (w .0 .2) ∙ e)))
+    due z = omega (arith, size, six z, mark-size v (λ e. z (sym (w .0 .2) ∙ e)))
 
     mark-at : suc mark ≡ 2 + (n + 5)
     mark-at = simp length-append (omega (arith, w .0 .1))

@@ -18,7 +18,7 @@ use Rattle.contents.specs.Tests.{piece, isPayment, looksTax}
 use Rattle.contents.specs.Parts.{before, unmarked, paidWhole, paidDecimals, paidDate, partyBik, partyAccount, taxInn, taxKpp, opensRpp}
 use Rattle.contents.proofs.BankLaws.{BicTests, bic-tests, bik-tests, account-tests}
 use Rattle.contents.proofs.FieldLaws.{tax-looks}
-use Rattle.contents.proofs.LineTests.{payment-says, paid-parts, bik-says, bik-parts, looks-says, tax-parts, rpp-parts, unmarked-behind}
+use Rattle.contents.proofs.LineTests.{payment-says, paid-parts, bik-says, bik-parts, looks-says, tax-parts, rpp-parts, unmarked-mark}
 use Rattle.values.specs.Day.{dated}
 use Rattle.values.specs.Money.{kopecks}
 use Rattle.values.specs.Values.{date, currency, tax, at, payment, dateIfAny, rppDates, bothParts, parties, taxes, noteDates}
@@ -62,7 +62,7 @@ module _ {n d t w v l : Text} (p : RppLine n d t w v l) where
   unfolding rppDates
   rpp-values =
       ap (λ (ts : List Text). at (before 3 ts) (date (piece 3 ts)) ∷ dateIfAny (length l - length (unmarked "." (piece 8 ts))) (unmarked "." (piece 8 ts))) (rpp-parts p)
-      ∙ ap (λ (s : Text). at (length (join (bytes "/RPP/" ∷ n ∷ bytes "." ∷ []))) (date d) ∷ dateIfAny (length l - length s) s) (unmarked-behind "." v)
+      ∙ ap (λ (s : Text). at (length (join (bytes "/RPP/" ∷ n ∷ bytes "." ∷ []))) (date d) ∷ dateIfAny (length l - length s) s) (unmarked-mark "." v)
 
   -- in front of details too
   pub note-values : noteDates l ≡ rppDates l
@@ -79,7 +79,7 @@ pub bik-values : {bik account l : Text} → PartyByBik bik account l → parties
 unfolding parties
 bik-values {bik} {account} {l} p =
     ap (λ (b : Bool). pick b (bothParts (partyBik l) (partyAccount l)) []) (is-so (bik-says l) (bik, account, p))
-    ∙ ap (λ (ts : List Text). bothParts (piece 1 ts) (unmarked "." (piece 2 ts))) (bik-parts p) ∙ ap (bothParts bik) (unmarked-behind "." account)
+    ∙ ap (λ (ts : List Text). bothParts (piece 1 ts) (unmarked "." (piece 2 ts))) (bik-parts p) ∙ ap (bothParts bik) (unmarked-mark "." account)
 
 no-bik : (l : Line) → ((bik account : Text) → Not (PartyByBik bik account l)) → parties l ≡ []
 unfolding parties
@@ -104,7 +104,7 @@ module _ (t : Text) (k : ℕ) (l : Line) (ls : List Line) where
   pub tax-values : {twelve : Bool} {inn kpp : Text} → TaxLine twelve inn kpp l → taxes t k (l ∷ ls) ≡ at k (tax t inn kpp) ∷ []
   tax-values {twelve} {inn} {kpp} p =
       taxes-by (is-so (looks-says l) (tax-looks twelve l (inn, kpp, p)))
-      ∙ ap (λ (ts : List Text). at k (tax t (piece 1 ts) (unmarked ".KPP" (piece 2 ts))) ∷ []) (tax-parts p) ∙ ap (λ (s : Text). at k (tax t inn s) ∷ []) (unmarked-behind ".KPP" kpp)
+      ∙ ap (λ (ts : List Text). at k (tax t (piece 1 ts) (unmarked ".KPP" (piece 2 ts))) ∷ []) (tax-parts p) ∙ ap (λ (s : Text). at k (tax t inn s) ∷ []) (unmarked-mark ".KPP" kpp)
 
   pub untaxed-values : Not (LooksTax l) → taxes t k (l ∷ ls) ≡ []
   untaxed-values n = taxes-by (says-same (looks-says l) (says-not n))

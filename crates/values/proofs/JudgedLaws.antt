@@ -10,7 +10,7 @@ use Rattle.base.specs.Choice.{pick}
 use Rattle.base.specs.Rules.{then}
 use Rattle.base.specs.declared.Verdict.the-variants.{Fine, Broken}
 use Rattle.base.proofs.RuleLaws.{fine-broken}
-use Rattle.values.specs.Values.{Kind, Value, placeOf, kindOf}
+use Rattle.values.specs.Values.{ValueKind, Value, placeOf, kindOf}
 use Rattle.values.specs.Judged.{firstBad, has}
 use Rattle.values.specs.Sentences.{NoneFails, LeastAt}
 
@@ -40,7 +40,7 @@ ordered-mem {o} (next {v = w} {vs = vs} h r) v m = go (List·Memᴰ·cases-cons 
     go (inr k) f = let q = f k in omega arith
 
 -- ---- the first that fails
-module _ (number : ℕ) (bad : Kind → Bool) where
+module _ (number : ℕ) (bad : ValueKind → Bool) where
   pub hit : (v : Value) (vs : List Value) → bad (kindOf v) ≡ true → firstBad number bad (v ∷ vs) ≡ Broken number (placeOf v)
   unfolding firstBad
   hit v vs e = rw e
@@ -134,7 +134,7 @@ module _ (number : ℕ) (bad : Kind → Bool) where
   broken-iff n p h = (broken-least n p h, λ l. least-broken p h (l .1) ∙ ap (λ (k : ℕ). Broken k p) (sym (l .0)))
 
 -- ---- some value passes a test
-pub has-append : (t : Kind → Bool) (vs ws : List Value) → has t (vs ++ ws) ≡ (has t vs || has t ws)
+pub has-append : (t : ValueKind → Bool) (vs ws : List Value) → has t (vs ++ ws) ≡ (has t vs || has t ws)
 has-append t [] ws = refl
 has-append t (v ∷ vs) ws = go (t (kindOf v)) (has-append t vs ws)
   where

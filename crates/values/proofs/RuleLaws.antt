@@ -7,17 +7,17 @@ use mathlib.Core.Logic.{_↔_}
 use Rattle.types.specs.declared.Form.{Form}
 use Rattle.base.specs.declared.Verdict.the-variants.{Fine, Broken}
 use Rattle.fields.specs.Field.{Field}
-use Rattle.values.specs.Values.{Kind, valuesIn}
-use Rattle.values.specs.Judged.{firstBad, noDay, foreign, apart, without57, taxBroken, rule9, rule10, rule11, rule12, rule13}
+use Rattle.values.specs.Values.{ValueKind, valuesIn}
+use Rattle.values.specs.Judged.{firstBad, noDay, foreign, bikDiffers, without57, taxBroken, rule9, rule10, rule11, rule12, rule13}
 use Rattle.values.specs.Sentences.{NoneFails, LeastAt}
 use Rattle.values.proofs.JudgedLaws.{fine-iff, broken-iff}
 use Rattle.values.proofs.ValueLaws.{in-order}
 
 -- ---- once for all
-pub judged-fine : (number : ℕ) (bad : Kind → Bool) (form : Form) (fs : List Field) → (firstBad number bad (valuesIn form 5 fs) ≡ Fine) ↔ NoneFails bad (valuesIn form 5 fs)
+pub judged-fine : (number : ℕ) (bad : ValueKind → Bool) (form : Form) (fs : List Field) → (firstBad number bad (valuesIn form 5 fs) ≡ Fine) ↔ NoneFails bad (valuesIn form 5 fs)
 judged-fine number bad form fs = fine-iff number bad (valuesIn form 5 fs)
 
-pub judged-broken : (number : ℕ) (bad : Kind → Bool) (form : Form) (fs : List Field) (n p : ℕ) → (firstBad number bad (valuesIn form 5 fs) ≡ Broken n p) ↔ ((n ≡ number) × LeastAt bad (valuesIn form 5 fs) p)
+pub judged-broken : (number : ℕ) (bad : ValueKind → Bool) (form : Form) (fs : List Field) (n p : ℕ) → (firstBad number bad (valuesIn form 5 fs) ≡ Broken n p) ↔ ((n ≡ number) × LeastAt bad (valuesIn form 5 fs) p)
 judged-broken number bad form fs n p = broken-iff number bad n p (in-order form 5 fs)
 
 -- ---- rule by rule
@@ -34,9 +34,9 @@ module _ (form : Form) (fs : List Field) (n p : ℕ) where
   unfolding rule11
   broken11 = judged-broken 11 (without57 (valuesIn form 5 fs)) form fs n p
 
-  pub broken12 : (rule12 form fs ≡ Broken n p) ↔ ((n ≡ 12) × LeastAt apart (valuesIn form 5 fs) p)
+  pub broken12 : (rule12 form fs ≡ Broken n p) ↔ ((n ≡ 12) × LeastAt bikDiffers (valuesIn form 5 fs) p)
   unfolding rule12
-  broken12 = judged-broken 12 apart form fs n p
+  broken12 = judged-broken 12 bikDiffers form fs n p
 
   pub broken13 : (rule13 form fs ≡ Broken n p) ↔ ((n ≡ 13) × LeastAt (taxBroken (valuesIn form 5 fs)) (valuesIn form 5 fs) p)
   unfolding rule13
@@ -55,9 +55,9 @@ module _ (form : Form) (fs : List Field) where
   unfolding rule11
   fine11 = judged-fine 11 (without57 (valuesIn form 5 fs)) form fs
 
-  pub fine12 : (rule12 form fs ≡ Fine) ↔ NoneFails apart (valuesIn form 5 fs)
+  pub fine12 : (rule12 form fs ≡ Fine) ↔ NoneFails bikDiffers (valuesIn form 5 fs)
   unfolding rule12
-  fine12 = judged-fine 12 apart form fs
+  fine12 = judged-fine 12 bikDiffers form fs
 
   pub fine13 : (rule13 form fs ≡ Fine) ↔ NoneFails (taxBroken (valuesIn form 5 fs)) (valuesIn form 5 fs)
   unfolding rule13

@@ -8,12 +8,13 @@ use native.Mathlib.Nat.{le-refl}
 use lib.ListN.{length, drop, length-append, length-drop, length-take}
 use Rattle.base.specs.Choice.{pick}
 use Rattle.base.specs.Bytes.{begins}
+use Rattle.base.specs.Examples.{AllHold}
 use Rattle.fields.specs.Field.{Field, field}
-use Rattle.fields.specs.Places.{sizeOf, startOf, nextOf}
+use Rattle.fields.specs.Places.{linesSize, startOf, nextOf}
 use Rattle.fields.specs.ByLines.{joined}
 use Rattle.fields.proofs.PlaceLaws.{joined-length}
 use Rattle.types.specs.declared.Form.{Form}
-use Rattle.types.specs.Sentences.{after}
+use Rattle.types.specs.Sentences.{endOfFields}
 use Rattle.contents.specs.declared.Content.{Content}
 use Rattle.contents.specs.declared.Content.the-variants as holds
 use Rattle.contents.specs.Words.{Text, Line, join}
@@ -21,7 +22,7 @@ use Rattle.contents.specs.Tests.{sized, digits, piece, rppParts, isPartyByBik, 
 use Rattle.contents.specs.Tags.{heldBy}
 use Rattle.contents.specs.Parts.{paidDate, paidCurrency, currencyAt, partyBik, partyAccount, taxInn, taxKpp, opensRpp, rppDate, rppDateAt, rppValue, rppValueAt}
 use Rattle.contents.proofs.CutLaws.{cut-whole}
-use Rattle.values.specs.Values.{Kind, tag, date, currency, party, tax, Value, at, placeOf, kindOf, moved, payment, dateIfAny, rppDates, bothParts, parties, ofFirst, taxes, customerTaxes, payerTaxes, noteDates, valuesOf, valuesIn}
+use Rattle.values.specs.Values.{ValueKind, tag, date, currency, party, tax, Value, at, placeOf, kindOf, moved, payment, dateIfAny, rppDates, bothParts, parties, ofFirst, taxes, customerTaxes, payerTaxes, noteDates, valuesOf, valuesIn}
 use Rattle.values.proofs.JudgedLaws.{Ordered, none, next, ordered-low, ordered-high, ordered-append}
 
 -- ---- what holds either way
@@ -119,7 +120,7 @@ customer-order : (t : Text) (ls : List Line) → Ordered 0 (customerTaxes t ls) 
 unfolding customerTaxes taxes
 customer-order t [] = nothing 0
 customer-order t (l ∷ []) = nothing (length l)
-customer-order t (l ∷ k ∷ ls) = taxes-order t (sizeOf (l ∷ [])) (length (joined (l ∷ k ∷ ls))) (k ∷ ls) (omega (arith, length-append l (13 ∷ 10 ∷ joined (k ∷ ls))))
+customer-order t (l ∷ k ∷ ls) = taxes-order t (linesSize (l ∷ [])) (length (joined (l ∷ k ∷ ls))) (k ∷ ls) (omega (arith, length-append l (13 ∷ 10 ∷ joined (k ∷ ls))))
 
 payer-order : (t : Text) (ls : List Line) → Ordered 0 (payerTaxes t ls) (length (joined ls))
 unfolding payerTaxes
@@ -152,61 +153,60 @@ module _ (form : Form) where
       next (le-refl o) (ordered-low g (ordered-high k (ordered-moved s (values-order t (heldBy form t) (l ∷ ls)))))
 
   -- the values of a message come in the order of their places
-  pub in-order : (o : ℕ) (fs : List Field) → Ordered o (valuesIn form o fs) (after o fs)
+  pub in-order : (o : ℕ) (fs : List Field) → Ordered o (valuesIn form o fs) (endOfFields o fs)
   in-order o [] = none (le-refl o)
   in-order o (field t ls ∷ fs) = ordered-append (field-order o t ls) (in-order (nextOf o (field t ls)) fs)
 
 -- ---- every value is of a form of which something holds
-abbrev pub Every : (Kind → Type 0) → List Value → Type 0
-Every P [] = Unit {0}
-Every P (v ∷ vs) = P (kindOf v) × Every P vs
+abbrev pub EveryKind : (ValueKind → Type 0) → List Value → Type 0
+EveryKind P vs = AllHold (λ (v : Value). P (kindOf v)) vs
 
-module _ (P : Kind → Type 0) where
-  pub every-first : (f : Line → List Value) → ((l : Line) → Every P (f l)) → (ls : List Line) → Every P (ofFirst f ls)
+module _ (P : ValueKind → Type 0) where
+  pub every-first : (f : Line → List Value) → ((l : Line) → EveryKind P (f l)) → (ls : List Line) → EveryKind P (ofFirst f ls)
   every-first f h [] = tt
   every-first f h (l ∷ ls) = h l
 
-  every-paid : ((s : Text) → P (date s)) → ((s : Text) → P (currency s)) → (l : Line) → Every P (payment l)
+  every-paid : ((s : Text) → P (date s)) → ((s : Text) → P (currency s)) → (l : Line) → EveryKind P (payment l)
   unfolding payment
   every-paid d c l = (d (paidDate l), (c (paidCurrency l), tt))
 
-  pub every-rpp : ((s : Text) → P (date s)) → (l : Line) → Every P (rppDates l)
+  pub every-rpp : ((s : Text) → P (date s)) → (l : Line) → EveryKind P (rppDates l)
   unfolding rppDates
   every-rpp d l = (d (rppDate l), go (rppValue l))
     where
-      go : (s : Text) → Every P (dateIfAny (rppValueAt l) s)
+      go : (s : Text) → EveryKind P (dateIfAny (rppValueAt l) s)
       go [] = tt
       go (x ∷ s) = (d (x ∷ s), tt)
 
-  every-note : ((s : Text) → P (date s)) → (l : Line) → Every P (noteDates l)
-  every-note d l = picked (Every P) (opensRpp l) (every-rpp d l) tt
+  every-note : ((s : Text) → P (date s)) → (l : Line) → EveryKind P (noteDates l)
+  every-note d l = picked (EveryKind P) (opensRpp l) (every-rpp d l) tt
 
-  pub every-party : ((b a : Text) → P (party b a)) → (l : Line) → Every P (parties l)
+  pub every-party : ((b a : Text) → P (party b a)) → (l : Line) → EveryKind P (parties l)
   unfolding parties
-  every-party p l = picked (Every P) (isPartyByBik l) (go (partyAccount l)) tt
+  every-party p l = picked (EveryKind P) (isPartyByBik l) (go (partyAccount l)) tt
     where
-      go : (a : Text) → Every P (bothParts (partyBik l) a)
+      go : (a : Text) → EveryKind P (bothParts (partyBik l) a)
       go [] = tt
       go (x ∷ a) = (p (partyBik l) (x ∷ a), tt)
 
-  every-tax : (t : Text) → ((i k : Text) → P (tax t i k)) → (n : ℕ) (ls : List Line) → Every P (taxes t n ls)
+  every-tax : (t : Text) → ((i k : Text) → P (tax t i k)) → (n : ℕ) (ls : List Line) → EveryKind P (taxes t n ls)
   unfolding taxes
   every-tax t x n [] = tt
-  every-tax t x n (l ∷ ls) = picked (Every P) (looksTax l) (x (taxInn l) (taxKpp l), tt) tt
+  every-tax t x n (l ∷ ls) = picked (EveryKind P) (looksTax l) (x (taxInn l) (taxKpp l), tt) tt
 
-  every-customer : (t : Text) → ((i k : Text) → P (tax t i k)) → (ls : List Line) → Every P (customerTaxes t ls)
+  every-customer : (t : Text) → ((i k : Text) → P (tax t i k)) → (ls : List Line) → EveryKind P (customerTaxes t ls)
   unfolding customerTaxes
   every-customer t x [] = tt
-  every-customer t x (l ∷ ls) = every-tax t x (sizeOf (l ∷ [])) ls
+  every-customer t x (l ∷ ls) = every-tax t x (linesSize (l ∷ [])) ls
 
-  every-payer : (t : Text) → ((i k : Text) → P (tax t i k)) → (ls : List Line) → Every P (payerTaxes t ls)
+  every-payer : (t : Text) → ((i k : Text) → P (tax t i k)) → (ls : List Line) → EveryKind P (payerTaxes t ls)
   unfolding payerTaxes
   every-payer t x [] = tt
-  every-payer t x (l ∷ ls) = picked (Every P) (begins 47 l) (every-customer t x (l ∷ ls)) (every-tax t x 0 (l ∷ ls))
+  every-payer t x (l ∷ ls) = picked (EveryKind P) (begins 47 l) (every-customer t x (l ∷ ls)) (every-tax t x 0 (l ∷ ls))
 
   -- no content has a tag; a tax line is with its field's
   pub every-value : (t : Text) → ((s : Text) → P (date s)) → ((s : Text) → P (currency s)) → ((b a : Text) → P (party b a)) → ((i k : Text) → P (tax t i k))
-      → (content : Content) (ls : List Line) → Every P (valuesOf t content ls)
+      → (content : Content) (ls : List Line) → EveryKind P (valuesOf t content ls)
   every-value t d c p x content ls =
-      by-content (Every P) t content ls tt (every-first payment (every-paid d c) ls) (every-payer t x ls) (every-first parties (every-party p) ls) (every-customer t x ls)
+      by-content (EveryKind P) t content ls tt (every-first payment (every-paid d c) ls) (every-payer t x ls) (every-first parties (every-party p) ls) (every-customer t x ls)
       (every-first rppDates (every-rpp d) ls) (every-first noteDates (every-note d) ls)

@@ -14,8 +14,8 @@ use Rattle.contents.specs.Tests.{isPayment}
 use Rattle.contents.specs.Parts.{paidDate, paidWhole, paidDecimals}
 use Rattle.values.specs.Day.{dated}
 use Rattle.values.specs.Money.{kopecks}
-use Rattle.values.specs.Values.{Kind, Value, placeOf, kindOf, valuesOf}
-use Rattle.values.specs.Judged.{noDay, foreign, apart, hasKpp, has}
+use Rattle.values.specs.Values.{ValueKind, Value, placeOf, kindOf, valuesOf}
+use Rattle.values.specs.Judged.{noDay, foreign, bikDiffers, hasKpp, has}
 use Rattle.values.specs.declared.Finds.{Finds}
 use Rattle.values.specs.declared.Found.{Found}
 use Rattle.values.specs.declared.Found.the-variants.{Wrong, Plain, Has}
@@ -31,7 +31,7 @@ kopecksOf l = pick (isPayment l) (kopecks (paidWhole l) (paidDecimals l)) 0
 
 -- ---- of any content
 -- one more than the place of the first value that fails, 0 where none does
-unfoldable pub faultOf : (Kind → Bool) → List Value → ℕ
+unfoldable pub faultOf : (ValueKind → Bool) → List Value → ℕ
 faultOf bad [] = 0
 faultOf bad (v ∷ vs) = pick (bad (kindOf v)) (suc (placeOf v)) (faultOf bad vs)
 
@@ -48,7 +48,7 @@ nothing = record { day = 0; currency = 0; party = 0; kpp = false }
 pub record Finding (content : Content) (ls : List Line) (f : Finds) : Type 0 where
   pub day-is : (t : Text) → f .day ≡ faultOf noDay (valuesOf t content ls)
   pub currency-is : (t : Text) → f .currency ≡ faultOf foreign (valuesOf t content ls)
-  pub party-is : (t : Text) → f .party ≡ faultOf apart (valuesOf t content ls)
+  pub party-is : (t : Text) → f .party ≡ faultOf bikDiffers (valuesOf t content ls)
   pub kpp-is : (t : Text) → f .kpp ≡ has hasKpp (valuesOf t content ls)
 
 abbrev pub FoundIn : Content → Bool → List Line → Found → Type 0

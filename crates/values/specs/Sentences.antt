@@ -4,14 +4,14 @@ use mathlib.Core.Path.{_≡_}
 use mathlib.Core.Bool.{Bool, true, false}
 use mathlib.Core.List.{List, List·Memᴰ}
 use Rattle.values.specs.Day.{daysIn}
-use Rattle.values.specs.Values.{Kind, Value, placeOf, kindOf}
+use Rattle.values.specs.Values.{ValueKind, Value, placeOf, kindOf}
 
 -- no value fails
-abbrev pub NoneFails : (Kind → Bool) → List Value → Type 0
+abbrev pub NoneFails : (ValueKind → Bool) → List Value → Type 0
 NoneFails bad vs = (v : Value) → List·Memᴰ v vs → bad (kindOf v) ≡ false
 
 -- a value at p fails, and none at a lesser place
-pub record LeastAt (bad : Kind → Bool) (vs : List Value) (p : ℕ) : Type 0 where
+pub record LeastAt (bad : ValueKind → Bool) (vs : List Value) (p : ℕ) : Type 0 where
   pub value : Value
   pub among : List·Memᴰ value vs
   pub fails : bad (kindOf value) ≡ true

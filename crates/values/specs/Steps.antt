@@ -13,10 +13,10 @@ use Rattle.contents.specs.declared.whole.Bank.{Bank}
 use Rattle.contents.specs.declared.whole.Bank.the-variants as bank
 use Rattle.contents.specs.Words.{Text, Line}
 use Rattle.contents.specs.Fields.{One, Then, Any, Right}
-use Rattle.contents.specs.Answers.{IsA, LineOf}
+use Rattle.contents.specs.Answers.{IsA, SingleLine}
 use Rattle.values.specs.Day.{year, month, day}
 use Rattle.values.specs.Values.{ofFirst, parties, valuesOf}
-use Rattle.values.specs.Judged.{apart}
+use Rattle.values.specs.Judged.{bikDiffers}
 use Rattle.values.specs.Answers.{faultOf}
 use Rattle.values.specs.declared.days.Day.{Day}
 use Rattle.values.specs.declared.Finds.{Finds}
@@ -53,7 +53,7 @@ heldFound (held.Taxed p inn kpp) = madeOf (finds 0 0 0 (not (eqb kpp 0)))
 abbrev pub bankFound : List Line → Bank → Found
 bankFound ls bank.Wrong = Wrong
 bankFound ls bank.Alone = Plain
-bankFound ls (bank.Led p) = madeOf (finds 0 0 (faultOf apart (ofFirst parties ls)) false)
+bankFound ls (bank.Led p) = madeOf (finds 0 0 (faultOf bikDiffers (ofFirst parties ls)) false)
 
 abbrev pub LedBy : List Line → Bank → Type 0
 LedBy ls bank.Wrong = Unit {0}
@@ -66,4 +66,4 @@ NoValues content = (t : Text) (ls : List Line) → valuesOf t content ls ≡ []
 
 -- a content of one line
 abbrev pub OneLine : Content → Type 0
-OneLine content = (sign : Bool) (ls : List Line) → (Right content sign ls → One (LineOf content) ls) × (One (LineOf content) ls → Right content sign ls)
+OneLine content = (sign : Bool) (ls : List Line) → (Right content sign ls → One (SingleLine content) ls) × (One (SingleLine content) ls → Right content sign ls)

@@ -7,7 +7,7 @@ use Rattle.types.specs.declared.Form.{Form}
 use Rattle.base.specs.Choice.{pick}
 use Rattle.base.specs.Bytes.{begins}
 use Rattle.fields.specs.Field.{Field, field}
-use Rattle.fields.specs.Places.{sizeOf, startOf, nextOf}
+use Rattle.fields.specs.Places.{linesSize, startOf, nextOf}
 use Rattle.contents.specs.declared.Content.{Content}
 use Rattle.contents.specs.declared.Content.the-variants as holds
 use Rattle.contents.specs.Words.{Text, Line}
@@ -15,26 +15,26 @@ use Rattle.contents.specs.Tests.{isPartyByBik, looksTax}
 use Rattle.contents.specs.Parts.{paidDate, paidCurrency, currencyAt, partyBik, partyAccount, taxInn, taxKpp, opensRpp, rppDate, rppDateAt, rppValue, rppValueAt}
 use Rattle.contents.specs.Tags.{heldBy}
 
-pub data Kind : Type 0 where
+pub data ValueKind : Type 0 where
   -- a field, by its tag: it stands at its colon
-  tag : Text → Kind
+  tag : Text → ValueKind
   -- a date of six digits
-  date : Text → Kind
+  date : Text → ValueKind
   -- a currency
-  currency : Text → Kind
+  currency : Text → ValueKind
   -- a party line with a BIK and an account
-  party : Text → Text → Kind
+  party : Text → Text → ValueKind
   -- a tax line, with the tag of its field: its INN, its KPP
-  tax : Text → Text → Text → Kind
+  tax : Text → Text → Text → ValueKind
 
 -- a value stands at the place of its first byte
 pub data Value : Type 0 where
-  at : ℕ → Kind → Value
+  at : ℕ → ValueKind → Value
 
 abbrev pub placeOf : Value → ℕ
 placeOf (at p k) = p
 
-abbrev pub kindOf : Value → Kind
+abbrev pub kindOf : Value → ValueKind
 kindOf (at p k) = k
 
 -- n bytes on
@@ -76,7 +76,7 @@ taxes t n (l ∷ ls) = pick (looksTax l) (at n (tax t (taxInn l) (taxKpp l)) ∷
 -- beside an account, which is the first line
 unfoldable pub customerTaxes : Text → List Line → List Value
 customerTaxes t [] = []
-customerTaxes t (l ∷ ls) = taxes t (sizeOf (l ∷ [])) ls
+customerTaxes t (l ∷ ls) = taxes t (linesSize (l ∷ [])) ls
 
 -- 50K: there is an account exactly if the first line begins with /
 unfoldable pub payerTaxes : Text → List Line → List Value

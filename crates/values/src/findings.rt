@@ -7,11 +7,11 @@ ghost use Rattle.base.specs.Choice.{pick};
 ghost use Rattle.base.specs.Says.{Says};
 ghost use Rattle.fields.specs.Lines.{linesIn};
 ghost use Rattle.contents.specs.Fields.{Then, Any, Right};
-ghost use Rattle.contents.specs.Answers.{cut, IsA, RppWith, LineOf};
+ghost use Rattle.contents.specs.Answers.{cut, IsA, RppWith, SingleLine};
 ghost use Rattle.contents.specs.declared.Content.the-variants.{Payment, Document, DocumentAndDetails};
 ghost use Rattle.values.specs.Day.{realDay};
 ghost use Rattle.values.specs.Values.{ofFirst, parties, rppDates};
-ghost use Rattle.values.specs.Judged.{noDay, apart};
+ghost use Rattle.values.specs.Judged.{noDay, bikDiffers};
 ghost use Rattle.values.specs.Answers.{faultOf, FoundIn};
 ghost use Rattle.values.specs.Steps.{isNothing, madeOf, heldFound, bankFound, LedBy, NoValues, OneLine};
 use super::Finds;
@@ -135,7 +135,7 @@ fn held_found(h: Held) -> Found
 // The party line that a content begins with.
 fn party_fault(c: &[u8], p: Party) -> usize
     requires { ⌜ Then (IsA p) Any (linesIn (now c)) ⌝ }
-    ensures { λ r. ⌜ r ≡ faultOf apart (ofFirst parties (linesIn (now (c .entry)))) ⌝ }
+    ensures { λ r. ⌜ r ≡ faultOf bikDiffers (ofFirst parties (linesIn (now (c .entry)))) ⌝ }
 {
     match p {
         Party::Wrong => 0,
@@ -219,7 +219,7 @@ fn note_found(sign: bool, c: &[u8]) -> Found
 
 // A content of one line in which 9 to 13 ask for nothing; right: whether it would be such a line.
 fn line_found(content: Content, right: bool, c: &[u8]) -> Found
-    requires { ⌜ NoValues content × OneLine content × Says (LineOf content (now c)) right ⌝ }
+    requires { ⌜ NoValues content × OneLine content × Says (SingleLine content (now c)) right ⌝ }
     ensures { λ r. ⌜ ((sign : Bool) → FoundIn content sign (linesIn (now (c .entry))) r) ⌝ }
 {
     if !is_one_line(c) {

@@ -7,7 +7,7 @@ use native.Mathlib.Omega.{arith}
 use native.Mathlib.Nat.{zero-add}
 use lib.ListN.{length, take, drop}
 use Rattle.base.specs.Choice.{pick}
-use Rattle.base.specs.Bytes.{same, upTo}
+use Rattle.base.specs.Bytes.{same, countUpTo}
 use Rattle.base.specs.Quoted.{bytes}
 use Rattle.base.specs.Rules.{then, first}
 use Rattle.base.specs.Calls.{Answer, said, stuck, over, placed, Gives}
@@ -26,10 +26,10 @@ use Rattle.roles.specs.Role.{Part, cast, shapeOf, lineOf}
 use Rattle.roles.specs.declared.Shape.{Shape}
 use Rattle.roles.specs.declared.Shape.the-variants.{Plain}
 use Rattle.records.specs.Record.{Record, line, recordOf, records}
-use Rattle.records.specs.Places.{nextOf}
-use Rattle.records.specs.Found.{piecesAt, badLine}
-use Rattle.records.specs.Rule19.{typed, namedForm, sheetSign, sheetForm, sheetVerdict, rule19, judged}
-use Rattle.records.specs.Sentences.{Sound}
+use Rattle.records.specs.Places.{nextRecord}
+use Rattle.records.specs.Found.{piecesAt, badSheetLine}
+use Rattle.records.specs.Rule19.{typed, namedForm, sheetSign, sheetForm, verdict19And18, rule19, judged}
+use Rattle.records.specs.Sentences.{SoundSheet}
 use Rattle.records.specs.declared.Judged.{Judged}
 use Rattle.records.proofs.SheetLaws.{line-record}
 use Rattle.records.proofs.RuleLaws.{named, named-size, sound-fine, fine-sheet}
@@ -85,7 +85,7 @@ rule15-number : (form : Form) (s : Bool) (o : ℕ) (rs : List Record) (j p : ℕ
 unfolding rule15
 rule15-number form s o [] j p e = absurd (fine-broken j p e)
 rule15-number form s o (field t ps ∷ rs) j p e =
-    then-number 15 (unsaid s (o + length t + 1) (castParts (shapeOf form t) ps)) (rule15 form s (nextOf o (field t ps)) rs) (unsaid-number s (o + length t + 1) (castParts (shapeOf form t) ps)) (rule15-number form s (nextOf o (field t ps)) rs) j p e
+    then-number 15 (unsaid s (o + length t + 1) (castParts (shapeOf form t) ps)) (rule15 form s (nextRecord o (field t ps)) rs) (unsaid-number s (o + length t + 1) (castParts (shapeOf form t) ps)) (rule15-number form s (nextRecord o (field t ps)) rs) j p e
 
 -- ---- the first record can be written
 plain-mt : (form : Form) → shapeOf form (bytes "MT") ≡ Plain
@@ -103,8 +103,8 @@ first-fine form s r e =
     ∙ ap (λ (a : Answer). then (stoppedAt 3 a) Fine) (said-digits 3 (n .type) (n .three))
 
 -- ---- a sheet that 19 and 18 let pass
-module _ (s : List ℕ) (v : sheetVerdict s ≡ Fine) where
-  h : Sound s
+module _ (s : List ℕ) (v : verdict19And18 s ≡ Fine) where
+  h : SoundSheet s
   h = fine-sheet s v .0
 
   pub type-fine : rule18 (sheetForm s) ≡ Fine
@@ -118,7 +118,7 @@ module _ (s : List ℕ) (v : sheetVerdict s ≡ Fine) where
 
   rule15-is : rule15 (sheetForm s) (sheetSign s) 0 (records s) ≡ rule15 (sheetForm s) (sheetSign s) 7 ours
   rule15-is =
-      let z : nextOf 0 (h .head) ≡ 7 = omega (arith, named-size (h .head) (h .names)) in
+      let z : nextRecord 0 (h .head) ≡ 7 = omega (arith, named-size (h .head) (h .names)) in
       ap (rule15 (sheetForm s) (sheetSign s) 0) (h .list ∙ ap (λ (rs : List Record). h .head ∷ rs) (sound-behind s h))
       ∙ sym (rule15-cons (sheetForm s) (sheetSign s) 0 (h .head) ours)
       ∙ ap₂ (λ (u : Verdict) (k : ℕ). then (movedBy 0 u) (rule15 (sheetForm s) (sheetSign s) k ours)) (first-fine (sheetForm s) (sheetSign s) (h .head) (h .names)) z
@@ -129,7 +129,7 @@ module _ (s : List ℕ) (v : sheetVerdict s ≡ Fine) where
 
   -- where its first line ends
   abbrev end : ℕ
-  end = 0 + upTo 10 (drop 0 s)
+  end = 0 + countUpTo 10 (drop 0 s)
 
   goes-on : end ≡ length s → ⊥
   goes-on z = let n : _≡_ {A = ℕ} 0 (length (h .head ∷ h .behind)) = ap length (sym (none-ended s end refl {g = sheetSign s} refl z) ∙ h .list) in absurd (omega arith)
@@ -147,22 +147,22 @@ module _ (s : List ℕ) (v : sheetVerdict s ≡ Fine) where
   pub seven-within : 7 ≤ length s
   seven-within = let k = goes-on in let w = first-within s end refl {g = sheetSign s} refl in let z = end-six in omega (arith, k)
 
-  pub lines-good : badLine (sheetForm s) (sheetSign s) 7 (piecesAt 10 s 7) ≡ Fine
+  pub lines-good : badSheetLine (sheetForm s) (sheetSign s) 7 (piecesAt 10 s 7) ≡ Fine
   unfolding judged sheetForm
   lines-good =
       let j = judge-typed s end refl {g = sheetSign s} refl goes-on {form = sheetForm s} (ap typed head-is ∙ h .names) (ap namedForm (head-record s end refl {g = sheetSign s} refl goes-on)) refl in
-      let b : badLine (sheetForm s) (sheetSign s) (end + 1) (piecesAt 10 s (end + 1)) ≡ Fine
-      = then-clean (badLine (sheetForm s) (sheetSign s) (end + 1) (piecesAt 10 s (end + 1))) (rule18 (sheetForm s)) (ap (λ (x : Judged). x .verdict) j ∙ v) .0 in
-      subst (λ (k : ℕ). badLine (sheetForm s) (sheetSign s) (k + 1) (piecesAt 10 s (k + 1)) ≡ Fine) end-six b
+      let b : badSheetLine (sheetForm s) (sheetSign s) (end + 1) (piecesAt 10 s (end + 1)) ≡ Fine
+      = then-clean (badSheetLine (sheetForm s) (sheetSign s) (end + 1) (piecesAt 10 s (end + 1))) (rule18 (sheetForm s)) (ap (λ (x : Judged). x .verdict) j ∙ v) .0 in
+      subst (λ (k : ℕ). badSheetLine (sheetForm s) (sheetSign s) (k + 1) (piecesAt 10 s (k + 1)) ≡ Fine) end-six b
 
-  -- the type and the sign as they were told
+  -- the type and the sign as the sheet names them
   module _ {form : Form} {g : Bool} (k : form ≡ sheetForm s) (i : g ≡ sheetSign s) where
-    pub told-good : badLine form g 7 (piecesAt 10 s 7) ≡ Fine
-    told-good = ap₂ (λ (n : Form) (b : Bool). badLine n b 7 (piecesAt 10 s 7)) k i ∙ lines-good
+    pub typed-good : badSheetLine form g 7 (piecesAt 10 s 7) ≡ Fine
+    typed-good = ap₂ (λ (n : Form) (b : Bool). badSheetLine n b 7 (piecesAt 10 s 7)) k i ∙ lines-good
 
-    pub told-built : {m mid : List ℕ} {r : Step} → Adds (rule15 form g 7 ours) (someCrowded form g ours) (message (spread form g ours)) m 0 r mid
+    pub typed-built : {m mid : List ℕ} {r : Step} → Adds (rule15 form g 7 ours) (someCrowded form g ours) (message (spread form g ours)) m 0 r mid
         → Adds (rule15 (sheetForm s) (sheetSign s) 7 ours) (someCrowded (sheetForm s) (sheetSign s) ours) (message (spread (sheetForm s) (sheetSign s) ours)) m 0 r mid
-    told-built {m} {mid} {r} a =
+    typed-built {m} {mid} {r} a =
         subst (λ (n : Form). Adds (rule15 n (sheetSign s) 7 ours) (someCrowded n (sheetSign s) ours) (message (spread n (sheetSign s) ours)) m 0 r mid) k
         (subst (λ (b : Bool). Adds (rule15 form b 7 ours) (someCrowded form b ours) (message (spread form b ours)) m 0 r mid) i a)
 
@@ -229,8 +229,8 @@ module _ (s : List ℕ) (v : sheetVerdict s ≡ Fine) where
 pub too-long-sheet : (s out : List ℕ) → limit < length s → MessageTo s out (Refused 1 limit) out
 too-long-sheet s out h = refused-first s out (rw (is-long limit s h))
 
-pub bad-sheet : (s out : List ℕ) {n p : ℕ} → length s ≤ limit → sheetVerdict s ≡ Broken n p → MessageTo s out (Refused n p) out
-unfolding sheetVerdict
+pub bad-sheet : (s out : List ℕ) {n p : ℕ} → length s ≤ limit → verdict19And18 s ≡ Broken n p → MessageTo s out (Refused n p) out
+unfolding verdict19And18
 bad-sheet s out {n} {p} l e = refused-first s out (go (rule19 s) (rule18 (sheetForm s)) refl refl e)
   where
     go : (v w : Verdict) → rule19 s ≡ v → rule18 (sheetForm s) ≡ w → then v (then w Fine) ≡ Broken n p → first (sheetRules s) ≡ Broken n p
@@ -240,7 +240,7 @@ bad-sheet s out {n} {p} l e = refused-first s out (go (rule19 s) (rule18 (sheetF
 
 -- ---- what a judged sheet says
 module _ (s : List ℕ) {j : Judged} (e : j ≡ judged s) where
-  pub verdict-is : {v : Verdict} → j .verdict ≡ v → sheetVerdict s ≡ v
+  pub verdict-is : {v : Verdict} → j .verdict ≡ v → verdict19And18 s ≡ v
   unfolding judged
   verdict-is q = sym (ap (λ (x : Judged). x .verdict) e) ∙ q
 

@@ -10,7 +10,7 @@ use lib.ListN.{length, take, drop, length-append}
 use lib.Seq.{take-append-seam}
 use borrow.Author.Tests.{eqb-true}
 use Rattle.base.specs.Choice.{all}
-use Rattle.base.specs.Bytes.{digit, xset, upTo}
+use Rattle.base.specs.Bytes.{digit, xset, countUpTo}
 use Rattle.base.specs.Rules.{then}
 use Rattle.base.specs.Calls.{Answer, said, textOf, placed, Puts}
 use Rattle.base.specs.declared.Verdict.{Verdict}
@@ -21,27 +21,27 @@ use Rattle.base.proofs.Room.{over-sets, puts-put, puts-on, puts-by}
 use Rattle.alphabets.specs.Bank.{plainly}
 use Rattle.alphabets.specs.Best.{writing}
 use Rattle.alphabets.proofs.Theorems.{plain-iff}
-use Rattle.fields.specs.Field.{laid}
+use Rattle.fields.specs.Field.{withCrLf}
 use Rattle.fields.specs.ByLines.{joined}
-use Rattle.fields.proofs.PlaceLaws.{laid-joined}
+use Rattle.fields.proofs.PlaceLaws.{crlf-joined}
 use Rattle.roles.specs.Speech.{codeSize}
 use Rattle.records.specs.Found.{piecesAt}
-use Rattle.records.specs.Rule19.{digits, sole, detailed}
+use Rattle.records.specs.Rule19.{isDigits, sole, detailed}
 use Rattle.records.proofs.PieceLaws.{pieces-at, past-end, end-within, piece-length, at-from, last-at, some-piece}
 use Rattle.details.specs.Lines.{together, Later, none, line, Division, lines}
 use Rattle.details.specs.Breaking.{Fit, fits, unfit}
-use Rattle.details.specs.Layouts.{Layout, layout, divided, DivisionIn, behind, linesOf, linesFor, laidFor, sizeFor, Lays}
+use Rattle.details.specs.Layouts.{Layout, layout, divided, DivisionIn, laterBytes, fitLines, linesFor, laidFor, sizeFor, Lays}
 use Rattle.details.specs.Layouts as layouts
-use Rattle.details.specs.declared.Place.{Place}
-use Rattle.details.specs.declared.Place.the-variants.{In70, In72, BehindRpp}
+use Rattle.details.specs.declared.DetailsField.{DetailsField}
+use Rattle.details.specs.declared.DetailsField.the-variants.{In70, In72, BehindRpp}
 use Rattle.details.specs.declared.Size.the-variants as size
-use Rattle.details.proofs.PlaceLaws.{bytes-not}
+use Rattle.details.proofs.LayoutLaws.{bytes-not}
 use Rattle.details.proofs.DivisionTheorems.{Fitted, fitted, none-unfit, laid-lines}
-use Rattle.writer.specs.Spread.{coded, code, told}
+use Rattle.writer.specs.Spread.{coded, code, codeAndText}
 use Rattle.writer.specs.Sheet.{stoppedAt, unsaid, isUnfit}
 use Rattle.writer.specs.declared.Step.{Step}
 use Rattle.writer.specs.declared.Step.the-variants.{Unfit, Put}
-use Rattle.writer.specs.Steps.{Adds, Tells}
+use Rattle.writer.specs.Steps.{Adds, AddsDetails}
 use Rattle.writer.proofs.StepLaws.{came-put, adds-by, adds-unfit, adds-put, adds-cut}
 
 -- ---- the code
@@ -57,10 +57,10 @@ later-text : {ok : ℕ → Bool} {ws : List ℕ} {ls : List (List ℕ)} → Late
 later-text none = omega arith
 later-text (line {w} {x} {ws} {l} {ls} h o m) = let i = later-text m in omega (arith, length-append (x ∷ l) (together ls))
 
-later-laid : {ok : ℕ → Bool} {ws : List ℕ} {ls : List (List ℕ)} (next : List ℕ) → Later ok ws ls → length (behind next ls) ≤ roomOf (2 + length next) ws
+later-laid : {ok : ℕ → Bool} {ws : List ℕ} {ls : List (List ℕ)} (next : List ℕ) → Later ok ws ls → length (laterBytes next ls) ≤ roomOf (2 + length next) ws
 later-laid next none = omega arith
 later-laid next (line {w} {x} {ws} {l} {ls} h o m) =
-    let i = later-laid next m in omega (arith, length-append (13 ∷ 10 ∷ next) ((x ∷ l) ++ behind next ls), length-append (x ∷ l) (behind next ls))
+    let i = later-laid next m in omega (arith, length-append (13 ∷ 10 ∷ next) ((x ∷ l) ++ laterBytes next ls), length-append (x ∷ l) (laterBytes next ls))
 
 division-text : {ok : ℕ → Bool} {least w : ℕ} {ws text : List ℕ} {ls : List (List ℕ)} → Division ok least text (w ∷ ws) ls → length text ≤ w + roomOf 0 ws
 division-text (lines {l = l} {ls = ls} a b h m e) = omega (arith, later-text m, length-append l (together ls), ap length e)
@@ -68,59 +68,59 @@ division-text (lines {l = l} {ls = ls} a b h m e) = omega (arith, later-text m, 
 division-laid : {ok : ℕ → Bool} {least w : ℕ} {ws text : List ℕ} {ls : List (List ℕ)} (v : Layout) → Division ok least text (w ∷ ws) ls
     → length (layouts.laid v ls) ≤ length (v .mark) + w + roomOf (2 + length (v .next)) ws
 division-laid v (lines {l = l} {ls = ls} a b h m e) =
-    omega (arith, later-laid (v .next) m, length-append (v .mark) (l ++ behind (v .next) ls), length-append l (behind (v .next) ls))
+    omega (arith, later-laid (v .next) m, length-append (v .mark) (l ++ laterBytes (v .next) ls), length-append l (laterBytes (v .next) ls))
 
 -- no place has room for more than 248 bytes
-place-text : (p : Place) {least : ℕ} {text : List ℕ} {ls : List (List ℕ)} → DivisionIn (layout p) least text ls → length text ≤ 248
-place-text In70 d = omega (arith, division-text d)
-place-text In72 d = omega (arith, division-text d)
-place-text BehindRpp d = omega (arith, division-text d)
+field-text : (p : DetailsField) {least : ℕ} {text : List ℕ} {ls : List (List ℕ)} → DivisionIn (layout p) least text ls → length text ≤ 248
+field-text In70 d = omega (arith, division-text d)
+field-text In72 d = omega (arith, division-text d)
+field-text BehindRpp d = omega (arith, division-text d)
 
-place-laid : (p : Place) {least : ℕ} {text : List ℕ} {ls : List (List ℕ)} → DivisionIn (layout p) least text ls → length (layouts.laid (layout p) ls) ≤ 248
-place-laid In70 d = omega (arith, division-laid (layout In70) d)
-place-laid In72 d = omega (arith, division-laid (layout In72) d)
-place-laid BehindRpp d = omega (arith, division-laid (layout BehindRpp) d)
+field-laid : (p : DetailsField) {least : ℕ} {text : List ℕ} {ls : List (List ℕ)} → DivisionIn (layout p) least text ls → length (layouts.laid (layout p) ls) ≤ 248
+field-laid In70 d = omega (arith, division-laid (layout In70) d)
+field-laid In72 d = omega (arith, division-laid (layout In72) d)
+field-laid BehindRpp d = omega (arith, division-laid (layout BehindRpp) d)
 
-pub too-long : (p : Place) (least : ℕ) (text : List ℕ) → 248 < length text → sizeFor p least text ≡ size.Unfit
-too-long p least text h = none-unfit p least text (λ ls d. omega (arith, place-text p d))
+pub too-long : (p : DetailsField) (least : ℕ) (text : List ℕ) → 248 < length text → sizeFor p least text ≡ size.Unfit
+too-long p least text h = none-unfit p least text (λ ls d. omega (arith, field-text p d))
 
 -- ---- lines and the CR LF behind the last
-module _ (p : Place) (least : ℕ) (text : List ℕ) (n : ℕ) (e : size.Bytes n ≡ sizeFor p least text) where
+module _ (p : DetailsField) (least : ℕ) (text : List ℕ) (n : ℕ) (e : size.Bytes n ≡ sizeFor p least text) where
   fit : Fitted p least text n
   fit = fitted p least text n (sym e)
 
   pub laid-few : n ≤ 248
   unfolding laidFor
-  laid-few = let k : length (layouts.laid (layout p) (fit .ls)) ≡ n = ap (λ (a : Fit (List (List ℕ))). length (layouts.laid (layout p) (linesOf a))) (sym (fit .is)) ∙ sym (fit .long) in omega (arith, place-laid p (fit .division))
+  laid-few = let k : length (layouts.laid (layout p) (fit .ls)) ≡ n = ap (λ (a : Fit (List (List ℕ))). length (layouts.laid (layout p) (fitLines a))) (sym (fit .is)) ∙ sym (fit .long) in omega (arith, field-laid p (fit .division))
 
-  laid-whole : laidFor p least text ++ 13 ∷ 10 ∷ [] ≡ laid (linesFor p least text)
+  laid-whole : laidFor p least text ++ 13 ∷ 10 ∷ [] ≡ withCrLf (linesFor p least text)
   unfolding linesFor
-  laid-whole = ap (λ (t : List ℕ). t ++ 13 ∷ 10 ∷ []) (laid-lines p least text) ∙ sym (go (linesOf (divided (layout p) least text)) (ap linesOf (fit .is)))
+  laid-whole = ap (λ (t : List ℕ). t ++ 13 ∷ 10 ∷ []) (laid-lines p least text) ∙ sym (go (fitLines (divided (layout p) least text)) (ap fitLines (fit .is)))
     where
-      by : {ok : ℕ → Bool} {ws : List ℕ} {ls : List (List ℕ)} → Division ok least text ws ls → laid (layouts.marked (layout p) ls) ≡ joined (layouts.marked (layout p) ls) ++ 13 ∷ 10 ∷ []
-      by (lines {l = l} {ls = ls} a b h m e) = laid-joined (layout p .mark ++ l) (map (λ (k : List ℕ). layout p .next ++ k) ls)
+      by : {ok : ℕ → Bool} {ws : List ℕ} {ls : List (List ℕ)} → Division ok least text ws ls → withCrLf (layouts.marked (layout p) ls) ≡ joined (layouts.marked (layout p) ls) ++ 13 ∷ 10 ∷ []
+      by (lines {l = l} {ls = ls} a b h m e) = crlf-joined (layout p .mark ++ l) (map (λ (k : List ℕ). layout p .next ++ k) ls)
 
-      go : (ls : List (List ℕ)) → ls ≡ fit .ls → laid (layouts.marked (layout p) ls) ≡ joined (layouts.marked (layout p) ls) ++ 13 ∷ 10 ∷ []
-      go ls q = subst (λ (ks : List (List ℕ)). laid (layouts.marked (layout p) ks) ≡ joined (layouts.marked (layout p) ks) ++ 13 ∷ 10 ∷ []) (sym q) (by (fit .division))
+      go : (ls : List (List ℕ)) → ls ≡ fit .ls → withCrLf (layouts.marked (layout p) ls) ≡ joined (layouts.marked (layout p) ls) ++ 13 ∷ 10 ∷ []
+      go ls q = subst (λ (ks : List (List ℕ)). withCrLf (layouts.marked (layout p) ks) ≡ joined (layouts.marked (layout p) ks) ++ 13 ∷ 10 ∷ []) (sym q) (by (fit .division))
 
-  pub lines-few : length (laid (linesFor p least text)) ≤ 250
+  pub lines-few : length (withCrLf (linesFor p least text)) ≤ 250
   lines-few = omega (arith, laid-few, fit .long, ap length laid-whole, length-append (laidFor p least text) (13 ∷ 10 ∷ []))
 
-  pub lines-put : {out mid after : List ℕ} {at r : ℕ} → Lays p least text out at r mid → after ≡ placed mid (at + n) (13 ∷ 10 ∷ []) → Adds Fine (isUnfit (sizeFor p least text)) (laid (linesFor p least text)) out at (Put (at + n + 2)) after
+  pub lines-put : {out mid after : List ℕ} {at r : ℕ} → Lays p least text out at r mid → after ≡ placed mid (at + n) (13 ∷ 10 ∷ []) → Adds Fine (isUnfit (sizeFor p least text)) (withCrLf (linesFor p least text)) out at (Put (at + n + 2)) after
   lines-put {at = at} l f =
       adds-put refl (sym (ap isUnfit e))
       (puts-by laid-whole
       (puts-on (laidFor p least text) (13 ∷ 10 ∷ []) (puts-put {u = laidFor p least text} (ap (λ (k : ℕ). at + k) (fit .long)) (l .leaves)) (puts-put {u = 13 ∷ 10 ∷ []} refl f)))
 
-pub unfit-lines : (p : Place) (least : ℕ) (text : List ℕ) → sizeFor p least text ≡ size.Unfit → linesFor p least text ≡ []
+pub unfit-lines : (p : DetailsField) (least : ℕ) (text : List ℕ) → sizeFor p least text ≡ size.Unfit → linesFor p least text ≡ []
 unfolding sizeFor linesFor
 unfit-lines p least text e = go (divided (layout p) least text) e
   where
-    go : (d : Fit (List (List ℕ))) → layouts.sizeOf (layout p) d ≡ size.Unfit → layouts.marked (layout p) (linesOf d) ≡ []
+    go : (d : Fit (List (List ℕ))) → layouts.fitSize (layout p) d ≡ size.Unfit → layouts.marked (layout p) (fitLines d) ≡ []
     go (fits ls) e = absurd (bytes-not e)
     go unfit e = refl
 
-pub lines-unfit : (p : Place) (least : ℕ) (text out : List ℕ) (at : ℕ) → size.Unfit ≡ sizeFor p least text → Adds Fine (isUnfit (sizeFor p least text)) (laid (linesFor p least text)) out at Unfit out
+pub lines-unfit : (p : DetailsField) (least : ℕ) (text out : List ℕ) (at : ℕ) → size.Unfit ≡ sizeFor p least text → Adds Fine (isUnfit (sizeFor p least text)) (withCrLf (linesFor p least text)) out at Unfit out
 lines-unfit p least text out at e = adds-unfit refl (sym (ap isUnfit e))
 
 -- ---- the parts of a record as code finds them
@@ -137,7 +137,7 @@ pub sole-part : (l : List ℕ) (i : ℕ) → i ≤ length l → sole (piecesAt 9
 sole-part l i h g = go (decLt e (length l))
   where
     e : ℕ
-    e = i + upTo 9 (drop i l)
+    e = i + countUpTo 9 (drop i l)
 
     one : (p : List ℕ) (ps : List (List ℕ)) → sole (p ∷ ps) ≡ true → ps ≡ []
     one p [] z = refl
@@ -153,44 +153,44 @@ sole-part l i h g = go (decLt e (length l))
         last-at 9 l i e h refl z ∙ ap (λ (n : ℕ). take (n - i) (drop i l) ∷ []) z
 
 -- ---- digits are copied as they are
-pub said-digits : (n : ℕ) (p : List ℕ) → digits n p ≡ true → plainly p ≡ said p
-unfolding digits
+pub said-digits : (n : ℕ) (p : List ℕ) → isDigits n p ≡ true → plainly p ≡ said p
+unfolding isDigits
 said-digits n p e = plain-iff p .1 (all-imp digit xset digit-set p (right (eqb (length p) n) (all digit p) e))
 
-digits-long : (n : ℕ) (p : List ℕ) → digits n p ≡ true → length p ≡ n
-unfolding digits
+digits-long : (n : ℕ) (p : List ℕ) → isDigits n p ≡ true → length p ≡ n
+unfolding isDigits
 digits-long n p e = eqb-true (length p) n (left (eqb (length p) n) (all digit p) e)
 
 -- ---- details: five VO digits from i on, a tab, and a text up to the end
 pub record Detailed (l : List ℕ) (i : ℕ) : Type 0 where
   pub parts : piecesAt 9 l i ≡ take (i + 5 - i) (drop i l) ∷ take (length l - (i + 6)) (drop (i + 6) l) ∷ []
-  pub five : digits 5 (take (i + 5 - i) (drop i l)) ≡ true
+  pub five : isDigits 5 (take (i + 5 - i) (drop i l)) ≡ true
   pub inside : i + 6 ≤ length l
 
 pub detailed-at : (l : List ℕ) (i : ℕ) → detailed (piecesAt 9 l i) ≡ true → Detailed l i
 detailed-at l i d =
     let y : v + 1 ≡ i + 6 = omega (arith, z) in
     record {
-      parts = pieces-at 9 l i v h refl ∙ ap (λ (ps : List (List ℕ)). take (v - i) (drop i l) ∷ ps) (sole-part l (v + 1) w (right (digits 5 (take (v - i) (drop i l))) _ both))
+      parts = pieces-at 9 l i v h refl ∙ ap (λ (ps : List (List ℕ)). take (v - i) (drop i l) ∷ ps) (sole-part l (v + 1) w (right (isDigits 5 (take (v - i) (drop i l))) _ both))
           ∙ ap₂ (λ (k j : ℕ). take (k - i) (drop i l) ∷ take (length l - j) (drop j l) ∷ []) z y;
-      five = subst (λ (k : ℕ). digits 5 (take (k - i) (drop i l)) ≡ true) z (left (digits 5 (take (v - i) (drop i l))) _ both);
+      five = subst (λ (k : ℕ). isDigits 5 (take (k - i) (drop i l)) ≡ true) z (left (isDigits 5 (take (v - i) (drop i l))) _ both);
       inside = omega (arith, w, z);
     }
   where
     v : ℕ
-    v = i + upTo 9 (drop i l)
+    v = i + countUpTo 9 (drop i l)
 
     h : i ≤ length l
     h = some-within detailed l i refl d
 
-    both : (digits 5 (take (v - i) (drop i l)) && sole (piecesAt 9 l (v + 1))) ≡ true
+    both : (isDigits 5 (take (v - i) (drop i l)) && sole (piecesAt 9 l (v + 1))) ≡ true
     both = sym (ap detailed (pieces-at 9 l i v h refl)) ∙ d
 
     w : v + 1 ≤ length l
-    w = some-within sole l (v + 1) refl (right (digits 5 (take (v - i) (drop i l))) _ both)
+    w = some-within sole l (v + 1) refl (right (isDigits 5 (take (v - i) (drop i l))) _ both)
 
     z : v ≡ i + 5
-    z = omega (arith, digits-long 5 (take (v - i) (drop i l)) (left (digits 5 (take (v - i) (drop i l))) _ both), piece-length l i v (omega arith) (end-within 9 l i v h refl))
+    z = omega (arith, digits-long 5 (take (v - i) (drop i l)) (left (isDigits 5 (take (v - i) (drop i l))) _ both), piece-length l i v (omega arith) (end-within 9 l i v h refl))
 
 module _ {l : List ℕ} {i : ℕ} (w : Detailed l i) where
   abbrev vo : List ℕ
@@ -205,9 +205,9 @@ module _ {l : List ℕ} {i : ℕ} (w : Detailed l i) where
   pub text-long : length text ≡ length l - (i + 6)
   text-long = piece-length l (i + 6) (length l) (w .inside) (omega arith)
 
-  module _ (s : Bool) (p : Place) where
+  module _ (s : Bool) (p : DetailsField) where
     abbrev whole : List ℕ
-    whole = told s (vo ∷ text ∷ [])
+    whole = codeAndText s (vo ∷ text ∷ [])
 
     stops : then (stoppedAt (i + 6) (writing s text)) Fine ≡ unsaid s i (coded (vo ∷ text ∷ []))
     unfolding unsaid
@@ -216,13 +216,13 @@ module _ {l : List ℕ} {i : ℕ} (w : Detailed l i) where
         ap (λ (o : ℕ). then (stoppedAt o (writing s text)) Fine) z
         ∙ ap (λ (a : Answer). then (stoppedAt i a) (then (stoppedAt (i + length vo + 1) (writing s text)) Fine)) (sym (said-digits 5 vo (w .five)))
 
-    tells : {out after : List ℕ} {at : ℕ} {r : Step} → Adds (then (stoppedAt (i + 6) (writing s text)) Fine) (isUnfit (sizeFor p (codeSize s) whole)) (laid (linesFor p (codeSize s) whole)) out at r after → Tells s p i (piecesAt 9 l i) out at r after
-    tells {out} {after} {at} {r} a = subst (λ (ps : List (List ℕ)). Tells s p i ps out at r after) (sym (w .parts)) (adds-by stops refl a)
+    tells : {out after : List ℕ} {at : ℕ} {r : Step} → Adds (then (stoppedAt (i + 6) (writing s text)) Fine) (isUnfit (sizeFor p (codeSize s) whole)) (withCrLf (linesFor p (codeSize s) whole)) out at r after → AddsDetails s p i (piecesAt 9 l i) out at r after
+    tells {out} {after} {at} {r} a = subst (λ (ps : List (List ℕ)). AddsDetails s p i ps out at r after) (sym (w .parts)) (adds-by stops refl a)
 
     -- the text behind the code, in a room of its own
     module _ {least : ℕ} {mid last : List ℕ} {q : Step} (a : Adds (stoppedAt (i + 6) (writing s text)) false (textOf (writing s text)) mid least q last) where
-      pub tell-stop : (out : List ℕ) (at : ℕ) → ((m : ℕ) → q ≡ Put m → ⊥) → Tells s p i (piecesAt 9 l i) out at q out
-      tell-stop out at nope = tells (adds-cut (stoppedAt (i + 6) (writing s text)) Fine (textOf (writing s text)) q nope a)
+      pub details-stop : (out : List ℕ) (at : ℕ) → ((m : ℕ) → q ≡ Put m → ⊥) → AddsDetails s p i (piecesAt 9 l i) out at q out
+      details-stop out at nope = tells (adds-cut (stoppedAt (i + 6) (writing s text)) Fine (textOf (writing s text)) q nope a)
 
       module _ {room : List ℕ} (f : Puts (code s vo) room 0 least mid) {n : ℕ} (g : q ≡ Put n) where
         known : (stoppedAt (i + 6) (writing s text) ≡ Fine) × (_≡_ {A = Bool} false false) × (n ≡ least + length (textOf (writing s text)))
@@ -238,13 +238,13 @@ module _ {l : List ℕ} {i : ℕ} (w : Detailed l i) where
             let q : last ≡ whole ++ drop (length whole) room = u .fills (omega (arith, whole-long)) ∙ sym (over-sets whole room (omega (arith, whole-long))) in
             ap₂ (λ (k : ℕ) (l : List ℕ). take k l) whole-long q ∙ take-append-seam whole (drop (length whole) room)
 
-        pub tell-over : (out : List ℕ) (at : ℕ) → 250 < n → Tells s p i (piecesAt 9 l i) out at Unfit out
-        tell-over out at h = tells (adds-unfit (ap (λ (v : Verdict). then v Fine) (known .0)) (ap isUnfit (too-long p (codeSize s) whole (omega (arith, whole-long)))))
+        pub details-over : (out : List ℕ) (at : ℕ) → 250 < n → AddsDetails s p i (piecesAt 9 l i) out at Unfit out
+        details-over out at h = tells (adds-unfit (ap (λ (v : Verdict). then v Fine) (known .0)) (ap isUnfit (too-long p (codeSize s) whole (omega (arith, whole-long)))))
 
-        pub tell-put : {out after : List ℕ} {at : ℕ} {r : Step} → n ≤ length room → least ≡ codeSize s
-            → Adds Fine (isUnfit (sizeFor p least (take n last))) (laid (linesFor p least (take n last))) out at r after → Tells s p i (piecesAt 9 l i) out at r after
-        tell-put {out} {after} {at} {r} h e d =
+        pub details-put : {out after : List ℕ} {at : ℕ} {r : Step} → n ≤ length room → least ≡ codeSize s
+            → Adds Fine (isUnfit (sizeFor p least (take n last))) (withCrLf (linesFor p least (take n last))) out at r after → AddsDetails s p i (piecesAt 9 l i) out at r after
+        details-put {out} {after} {at} {r} h e d =
             tells
-            (subst (λ (v : Verdict). Adds (then v Fine) (isUnfit (sizeFor p (codeSize s) whole)) (laid (linesFor p (codeSize s) whole)) out at r after) (sym (known .0))
-            (subst (λ (t : List ℕ). Adds Fine (isUnfit (sizeFor p (codeSize s) t)) (laid (linesFor p (codeSize s) t)) out at r after) (whole-is h)
-            (subst (λ (k : ℕ). Adds Fine (isUnfit (sizeFor p k (take n last))) (laid (linesFor p k (take n last))) out at r after) e d)))
+            (subst (λ (v : Verdict). Adds (then v Fine) (isUnfit (sizeFor p (codeSize s) whole)) (withCrLf (linesFor p (codeSize s) whole)) out at r after) (sym (known .0))
+            (subst (λ (t : List ℕ). Adds Fine (isUnfit (sizeFor p (codeSize s) t)) (withCrLf (linesFor p (codeSize s) t)) out at r after) (whole-is h)
+            (subst (λ (k : ℕ). Adds Fine (isUnfit (sizeFor p k (take n last))) (withCrLf (linesFor p k (take n last))) out at r after) e d)))

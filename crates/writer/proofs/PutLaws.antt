@@ -12,7 +12,7 @@ use Rattle.roles.proofs.Shape.{the-type}
 use Rattle.roles.proofs.PartLaws.{each-lined}
 use lib.ListN.{length, take, drop, length-append}
 use Rattle.base.specs.Choice.{pick}
-use Rattle.base.specs.Bytes.{begins, empty, upTo}
+use Rattle.base.specs.Bytes.{begins, empty, countUpTo}
 use Rattle.base.specs.Rules.{then}
 use Rattle.base.specs.Calls.{Answer, said, stuck, Puts}
 use Rattle.base.specs.declared.Verdict.{Verdict}
@@ -20,20 +20,20 @@ use Rattle.base.specs.declared.Verdict.the-variants.{Fine, Broken}
 use Rattle.base.proofs.Bools.{left, right}
 use Rattle.base.proofs.RuleLaws.{fine-broken, then-fine}
 use Rattle.alphabets.specs.Bank.{plainly}
-use Rattle.fields.specs.Field.{field, laid, lined, linesOf, closing}
+use Rattle.fields.specs.Field.{field, withCrLf, lined, linesOf, closing}
 use Rattle.fields.specs.Shapes.{shaped, pack, unpack}
 use Rattle.fields.proofs.PackLaws.{unpack-pack}
-use Rattle.fields.proofs.PlaceLaws.{laid-append}
+use Rattle.fields.proofs.PlaceLaws.{crlf-append}
 use Rattle.contents.specs.Tests.{looksTax}
 use Rattle.roles.specs.Role.{Part, copy, name, taxName, taxed, cast, shapeOf, lineOf}
 use Rattle.roles.specs.Speech.{codeSize}
 use Rattle.roles.specs.declared.Shape.{Shape}
 use Rattle.roles.specs.declared.Shape.the-variants.{Details, Note103, Note202}
 use Rattle.records.specs.Record.{Record, line, recordOf}
-use Rattle.records.specs.Places.{nextOf}
-use Rattle.records.specs.Found.{piecesAt, tagNumber, badLine}
-use Rattle.records.specs.Rule19.{sole, detailed, noted, sound, good}
-use Rattle.records.specs.Sentences.{Right, plain, agent, payer, payee, details, note103, note202}
+use Rattle.records.specs.Places.{nextRecord}
+use Rattle.records.specs.Found.{piecesAt, tagNumber, badSheetLine}
+use Rattle.records.specs.Rule19.{sole, detailed, rppAndDetailed, sound, good}
+use Rattle.records.specs.Sentences.{RightParts, plain, agent, payer, payee, details, note103, note202}
 use Rattle.records.proofs.PieceLaws.{end-within, piece-length}
 use Rattle.records.proofs.PlaceLaws.{front-at, front-end}
 use Rattle.records.proofs.FoundLaws.{record-at, tag-size}
@@ -44,27 +44,27 @@ use Rattle.details.specs.Lines.{Division, lines}
 use Rattle.details.specs.Breaking.{Fit}
 use Rattle.details.specs.Layouts.{layout, linesFor, divided, marked, sizeFor}
 use Rattle.details.specs.Layouts as layouts
-use Rattle.details.specs.declared.Place.{Place}
-use Rattle.details.specs.declared.Place.the-variants.{In70}
+use Rattle.details.specs.declared.DetailsField.{DetailsField}
+use Rattle.details.specs.declared.DetailsField.the-variants.{In70}
 use Rattle.details.specs.declared.Size.{Size}
 use Rattle.details.specs.declared.Size.the-variants as size
 use Rattle.details.proofs.DivisionTheorems.{fitted}
-use Rattle.writer.specs.Spread.{saidPart, castParts, lineFor, told, rppLine, notePlace, noteLines, contentLines, fieldFor, spread}
+use Rattle.writer.specs.Spread.{saidPart, castParts, lineFor, codeAndText, rppLine, noteField, noteLines, contentLines, fieldFor, spread}
 use Rattle.writer.specs.Sheet.{stoppedAt, unsaid, rule15, isUnfit, crowdedNote, crowded, someCrowded}
 use Rattle.writer.specs.declared.Step.{Step}
 use Rattle.writer.specs.declared.Step.the-variants.{Stuck, Unfit}
 use Rattle.roles.specs.Parts.{castBy, firstRole}
 use Rattle.roles.specs.declared.Role.{Role}
-use Rattle.writer.specs.Steps.{Adds, Tells, recordStops, recordCrowded, recordsAt}
+use Rattle.writer.specs.Steps.{Adds, AddsDetails, recordStops, recordCrowded, recordsAt}
 use Rattle.writer.proofs.StepLaws.{adds-by, adds-alike, adds-stuck, adds-front, Goes, adds-join, movedBy, came-stuck}
 use Rattle.writer.proofs.PurposeLaws.{some-within, sole-part}
 
 -- ---- the content of a record, by the shape of its tag
 abbrev ContentIn : Bool → ℕ → List (List ℕ) → List ℕ → List ℕ → ℕ → Step → Shape → Type 0
-ContentIn s o ps out after at r sh = Adds (unsaid s o (castParts sh ps)) (crowded s sh ps) (laid (contentLines s sh ps)) out at r after
+ContentIn s o ps out after at r sh = Adds (unsaid s o (castParts sh ps)) (crowded s sh ps) (withCrLf (contentLines s sh ps)) out at r after
 
 abbrev ByRole : Bool → ℕ → List (List ℕ) → List ℕ → List ℕ → ℕ → Step → Role → Type 0
-ByRole s o ps out after at r role = Adds (unsaid s o (castBy role ps)) false (laid (map (lineFor s) (castBy role ps))) out at r after
+ByRole s o ps out after at r role = Adds (unsaid s o (castBy role ps)) false (withCrLf (map (lineFor s) (castBy role ps))) out at r after
 
 module _ (s : Bool) (o : ℕ) (ps : List (List ℕ)) {out after : List ℕ} {at : ℕ} {r : Step} where
   -- parts that are all lines
@@ -73,21 +73,21 @@ module _ (s : Bool) (o : ℕ) (ps : List (List ℕ)) {out after : List ℕ} {at 
   content-parts sh h e a =
       each-lined (λ x. ByRole s o ps out after at r (firstRole x) → ContentIn s o ps out after at r x) (λ z. z) (λ z. z) (λ z. z) (λ z. z) sh h (subst (ByRole s o ps out after at r) e a)
 
-  pub content-told : {sh : Shape} → sh ≡ Details → Tells s In70 o ps out at r after → ContentIn s o ps out after at r sh
+  pub content-details : {sh : Shape} → sh ≡ Details → AddsDetails s In70 o ps out at r after → ContentIn s o ps out after at r sh
   unfolding crowded contentLines
-  content-told e a = subst (ContentIn s o ps out after at r) (sym e) a
+  content-details e a = subst (ContentIn s o ps out after at r) (sym e) a
 
-  pub content-note : {sh : Shape} → sh ≡ Note202 → Adds (unsaid s o (castParts Note202 ps)) (crowdedNote s ps) (laid (noteLines s ps)) out at r after → ContentIn s o ps out after at r sh
+  pub content-note : {sh : Shape} → sh ≡ Note202 → Adds (unsaid s o (castParts Note202 ps)) (crowdedNote s ps) (withCrLf (noteLines s ps)) out at r after → ContentIn s o ps out after at r sh
   unfolding crowded contentLines
   content-note e a = subst (ContentIn s o ps out after at r) (sym e) a
 
 pub content-rpp : (s : Bool) (l : List ℕ) (o : ℕ) {out after : List ℕ} {at : ℕ} {r : Step} {sh : Shape} → sh ≡ Note103 → o ≤ length l → sound s sh (piecesAt 9 l o) ≡ true
-    → Adds (stoppedAt o (plainly (take (length l - o) (drop o l)))) false (laid (rppLine (take (length l - o) (drop o l)) ∷ [])) out at r after
-    → Adds (unsaid s o (castParts sh (piecesAt 9 l o))) (crowded s sh (piecesAt 9 l o)) (laid (contentLines s sh (piecesAt 9 l o))) out at r after
+    → Adds (stoppedAt o (plainly (take (length l - o) (drop o l)))) false (withCrLf (rppLine (take (length l - o) (drop o l)) ∷ [])) out at r after
+    → Adds (unsaid s o (castParts sh (piecesAt 9 l o))) (crowded s sh (piecesAt 9 l o)) (withCrLf (contentLines s sh (piecesAt 9 l o))) out at r after
 unfolding sound cast crowded contentLines unsaid
 content-rpp s l o {out} {after} {at} {r} {sh} e h g a =
-    subst (λ (x : Shape). Adds (unsaid s o (castParts x (piecesAt 9 l o))) (crowded s x (piecesAt 9 l o)) (laid (contentLines s x (piecesAt 9 l o))) out at r after) (sym e)
-    (subst (λ (ps : List (List ℕ)). Adds (unsaid s o (map copy ps)) false (laid (map rppLine ps)) out at r after) (sym (sole-part l o h (sym (ap (λ (x : Shape). sound s x (piecesAt 9 l o)) e) ∙ g)))
+    subst (λ (x : Shape). Adds (unsaid s o (castParts x (piecesAt 9 l o))) (crowded s x (piecesAt 9 l o)) (withCrLf (contentLines s x (piecesAt 9 l o))) out at r after) (sym e)
+    (subst (λ (ps : List (List ℕ)). Adds (unsaid s o (map copy ps)) false (withCrLf (map rppLine ps)) out at r after) (sym (sole-part l o h (sym (ap (λ (x : Shape). sound s x (piecesAt 9 l o)) e) ∙ g)))
     (adds-by (sym (then-fine (stoppedAt o (plainly (take (length l - o) (drop o l)))))) refl a))
 
 pub sole-within : (s : Bool) (l : List ℕ) (i : ℕ) {sh : Shape} → sh ≡ Note103 → sound s sh (piecesAt 9 l i) ≡ true → i ≤ length l
@@ -97,11 +97,11 @@ sole-within s l i e g = some-within sole l i refl (sym (ap (λ (x : Shape). soun
 sound-as : (s : Bool) (ps : List (List ℕ)) {sh : Shape} (to : Shape) → sh ≡ to → sound s sh ps ≡ true → sound s to ps ≡ true
 sound-as s ps to e g = sym (ap (λ (x : Shape). sound s x ps) e) ∙ g
 
-pub sound-told : (s : Bool) (ps : List (List ℕ)) {sh : Shape} → sh ≡ Details → sound s sh ps ≡ true → detailed ps ≡ true
+pub sound-details : (s : Bool) (ps : List (List ℕ)) {sh : Shape} → sh ≡ Details → sound s sh ps ≡ true → detailed ps ≡ true
 unfolding sound
-sound-told s ps e g = sound-as s ps Details e g
+sound-details s ps e g = sound-as s ps Details e g
 
-pub sound-note : (s : Bool) (ps : List (List ℕ)) {sh : Shape} → sh ≡ Note202 → sound s sh ps ≡ true → noted ps ≡ true
+pub sound-note : (s : Bool) (ps : List (List ℕ)) {sh : Shape} → sh ≡ Note202 → sound s sh ps ≡ true → rppAndDetailed ps ≡ true
 unfolding sound
 sound-note s ps e g = sound-as s ps Note202 e g
 
@@ -115,18 +115,18 @@ some-behind : (ks ls : List (List ℕ)) → Some ls → Some (ks ++ ls)
 some-behind [] ls h = h
 some-behind (k ∷ ks) ls h = record { one = k; more = ks ++ ls; is = refl }
 
-some-told : (p : Place) (least : ℕ) (text : List ℕ) → isUnfit (sizeFor p least text) ≡ false → Some (linesFor p least text)
+some-details : (p : DetailsField) (least : ℕ) (text : List ℕ) → isUnfit (sizeFor p least text) ≡ false → Some (linesFor p least text)
 unfolding linesFor
-some-told p least text e = go (sizeFor p least text) refl e
+some-details p least text e = go (sizeFor p least text) refl e
   where
     by : {ok : ℕ → Bool} {ws : List ℕ} {ls : List (List ℕ)} → Division ok least text ws ls → Some (marked (layout p) ls)
     by (lines {l = l} {ls = ls} a b h m e) = record { one = layout p .mark ++ l; more = map (λ (k : List ℕ). layout p .next ++ k) ls; is = refl }
 
-    go : (z : Size) → sizeFor p least text ≡ z → isUnfit z ≡ false → Some (marked (layout p) (layouts.linesOf (divided (layout p) least text)))
+    go : (z : Size) → sizeFor p least text ≡ z → isUnfit z ≡ false → Some (marked (layout p) (layouts.fitLines (divided (layout p) least text)))
     go size.Unfit f g = absurd (true≢false g)
-    go (size.Bytes n) f g = let w = fitted p least text n f in subst (λ (a : Fit (List (List ℕ))). Some (marked (layout p) (layouts.linesOf a))) (sym (w .is)) (by (w .division))
+    go (size.Bytes n) f g = let w = fitted p least text n f in subst (λ (a : Fit (List (List ℕ))). Some (marked (layout p) (layouts.fitLines a))) (sym (w .is)) (by (w .division))
 
-content-some : (s : Bool) (sh : Shape) (ps : List (List ℕ)) → Right s sh ps → crowded s sh ps ≡ false → Some (contentLines s sh ps)
+content-some : (s : Bool) (sh : Shape) (ps : List (List ℕ)) → RightParts s sh ps → crowded s sh ps ≡ false → Some (contentLines s sh ps)
 unfolding crowded contentLines cast
 content-some s _ _ (plain p ps e g) c = record { one = p; more = map (lineFor s) (map copy ps); is = refl }
 content-some s _ _ (agent p ps e g) c = record { one = p; more = map (lineFor s) (map name ps); is = refl }
@@ -136,24 +136,24 @@ content-some s _ _ (payer p ps e g f) c = go (begins 47 p)
     go true = record { one = p; more = map (lineFor s) (taxed ps); is = refl }
     go false = record { one = lineFor s (pick (looksTax p) (copy p) (taxName p)); more = map (lineFor s) (map name ps); is = refl }
 content-some s _ _ (payee p ps e g f) c = record { one = lineFor s (pick (begins 47 p) (copy p) (name p)); more = map (lineFor s) (taxed ps); is = refl }
-content-some s _ _ (details vo text e g) c = some-told In70 (codeSize s) (told s (vo ∷ text ∷ [])) c
+content-some s _ _ (details vo text e g) c = some-details In70 (codeSize s) (codeAndText s (vo ∷ text ∷ [])) c
 content-some s _ _ (note103 rpp e) c = record { one = rppLine rpp; more = []; is = refl }
 content-some s _ _ (note202 rpp vo text e g) c =
-    some-behind (pick (empty rpp) [] (rppLine rpp ∷ [])) (linesFor (notePlace rpp) (codeSize s) (told s (vo ∷ text ∷ []))) (some-told (notePlace rpp) (codeSize s) (told s (vo ∷ text ∷ [])) c)
+    some-behind (pick (empty rpp) [] (rppLine rpp ∷ [])) (linesFor (noteField rpp) (codeSize s) (codeAndText s (vo ∷ text ∷ []))) (some-details (noteField rpp) (codeSize s) (codeAndText s (vo ∷ text ∷ [])) c)
 
 -- the field's tag before its lines
-lined-some : (t : List ℕ) (ls : List (List ℕ)) → Some ls → (58 ∷ t ++ 58 ∷ []) ++ laid ls ≡ laid (lined (field t ls))
-lined-some t ls h = subst (λ (ks : List (List ℕ)). (58 ∷ t ++ 58 ∷ []) ++ laid ks ≡ laid (lined (field t ks))) (sym (h .is)) (go (h .one) (h .more))
+lined-some : (t : List ℕ) (ls : List (List ℕ)) → Some ls → (58 ∷ t ++ 58 ∷ []) ++ withCrLf ls ≡ withCrLf (lined (field t ls))
+lined-some t ls h = subst (λ (ks : List (List ℕ)). (58 ∷ t ++ 58 ∷ []) ++ withCrLf ks ≡ withCrLf (lined (field t ks))) (sym (h .is)) (go (h .one) (h .more))
   where
-    go : (x : List ℕ) (xs : List (List ℕ)) → (58 ∷ t ++ 58 ∷ []) ++ (x ++ 13 ∷ 10 ∷ laid xs) ≡ (58 ∷ t ++ 58 ∷ x) ++ 13 ∷ 10 ∷ laid xs
-    go x xs = ap (λ (y : List ℕ). 58 ∷ y) (append-assoc t (58 ∷ []) (x ++ 13 ∷ 10 ∷ laid xs) ∙ sym (append-assoc t (58 ∷ x) (13 ∷ 10 ∷ laid xs)))
+    go : (x : List ℕ) (xs : List (List ℕ)) → (58 ∷ t ++ 58 ∷ []) ++ (x ++ 13 ∷ 10 ∷ withCrLf xs) ≡ (58 ∷ t ++ 58 ∷ x) ++ 13 ∷ 10 ∷ withCrLf xs
+    go x xs = ap (λ (y : List ℕ). 58 ∷ y) (append-assoc t (58 ∷ []) (x ++ 13 ∷ 10 ∷ withCrLf xs) ∙ sym (append-assoc t (58 ∷ x) (13 ∷ 10 ∷ withCrLf xs)))
 
 -- the place behind a tag
 pub tag-behind : (t : List ℕ) {out after : List ℕ} {at r : ℕ} → Puts (58 ∷ t ++ 58 ∷ []) out at r after → r ≡ at + length t + 2
 tag-behind t p = omega (arith, p .answers, length-append t (58 ∷ []))
 
 -- ---- a record by the end of its tag
-module _ (form : Form) (s : Bool) (l : List ℕ) (t : ℕ) (q : t ≡ 0 + upTo 9 (drop 0 l)) (g : good form s (recordOf l) ≡ true) where
+module _ (form : Form) (s : Bool) (l : List ℕ) (t : ℕ) (q : t ≡ 0 + countUpTo 9 (drop 0 l)) (g : good form s (recordOf l) ≡ true) where
   abbrev ps : List (List ℕ)
   ps = piecesAt 9 l (t + 1)
 
@@ -174,16 +174,16 @@ module _ (form : Form) (s : Bool) (l : List ℕ) (t : ℕ) (q : t ≡ 0 + upTo 9
   shape-sound e = ap (λ (x : Shape). sound s x ps) e ∙ right (shaped tag) _ good-at
 
   pub record-put : {sh : Shape} {out mid after : List ℕ} {at n : ℕ} {r : Step} → sh ≡ shapeOf form tag → Puts (58 ∷ tag ++ 58 ∷ []) out at n mid
-      → Adds (unsaid s (t + 1) (castParts sh ps)) (crowded s sh ps) (laid (contentLines s sh ps)) mid n r after
-      → Adds (recordStops form s (recordOf l)) (recordCrowded form s (recordOf l)) (laid (lined (fieldFor form s (recordOf l)))) out at r after
+      → Adds (unsaid s (t + 1) (castParts sh ps)) (crowded s sh ps) (withCrLf (contentLines s sh ps)) mid n r after
+      → Adds (recordStops form s (recordOf l)) (recordCrowded form s (recordOf l)) (withCrLf (lined (fieldFor form s (recordOf l)))) out at r after
   record-put {sh} {out} {mid} {after} {at} {n} {r} e f a =
-      let a1 = subst (λ (x : Shape). Adds (unsaid s (t + 1) (castParts x ps)) (crowded s x ps) (laid (contentLines s x ps)) mid n r after) e a in
+      let a1 = subst (λ (x : Shape). Adds (unsaid s (t + 1) (castParts x ps)) (crowded s x ps) (withCrLf (contentLines s x ps)) mid n r after) e a in
       let z : t + 1 ≡ length tag + 1 = ap (λ (j : ℕ). j + 1) (tag-size l t q) in
-      let w : Right s (shapeOf form tag) ps = sound-right s (shapeOf form tag) ps (right (shaped tag) _ good-at) in
-      subst (λ (x : Record). Adds (recordStops form s x) (recordCrowded form s x) (laid (lined (fieldFor form s x))) out at r after) (sym (record-at l t q))
+      let w : RightParts s (shapeOf form tag) ps = sound-right s (shapeOf form tag) ps (right (shaped tag) _ good-at) in
+      subst (λ (x : Record). Adds (recordStops form s x) (recordCrowded form s x) (withCrLf (lined (fieldFor form s x))) out at r after) (sym (record-at l t q))
       (adds-by (ap (λ (j : ℕ). unsaid s j (castParts (shapeOf form tag) ps)) z) refl
-      (adds-alike (unsaid s (t + 1) (castParts (shapeOf form tag) ps)) (crowded s (shapeOf form tag) ps) {t = (58 ∷ tag ++ 58 ∷ []) ++ laid (contentLines s (shapeOf form tag) ps)} (λ _ c. lined-some tag (contentLines s (shapeOf form tag) ps) (content-some s (shapeOf form tag) ps w c))
-      (adds-front (58 ∷ tag ++ 58 ∷ []) (laid (contentLines s (shapeOf form tag) ps)) f a1)))
+      (adds-alike (unsaid s (t + 1) (castParts (shapeOf form tag) ps)) (crowded s (shapeOf form tag) ps) {t = (58 ∷ tag ++ 58 ∷ []) ++ withCrLf (contentLines s (shapeOf form tag) ps)} (λ _ c. lined-some tag (contentLines s (shapeOf form tag) ps) (content-some s (shapeOf form tag) ps w c))
+      (adds-front (58 ∷ tag ++ 58 ∷ []) (withCrLf (contentLines s (shapeOf form tag) ps)) f a1)))
 
 -- ---- records one behind another
 moved-then : (o : ℕ) (v w : Verdict) → movedBy o (then v w) ≡ then (movedBy o v) (movedBy o w)
@@ -205,25 +205,25 @@ moved-unsaid s o k (c ∷ cs) =
     moved-then o (stoppedAt k (saidPart s c)) (unsaid s (k + length (lineOf c) + 1) cs)
     ∙ ap₂ then (moved-stopped o k c s) (moved-unsaid s o (k + length (lineOf c) + 1) cs ∙ ap (λ (j : ℕ). unsaid s j cs) z)
 
-pub rule15-cons : (form : Form) (s : Bool) (o : ℕ) (r : Record) (rs : List Record) → then (movedBy o (recordStops form s r)) (rule15 form s (nextOf o r) rs) ≡ rule15 form s o (r ∷ rs)
+pub rule15-cons : (form : Form) (s : Bool) (o : ℕ) (r : Record) (rs : List Record) → then (movedBy o (recordStops form s r)) (rule15 form s (nextRecord o r) rs) ≡ rule15 form s o (r ∷ rs)
 unfolding rule15
 rule15-cons form s o (field t ps) rs =
     let z : o + (length t + 1) ≡ o + length t + 1 = omega arith in
-    ap (λ (v : Verdict). then v (rule15 form s (nextOf o (field t ps)) rs)) (moved-unsaid s o (length t + 1) (castParts (shapeOf form t) ps) ∙ ap (λ (j : ℕ). unsaid s j (castParts (shapeOf form t) ps)) z)
+    ap (λ (v : Verdict). then v (rule15 form s (nextRecord o (field t ps)) rs)) (moved-unsaid s o (length t + 1) (castParts (shapeOf form t) ps) ∙ ap (λ (j : ℕ). unsaid s j (castParts (shapeOf form t) ps)) z)
 
 crowded-cons : (form : Form) (s : Bool) (r : Record) (rs : List Record) → (recordCrowded form s r || someCrowded form s rs) ≡ someCrowded form s (r ∷ rs)
 crowded-cons form s (field t ps) rs = refl
 
 abbrev pub bodyOf : Form → Bool → List Record → List ℕ
-bodyOf form s rs = laid (linesOf (spread form s rs)) ++ closing
+bodyOf form s rs = withCrLf (linesOf (spread form s rs)) ++ closing
 
-body-cons : (form : Form) (s : Bool) (r : Record) (rs : List Record) → laid (lined (fieldFor form s r)) ++ bodyOf form s rs ≡ bodyOf form s (r ∷ rs)
+body-cons : (form : Form) (s : Bool) (r : Record) (rs : List Record) → withCrLf (lined (fieldFor form s r)) ++ bodyOf form s rs ≡ bodyOf form s (r ∷ rs)
 unfolding spread
 body-cons form s r rs =
-    sym (append-assoc (laid (lined (fieldFor form s r))) (laid (linesOf (spread form s rs))) closing)
-    ∙ ap (λ (x : List ℕ). x ++ closing) (sym (laid-append (lined (fieldFor form s r)) (linesOf (spread form s rs))))
+    sym (append-assoc (withCrLf (lined (fieldFor form s r))) (withCrLf (linesOf (spread form s rs))) closing)
+    ∙ ap (λ (x : List ℕ). x ++ closing) (sym (crlf-append (lined (fieldFor form s r)) (linesOf (spread form s rs))))
 
-module _ (form : Form) (g : Bool) (s : List ℕ) (i e : ℕ) (h : i ≤ length s) (q : e ≡ i + upTo 10 (drop i s)) (l : i < length s) (b : badLine form g i (piecesAt 10 s i) ≡ Fine) where
+module _ (form : Form) (g : Bool) (s : List ℕ) (i e : ℕ) (h : i ≤ length s) (q : e ≡ i + countUpTo 10 (drop i s)) (l : i < length s) (b : badSheetLine form g i (piecesAt 10 s i) ≡ Fine) where
   abbrev this : List ℕ
   this = take (e - i) (drop i s)
 
@@ -247,13 +247,13 @@ module _ (form : Form) (g : Bool) (s : List ℕ) (i e : ℕ) (h : i ≤ length s
       go true k = k
       go false k = absurd (fine-broken 19 i (sym b ∙ sym (bad-hit s i e h q form g further k)))
 
-  pub good-on : badLine form g (e + 1) (piecesAt 10 s (e + 1)) ≡ Fine
+  pub good-on : badSheetLine form g (e + 1) (piecesAt 10 s (e + 1)) ≡ Fine
   good-on = sym (bad-miss s i e h q form g further good-here) ∙ b
 
   list : recordsAt s i ≡ recordOf this ∷ rest
   list = front-at s i e h q ended
 
-  next-at : nextOf i (recordOf this) ≡ e + 1
+  next-at : nextRecord i (recordOf this) ≡ e + 1
   next-at = let n : length (line (recordOf this)) ≡ e - i = ap length (line-record this) ∙ piece-length s i e (omega arith) (end-within 10 s i e h q) in omega arith
 
   abbrev Left : Bool → List Record → List ℕ → ℕ → Step → List ℕ → Type 0
@@ -263,21 +263,21 @@ module _ (form : Form) (g : Bool) (s : List ℕ) (i e : ℕ) (h : i ≤ length s
   stops-here = ap (λ (j : ℕ). then (movedBy i (recordStops form g (recordOf this))) (rule15 form g j rest)) (sym next-at) ∙ rule15-cons form g i (recordOf this) rest
 
   pub records-stop : (fit : Bool) {now mid after : List ℕ} {n k : ℕ} {q : Step} → q ≡ Stuck k
-      → Adds (recordStops form g (recordOf this)) (recordCrowded form g (recordOf this)) (laid (lined (fieldFor form g (recordOf this)))) now n q mid
+      → Adds (recordStops form g (recordOf this)) (recordCrowded form g (recordOf this)) (withCrLf (lined (fieldFor form g (recordOf this)))) now n q mid
       → Left fit (recordsAt s i) now n (Stuck (i + k)) after
   records-stop fit {now} {mid} {after} {n} {k} f a =
-      let z = came-stuck (recordStops form g (recordOf this)) (recordCrowded form g (recordOf this)) (n + length (laid (lined (fieldFor form g (recordOf this))))) k (sym f ∙ a .answers) in
+      let z = came-stuck (recordStops form g (recordOf this)) (recordCrowded form g (recordOf this)) (n + length (withCrLf (lined (fieldFor form g (recordOf this))))) k (sym f ∙ a .answers) in
       subst (λ (rs : List Record). Left fit rs now n (Stuck (i + k)) after) (sym list)
       (adds-stuck (sym stops-here ∙ ap (λ (v : Verdict). then (movedBy i v) (rule15 form g (e + 1) rest)) (z .1)))
 
   pub records-on : {fit fit′ : Bool} {now mid after : List ℕ} {n n′ : ℕ} {q r : Step} → Goes fit n q fit′ n′
-      → Adds (recordStops form g (recordOf this)) (recordCrowded form g (recordOf this)) (laid (lined (fieldFor form g (recordOf this)))) now n q mid
+      → Adds (recordStops form g (recordOf this)) (recordCrowded form g (recordOf this)) (withCrLf (lined (fieldFor form g (recordOf this)))) now n q mid
       → Adds (rule15 form g (e + 1) rest) (not fit′ || someCrowded form g rest) (bodyOf form g rest) mid n′ r after → Left fit (recordsAt s i) now n r after
   records-on {fit} {now = now} {after = after} {n = n} {r = r} m a d =
       subst (λ (rs : List Record). Left fit rs now n r after) (sym list)
       (subst (λ (c : Bool). Adds (rule15 form g i (recordOf this ∷ rest)) (not fit || c) (bodyOf form g (recordOf this ∷ rest)) now n r after) (crowded-cons form g (recordOf this) rest)
       (adds-by stops-here (body-cons form g (recordOf this) rest)
-      (adds-join i (recordStops form g (recordOf this)) (rule15 form g (e + 1) rest) (recordCrowded form g (recordOf this)) (someCrowded form g rest) (laid (lined (fieldFor form g (recordOf this)))) (bodyOf form g rest) m a d)))
+      (adds-join i (recordStops form g (recordOf this)) (rule15 form g (e + 1) rest) (recordCrowded form g (recordOf this)) (someCrowded form g rest) (withCrLf (lined (fieldFor form g (recordOf this)))) (bodyOf form g rest) m a d)))
 
 -- no record is left
 pub records-end : (form : Form) (g : Bool) (s : List ℕ) (i : ℕ) → i ≤ length s → length s ≤ i → (fit : Bool) {now after : List ℕ} {n : ℕ} {r : Step} → Adds Fine (not fit) closing now n r after

@@ -20,13 +20,13 @@ use Rattle.roles.specs.declared.Shape.{Shape}
 use Rattle.roles.specs.declared.Shape.the-variants.{Plain, Payer, Payee, Agent, Details, Note103, Note202}
 use Rattle.judge.specs.Message.{verdictOf}
 use Rattle.records.specs.Record.{Record, records}
-use Rattle.records.specs.Places.{nextOf}
+use Rattle.records.specs.Places.{nextRecord}
 use Rattle.records.specs.Rule19.{sheetForm, sheetSign, rule19}
-use Rattle.details.specs.declared.Place.the-variants.{In70}
+use Rattle.details.specs.declared.DetailsField.the-variants.{In70}
 use Rattle.details.specs.declared.Size.{Size}
 use Rattle.details.specs.declared.Size.the-variants as size
 use Rattle.details.specs.Layouts.{sizeFor}
-use Rattle.writer.specs.Spread.{saidPart, castParts, told, notePlace, spread}
+use Rattle.writer.specs.Spread.{saidPart, castParts, codeAndText, noteField, spread}
 
 -- ---- 15: the first byte of the sheet that can't be written
 -- a text whose first byte is at o stops
@@ -42,7 +42,7 @@ unsaid s o (p ∷ ps) = then (stoppedAt o (saidPart s p)) (unsaid s (o + length 
 -- records one behind another, the first at o
 unfoldable pub rule15 : Form → Bool → ℕ → List Record → Verdict
 rule15 form s o [] = Fine
-rule15 form s o (field t ps ∷ rs) = then (unsaid s (o + length t + 1) (castParts (shapeOf form t) ps)) (rule15 form s (nextOf o (field t ps)) rs)
+rule15 form s o (field t ps ∷ rs) = then (unsaid s (o + length t + 1) (castParts (shapeOf form t) ps)) (rule15 form s (nextRecord o (field t ps)) rs)
 
 -- ---- 16: details that don't go into the lines of their field
 abbrev pub isUnfit : Size → Bool
@@ -51,10 +51,10 @@ isUnfit size.Unfit = true
 
 abbrev pub crowdedNote : Bool → List (List ℕ) → Bool
 crowdedNote s [] = false
-crowdedNote s (r ∷ ps) = isUnfit (sizeFor (notePlace r) (codeSize s) (told s ps))
+crowdedNote s (r ∷ ps) = isUnfit (sizeFor (noteField r) (codeSize s) (codeAndText s ps))
 
 unfoldable pub crowded : Bool → Shape → List (List ℕ) → Bool
-crowded s Details ps = isUnfit (sizeFor In70 (codeSize s) (told s ps))
+crowded s Details ps = isUnfit (sizeFor In70 (codeSize s) (codeAndText s ps))
 crowded s Note202 ps = crowdedNote s ps
 crowded s Note103 ps = false
 crowded s Plain ps = false

@@ -15,8 +15,8 @@ use Rattle.roles.specs.Speech.{codeSize}
 use Rattle.roles.specs.declared.Shape.{Shape}
 use Rattle.roles.specs.declared.Shape.the-variants.{Plain, Payer, Payee, Agent, Details, Note103, Note202}
 use Rattle.records.specs.Record.{Record}
-use Rattle.details.specs.declared.Place.{Place}
-use Rattle.details.specs.declared.Place.the-variants.{In70, In72, BehindRpp}
+use Rattle.details.specs.declared.DetailsField.{DetailsField}
+use Rattle.details.specs.declared.DetailsField.the-variants.{In70, In72, BehindRpp}
 use Rattle.details.specs.Layouts.{linesFor}
 
 -- ---- the parts: what is written for each, or where that stops
@@ -52,24 +52,24 @@ abbrev pub code : Bool → List ℕ → List ℕ
 code true vo = bytes "'(VO" ++ (vo ++ bytes ")'")
 code false vo = bytes "(VO" ++ (vo ++ bytes ")")
 
-abbrev pub told : Bool → List (List ℕ) → List ℕ
-told s [] = []
-told s (vo ∷ []) = code s vo
-told s (vo ∷ t ∷ ps) = code s vo ++ textOf (writing s t)
+abbrev pub codeAndText : Bool → List (List ℕ) → List ℕ
+codeAndText s [] = []
+codeAndText s (vo ∷ []) = code s vo
+codeAndText s (vo ∷ t ∷ ps) = code s vo ++ textOf (writing s t)
 
 abbrev pub rppLine : List ℕ → List ℕ
 rppLine r = bytes "/RPP/" ++ r
 
 -- 72 of a 202: perhaps an RPP line, and details in what room is left
-abbrev pub notePlace : List ℕ → Place
-notePlace r = pick (empty r) In72 BehindRpp
+abbrev pub noteField : List ℕ → DetailsField
+noteField r = pick (empty r) In72 BehindRpp
 
 abbrev pub noteLines : Bool → List (List ℕ) → List (List ℕ)
 noteLines s [] = []
-noteLines s (r ∷ ps) = pick (empty r) [] (rppLine r ∷ []) ++ linesFor (notePlace r) (codeSize s) (told s ps)
+noteLines s (r ∷ ps) = pick (empty r) [] (rppLine r ∷ []) ++ linesFor (noteField r) (codeSize s) (codeAndText s ps)
 
 unfoldable pub contentLines : Bool → Shape → List (List ℕ) → List (List ℕ)
-contentLines s Details ps = linesFor In70 (codeSize s) (told s ps)
+contentLines s Details ps = linesFor In70 (codeSize s) (codeAndText s ps)
 contentLines s Note103 ps = map rppLine ps
 contentLines s Note202 ps = noteLines s ps
 contentLines s Plain ps = map (lineFor s) (cast Plain ps)

@@ -10,14 +10,14 @@ use Rattle.base.specs.Calls.{Gives}
 use Rattle.base.specs.declared.Verdict.{Verdict}
 use Rattle.base.specs.declared.Verdict.the-variants.{Fine, Broken}
 use Rattle.base.specs.declared.Outcome.{Outcome}
-use Rattle.fields.specs.Field.{field, laid}
+use Rattle.fields.specs.Field.{field, withCrLf}
 use Rattle.roles.specs.Role.{shapeOf}
 use Rattle.roles.specs.Speech.{codeSize}
 use Rattle.records.specs.Record.{Record, recordOf, front}
 use Rattle.records.specs.Found.{piecesAt}
-use Rattle.details.specs.declared.Place.{Place}
+use Rattle.details.specs.declared.DetailsField.{DetailsField}
 use Rattle.details.specs.Layouts.{linesFor, sizeFor}
-use Rattle.writer.specs.Spread.{coded, castParts, told}
+use Rattle.writer.specs.Spread.{coded, castParts, codeAndText}
 use Rattle.writer.specs.Sheet.{isUnfit, unsaid, crowded, handRules}
 use Rattle.writer.specs.declared.Step.{Step}
 use Rattle.writer.specs.declared.Step.the-variants.{Stuck, Unfit, Put}
@@ -41,9 +41,9 @@ pub data Within : Step → ℕ → ℕ → Type 0 where
   unfitIn : {k n : ℕ} → Within Unfit k n
   putIn : {m k n : ℕ} → m ≤ n → Within (Put m) k n
 
--- ---- details: VO digits, the first at o, and a text, as the lines of their place
-abbrev pub Tells : Bool → Place → ℕ → List (List ℕ) → List ℕ → ℕ → Step → List ℕ → Type 0
-Tells s p o ps out at r after = Adds (unsaid s o (coded ps)) (isUnfit (sizeFor p (codeSize s) (told s ps))) (laid (linesFor p (codeSize s) (told s ps))) out at r after
+-- ---- details: VO digits, the first at o, and a text, as the lines of their field
+abbrev pub AddsDetails : Bool → DetailsField → ℕ → List (List ℕ) → List ℕ → ℕ → Step → List ℕ → Type 0
+AddsDetails s p o ps out at r after = Adds (unsaid s o (coded ps)) (isUnfit (sizeFor p (codeSize s) (codeAndText s ps))) (withCrLf (linesFor p (codeSize s) (codeAndText s ps))) out at r after
 
 -- ---- records
 abbrev pub recordStops : Form → Bool → Record → Verdict

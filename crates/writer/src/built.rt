@@ -6,9 +6,9 @@ ghost use Prim.Native.Nat.{_+_, _*_, _≤_};
 ghost use lib.ListN.{length};
 ghost use Rattle.base.specs.Calls.{Puts};
 ghost use Rattle.base.specs.declared.Verdict.the-variants.{Fine};
-ghost use Rattle.fields.specs.Field.{laid, lined, message};
+ghost use Rattle.fields.specs.Field.{withCrLf, lined, message};
 ghost use Rattle.records.specs.Record.{recordOf};
-ghost use Rattle.records.specs.Found.{piecesAt, badLine};
+ghost use Rattle.records.specs.Found.{piecesAt, badSheetLine};
 ghost use Rattle.records.specs.Rule19.{good, sound};
 ghost use Rattle.writer.specs.Spread.{castParts, contentLines, fieldFor, spread};
 ghost use Rattle.writer.specs.Sheet.{unsaid, crowded, rule15, someCrowded};
@@ -20,7 +20,7 @@ use super::parts::put_parts;
 use super::purposes::put_purpose;
 use base::bytes::put;
 use base::marks::mark_at;
-use details::Place;
+use details::DetailsField;
 use records::tags::tag_number;
 use roles::Shape;
 use roles::parts::first_role;
@@ -30,10 +30,10 @@ use types::Form;
 // The content parts of a record, by the shape of its tag.
 fn put_content(shape: Shape, sign: bool, l: &[u8], i: usize, out: &mut [u8], at: usize) -> Step
     requires { ⌜ (length (now l) ≤ 10000) × (i ≤ length (now l) + 1) × (at + 100000 ≤ near) × (sound sign shape (piecesAt 9 (now l) i) ≡ true) ⌝ }
-    ensures { λ r. ⌜ Adds (unsaid sign i (castParts shape (piecesAt 9 (now (l .entry)) i))) (crowded sign shape (piecesAt 9 (now (l .entry)) i)) (laid (contentLines sign shape (piecesAt 9 (now (l .entry)) i))) (now (out .entry)) at r (now (out .exit)) × Within r (length (now (l .entry))) (at + 4 * length (now (l .entry)) + 300) ⌝ }
+    ensures { λ r. ⌜ Adds (unsaid sign i (castParts shape (piecesAt 9 (now (l .entry)) i))) (crowded sign shape (piecesAt 9 (now (l .entry)) i)) (withCrLf (contentLines sign shape (piecesAt 9 (now (l .entry)) i))) (now (out .entry)) at r (now (out .exit)) × Within r (length (now (l .entry))) (at + 4 * length (now (l .entry)) + 300) ⌝ }
 {
     match shape {
-        Shape::Details => put_purpose(sign, Place::In70, l, i, out, at),
+        Shape::Details => put_purpose(sign, DetailsField::In70, l, i, out, at),
         Shape::Note103 => put_rpp(l, i, l.len(), out, at),
         Shape::Note202 => put_note(sign, l, i, out, at),
         _ => put_parts(sign, first_role(shape), l, i, out, at),
@@ -54,7 +54,7 @@ fn put_tag(t: &[u8], out: &mut [u8], at: usize) -> usize
 // A record, without its LF, as a field.
 fn put_record(form: Form, sign: bool, l: &[u8], out: &mut [u8], at: usize) -> Step
     requires { ⌜ (length (now l) ≤ 10000) × (at + 200000 ≤ near) × (good form sign (recordOf (now l)) ≡ true) ⌝ }
-    ensures { λ r. ⌜ Adds (recordStops form sign (recordOf (now (l .entry)))) (recordCrowded form sign (recordOf (now (l .entry)))) (laid (lined (fieldFor form sign (recordOf (now (l .entry)))))) (now (out .entry)) at r (now (out .exit)) × Within r (length (now (l .entry))) (at + 400 * (length (now (l .entry)) + 1)) ⌝ }
+    ensures { λ r. ⌜ Adds (recordStops form sign (recordOf (now (l .entry)))) (recordCrowded form sign (recordOf (now (l .entry)))) (withCrLf (lined (fieldFor form sign (recordOf (now (l .entry)))))) (now (out .entry)) at r (now (out .exit)) × Within r (length (now (l .entry))) (at + 400 * (length (now (l .entry)) + 1)) ⌝ }
 {
     let t = mark_at(b'\t', l, 0);
     let tag = &l[..t];
@@ -65,7 +65,7 @@ fn put_record(form: Form, sign: bool, l: &[u8], out: &mut [u8], at: usize) -> St
 
 // The message of a sheet that 19 lets pass: the records behind the first, which has six bytes.
 pub(crate) fn put_message(s: &[u8], form: Form, sign: bool, out: &mut [u8]) -> Step
-    requires { ⌜ (length (now s) ≤ 10000) × (7 ≤ length (now s)) × (badLine form sign 7 (piecesAt 10 (now s) 7) ≡ Fine) ⌝ }
+    requires { ⌜ (length (now s) ≤ 10000) × (7 ≤ length (now s)) × (badSheetLine form sign 7 (piecesAt 10 (now s) 7) ≡ Fine) ⌝ }
     ensures { λ r. ⌜ Adds (rule15 form sign 7 (recordsAt (now (s .entry)) 7)) (someCrowded form sign (recordsAt (now (s .entry)) 7)) (message (spread form sign (recordsAt (now (s .entry)) 7))) (now (out .entry)) 0 r (now (out .exit)) ⌝ }
 {
     put(out, 0, b"{4:\r\n");

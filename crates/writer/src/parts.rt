@@ -3,7 +3,7 @@ ghost use mathlib.Core.Bool.{false};
 ghost use mathlib.Core.List.{map};
 ghost use Prim.Native.Nat.{_+_, _*_, _≤_};
 ghost use lib.ListN.{length};
-ghost use Rattle.fields.specs.Field.{laid};
+ghost use Rattle.fields.specs.Field.{withCrLf};
 ghost use Rattle.roles.specs.Parts.{castBy};
 ghost use Rattle.records.specs.Found.{piecesAt};
 ghost use Rattle.writer.specs.Spread.{lineFor};
@@ -26,7 +26,7 @@ pub(crate) fn put_parts(
     mut at: usize,
 ) -> Step
     requires { ⌜ (length (now l) ≤ 10000) × (i ≤ length (now l) + 1) × (at + 100000 ≤ near) ⌝ }
-    ensures { λ r. ⌜ Adds (unsaid sign i (castBy role (piecesAt 9 (now (l .entry)) i))) false (laid (map (lineFor sign) (castBy role (piecesAt 9 (now (l .entry)) i)))) (now (out .entry)) at r (now (out .exit)) × Within r (length (now (l .entry))) (at + 4 * length (now (l .entry)) + 4) ⌝ }
+    ensures { λ r. ⌜ Adds (unsaid sign i (castBy role (piecesAt 9 (now (l .entry)) i))) false (withCrLf (map (lineFor sign) (castBy role (piecesAt 9 (now (l .entry)) i)))) (now (out .entry)) at r (now (out .exit)) × Within r (length (now (l .entry))) (at + 4 * length (now (l .entry)) + 4) ⌝ }
 {
     while i <= l.len() {
         let e = mark_at(b'\t', l, i);

@@ -5,18 +5,18 @@ ghost use Prim.Native.Nat.{_+_, _≤_};
 ghost use lib.ListN.{length};
 ghost use Rattle.base.specs.Calls.{Puts};
 ghost use Rattle.base.specs.declared.Verdict.the-variants.{Fine};
-ghost use Rattle.fields.specs.Field.{laid};
+ghost use Rattle.fields.specs.Field.{withCrLf};
 ghost use Rattle.roles.specs.Speech.{codeSize};
 ghost use Rattle.records.specs.Found.{piecesAt};
 ghost use Rattle.records.specs.Rule19.{detailed};
 ghost use Rattle.details.specs.Layouts.{sizeFor, linesFor};
 ghost use Rattle.writer.specs.Spread.{code};
 ghost use Rattle.writer.specs.Sheet.{isUnfit};
-ghost use Rattle.writer.specs.Steps.{Adds, Within, near, Tells};
+ghost use Rattle.writer.specs.Steps.{Adds, Within, near, AddsDetails};
 use super::Step;
 use super::texts::put_text;
 use base::bytes::put;
-use details::Place;
+use details::DetailsField;
 use details::Size;
 use details::lay;
 use details::size_of;
@@ -38,31 +38,31 @@ fn put_code(sign: bool, vo: &[u8], out: &mut [u8]) -> usize
     9
 }
 
-// A text broken into the lines of its place.
-fn lay_lines(place: Place, least: usize, text: &[u8], out: &mut [u8], at: usize) -> Step
+// A text broken into the lines of its field.
+fn lay_lines(into: DetailsField, least: usize, text: &[u8], out: &mut [u8], at: usize) -> Step
     requires { ⌜ at ≤ near ⌝ }
-    ensures { λ r. ⌜ Adds Fine (isUnfit (sizeFor place least (now (text .entry)))) (laid (linesFor place least (now (text .entry)))) (now (out .entry)) at r (now (out .exit)) × Within r 0 (at + 250) ⌝ }
+    ensures { λ r. ⌜ Adds Fine (isUnfit (sizeFor into least (now (text .entry)))) (withCrLf (linesFor into least (now (text .entry)))) (now (out .entry)) at r (now (out .exit)) × Within r 0 (at + 250) ⌝ }
 {
-    let size = size_of(place, least, text);
+    let size = size_of(into, least, text);
     let Size::Bytes(n) = size else {
         return Step::Unfit;
     };
-    lay(place, least, text, out, at);
+    lay(into, least, text, out, at);
     put(out, at + n, b"\r\n");
     Step::Put(at + n + 2)
 }
 
-// Details: from i on five VO digits, a tab, and the text up to the end. No place has room for more than 250 bytes.
+// Details: from i on five VO digits, a tab, and the text up to the end. No field has room for more than 250 bytes.
 pub(crate) fn put_purpose(
     sign: bool,
-    place: Place,
+    into: DetailsField,
     l: &[u8],
     i: usize,
     out: &mut [u8],
     at: usize,
 ) -> Step
     requires { ⌜ (length (now l) ≤ 10000) × (at ≤ near) × (detailed (piecesAt 9 (now l) i) ≡ true) ⌝ }
-    ensures { λ r. ⌜ Tells sign place i (piecesAt 9 (now (l .entry)) i) (now (out .entry)) at r (now (out .exit)) × Within r (length (now (l .entry))) (at + 250) ⌝ }
+    ensures { λ r. ⌜ AddsDetails sign into i (piecesAt 9 (now (l .entry)) i) (now (out .entry)) at r (now (out .exit)) × Within r (length (now (l .entry))) (at + 250) ⌝ }
 {
     let mut line = [0u8; 250];
     let least = put_code(sign, &l[i..i + 5], &mut line);
@@ -73,5 +73,5 @@ pub(crate) fn put_purpose(
     if 250 < n {
         return Step::Unfit;
     }
-    lay_lines(place, least, &line[..n], out, at)
+    lay_lines(into, least, &line[..n], out, at)
 }

@@ -20,6 +20,7 @@ pub(crate) fn put_text(sign: bool, o: usize, p: &[u8], out: &mut [u8], at: usize
     match put_written(sign, p, out, at) {
         Extent::Takes(n) => Step::Put(at + n),
         Extent::Halts(k) => Step::Stuck(o + k),
+        // never: a text of a sheet has at most 10,000 bytes, as this function asks
         Extent::Long => Step::Stuck(o),
     }
 }

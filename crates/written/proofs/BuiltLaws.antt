@@ -26,7 +26,7 @@ use Rattle.roles.specs.declared.Shape.{Shape}
 use Rattle.roles.specs.declared.Shape.the-variants.{Plain}
 use Rattle.records.specs.Record.{Record, records}
 use Rattle.records.specs.Rule19.{good, sheetForm, sheetSign}
-use Rattle.records.specs.Sentences.{Sound}
+use Rattle.records.specs.Sentences.{SoundSheet}
 use Rattle.records.proofs.RuleLaws.{fine-sound, sound-right}
 use Rattle.records.proofs.SoundLaws.{sound-each, sound-sign}
 use Rattle.writer.specs.Spread.{lineFor, contentLines, fieldFor, spread}
@@ -116,7 +116,7 @@ module _ (form : Form) (s : Bool) where
 
 -- ---- a sheet that no rule before 17 refuses
 module _ (s : List ℕ) (c : Clean (sheetRules s)) where
-  is-sound : Sound s
+  is-sound : SoundSheet s
   is-sound = fine-sound s (sheet-rules s c .sound)
 
   behind-is : tail (records s) ≡ is-sound .behind

@@ -1,4 +1,4 @@
--- The lines written for a record are cast as its parts are, so that a name stays a name; and details are told over their lines (S6, S7, T7,
+-- The lines written for a record are cast as its parts are, so that a name stays a name; and details are read over their lines (S6, S7, T7,
 -- T12, Cdetails, C72). Assumes nothing.
 use Prim.Native.Nat.{ℕ, _+_}
 use mathlib.Core.Path.{_≡_, refl, sym, ap, ap₂, _∙_}
@@ -17,17 +17,17 @@ use Rattle.alphabets.specs.Best.{writing}
 use Rattle.contents.specs.Tests.{looksTax}
 use Rattle.roles.specs.Role.{Part, copy, name, taxName, cast}
 use Rattle.roles.specs.Speech as speech
-use Rattle.roles.specs.Speech.{speech, told, toldAt, codeSize}
+use Rattle.roles.specs.Speech.{speech, asDetails, detailsStart, codeSize}
 use Rattle.roles.specs.declared.Shape.{Shape}
 use Rattle.roles.proofs.CastLaws as roles
 use Rattle.roles.proofs.CastLaws.{Lines, cast-turned}
-use Rattle.records.specs.Rule19.{digits}
-use Rattle.records.specs.Sentences.{Right}
+use Rattle.records.specs.Rule19.{isDigits}
+use Rattle.records.specs.Sentences.{RightParts}
 use Rattle.records.proofs.SoundLaws.{calm, cast-calm}
 use Rattle.details.specs.Lines.{together}
 use Rattle.details.specs.Layouts.{layout, linesFor}
-use Rattle.details.specs.declared.Place.{Place}
-use Rattle.details.specs.declared.Place.the-variants.{In70, In72, BehindRpp}
+use Rattle.details.specs.declared.DetailsField.{DetailsField}
+use Rattle.details.specs.declared.DetailsField.the-variants.{In70, In72, BehindRpp}
 use Rattle.writer.specs.Spread.{lineFor, code}
 use Rattle.written.proofs.SpeltLaws.{said-is, plain-same, slash, spelt-head, spelt-tax}
 use Rattle.written.proofs.ReadyLaws.{speaks, Laid}
@@ -75,18 +75,18 @@ module _ (s : Bool) where
   spelt-lines : Lines (spelt s) (lineFor s)
   spelt-lines = record { copied = λ p. refl; named = λ p. refl; tax-placed = λ p. refl }
 
-calm-if : (s : Bool) (sh : Shape) (ps : List (List ℕ)) → Right s sh ps → s ≡ true → all calm (cast sh ps) ≡ true
+calm-if : (s : Bool) (sh : Shape) (ps : List (List ℕ)) → RightParts s sh ps → s ≡ true → all calm (cast sh ps) ≡ true
 calm-if true sh ps r q = cast-calm sh ps r
 calm-if false sh ps r q = absurd (false≢true q)
 
 -- the lines of a right record are cast as its parts
-pub cast-again : (s : Bool) (sh : Shape) (ps : List (List ℕ)) → Right s sh ps → all (speaks s) (cast sh ps) ≡ true
+pub cast-again : (s : Bool) (sh : Shape) (ps : List (List ℕ)) → RightParts s sh ps → all (speaks s) (cast sh ps) ≡ true
     → cast sh (map (lineFor s) (cast sh ps)) ≡ map (turned s) (cast sh ps)
 cast-again s sh ps r e = cast-turned (spelt s) (lineFor s) (spelt-lines s) sh ps (all-steady s (cast sh ps) e (cast-untaxed sh ps) (calm-if s sh ps r))
 
 -- ---- details
-pub code-size : (s : Bool) (vo : List ℕ) → digits 5 vo ≡ true → length (code s vo) ≡ codeSize s
-unfolding digits
+pub code-size : (s : Bool) (vo : List ℕ) → isDigits 5 vo ≡ true → length (code s vo) ≡ codeSize s
+unfolding isDigits
 code-size true vo d =
     let n : length vo ≡ 5 = eqb-true (length vo) 5 (left (eqb (length vo) 5) _ d) in
     omega (arith, length-append vo (bytes ")'"))
@@ -94,44 +94,44 @@ code-size false vo d =
     let n : length vo ≡ 5 = eqb-true (length vo) 5 (left (eqb (length vo) 5) _ d) in
     omega (arith, length-append vo (bytes ")"))
 
-pub behind-code : (s : Bool) (vo w : List ℕ) → digits 5 vo ≡ true → drop (codeSize s) (code s vo ++ w) ≡ w
+pub behind-code : (s : Bool) (vo w : List ℕ) → isDigits 5 vo ≡ true → drop (codeSize s) (code s vo ++ w) ≡ w
 behind-code s vo w d = ap (λ (n : ℕ). drop n (code s vo ++ w)) (sym (code-size s vo d)) ∙ drop-append-seam (code s vo) w
 
-pub unmarked : (m : List ℕ) (ls : List (List ℕ)) → speech.behind (length m) (map (λ (k : List ℕ). m ++ k) ls) ≡ together ls
-unfolding speech.behind
+pub unmarked : (m : List ℕ) (ls : List (List ℕ)) → speech.laterText (length m) (map (λ (k : List ℕ). m ++ k) ls) ≡ together ls
+unfolding speech.laterText
 unmarked m [] = refl
 unmarked m (l ∷ ls) = ap₂ (λ (a b : List ℕ). a ++ b) (drop-append-seam m l) (unmarked m ls)
 
 -- the bytes before a text's first: the mark and the code
-abbrev pub frontOf : Place → Bool → ℕ
+abbrev pub frontOf : DetailsField → Bool → ℕ
 frontOf In70 s = codeSize s
 frontOf In72 s = 5 + codeSize s
 frontOf BehindRpp s = 5 + codeSize s
 
-abbrev pub nextOf : Place → ℕ
+abbrev pub nextOf : DetailsField → ℕ
 nextOf In70 = 0
 nextOf In72 = 2
 nextOf BehindRpp = 2
 
-front-dropped : (p : Place) (s : Bool) (l : List ℕ) → drop (frontOf p s) (layout p .mark ++ l) ≡ drop (codeSize s) l
+front-dropped : (p : DetailsField) (s : Bool) (l : List ℕ) → drop (frontOf p s) (layout p .mark ++ l) ≡ drop (codeSize s) l
 front-dropped In70 s l = refl
 front-dropped In72 true l = refl
 front-dropped In72 false l = refl
 front-dropped BehindRpp true l = refl
 front-dropped BehindRpp false l = refl
 
-next-dropped : (p : Place) (ls : List (List ℕ)) → speech.behind (nextOf p) (map (λ (k : List ℕ). layout p .next ++ k) ls) ≡ together ls
+next-dropped : (p : DetailsField) (ls : List (List ℕ)) → speech.laterText (nextOf p) (map (λ (k : List ℕ). layout p .next ++ k) ls) ≡ together ls
 next-dropped In70 ls = unmarked (layout In70 .next) ls
 next-dropped In72 ls = unmarked (layout In72 .next) ls
 next-dropped BehindRpp ls = unmarked (layout BehindRpp .next) ls
 
 -- over the lines, behind the marks and the code, stands the text
-pub told-again : (p : Place) (s : Bool) (vo w : List ℕ) (o : ℕ) → digits 5 vo ≡ true → Laid p (codeSize s) (code s vo ++ w)
-    → (at : ℕ) × (speech.details (frontOf p s) (nextOf p) o (linesFor p (codeSize s) (code s vo ++ w)) ≡ speech told at w ∷ [])
-unfolding speech.details
-told-again p s vo w o d h =
+pub details-again : (p : DetailsField) (s : Bool) (vo w : List ℕ) (o : ℕ) → isDigits 5 vo ≡ true → Laid p (codeSize s) (code s vo ++ w)
+    → (at : ℕ) × (speech.detailsSpeech (frontOf p s) (nextOf p) o (linesFor p (codeSize s) (code s vo ++ w)) ≡ speech asDetails at w ∷ [])
+unfolding speech.detailsSpeech
+details-again p s vo w o d h =
     let l : List ℕ = layout p .mark ++ h .front in
-    let text : drop (frontOf p s) l ++ speech.behind (nextOf p) (map (λ (k : List ℕ). layout p .next ++ k) (h .behind)) ≡ w =
+    let text : drop (frontOf p s) l ++ speech.laterText (nextOf p) (map (λ (k : List ℕ). layout p .next ++ k) (h .behind)) ≡ w =
     ap₂ (λ (a b : List ℕ). a ++ b) (front-dropped p s (h .front)) (next-dropped p (h .behind))
     ∙ sym (drop-append-le (codeSize s) (h .front) (together (h .behind)) (h .code)) ∙ ap (drop (codeSize s)) (h .joins) ∙ behind-code s vo w d in
-    (toldAt (frontOf p s) (nextOf p) o l, ap (speech.details (frontOf p s) (nextOf p) o) (h .is) ∙ ap (λ (b : List ℕ). speech told (toldAt (frontOf p s) (nextOf p) o l) b ∷ []) text)
+    (detailsStart (frontOf p s) (nextOf p) o l, ap (speech.detailsSpeech (frontOf p s) (nextOf p) o) (h .is) ∙ ap (λ (b : List ℕ). speech asDetails (detailsStart (frontOf p s) (nextOf p) o l) b ∷ []) text)

@@ -17,6 +17,7 @@ use Rattle.base.specs.declared.Verdict.the-variants.{Fine, Broken}
 use Rattle.base.proofs.Bools.{left, right, both}
 use Rattle.base.proofs.RuleLaws.{fine-broken}
 use Rattle.base.proofs.CallLaws.{not-said}
+use Rattle.base.specs.Examples.{AllHold}
 use Rattle.alphabets.specs.Sentences.{FirstFails}
 use Rattle.alphabets.specs.Bank.{plainly, reading}
 use Rattle.alphabets.specs.Best.{writing}
@@ -28,16 +29,16 @@ use Rattle.roles.specs.Speech.{codeSize}
 use Rattle.roles.specs.declared.Shape.{Shape}
 use Rattle.roles.specs.declared.Shape.the-variants.{Plain, Payer, Payee, Agent, Details, Note103, Note202}
 use Rattle.records.specs.Record.{Record}
-use Rattle.records.specs.Places.{sizeOf, nextOf}
+use Rattle.records.specs.Places.{recordsSize, nextRecord}
 use Rattle.details.specs.Layouts.{sizeFor}
-use Rattle.details.specs.declared.Place.{Place}
-use Rattle.details.specs.declared.Place.the-variants.{In70, In72, BehindRpp}
+use Rattle.details.specs.declared.DetailsField.{DetailsField}
+use Rattle.details.specs.declared.DetailsField.the-variants.{In70, In72, BehindRpp}
 use Rattle.details.specs.declared.Size.{Size}
 use Rattle.details.specs.declared.Size.the-variants.{Bytes, Unfit}
 use Rattle.details.proofs.DivisionTheorems.{unfit-none, none-unfit}
-use Rattle.writer.specs.Spread.{saidPart, castParts, told}
+use Rattle.writer.specs.Spread.{saidPart, castParts, codeAndText}
 use Rattle.writer.specs.Sheet.{stoppedAt, unsaid, rule15, isUnfit, crowded, someCrowded, rule16}
-use Rattle.written.specs.Sentences.{Every, Writable, Unwritable, canWrite, partsSize, StuckPart, WritableRecord, StuckAt, Undivided, NoWay, in70, in72, pastRpp, CrowdedIn}
+use Rattle.written.specs.Sentences.{WritablePart, UnwritablePart, canWrite, partsSize, StuckPart, WritableRecord, StuckAt, Undivided, NoWay, in70, in72, pastRpp, CrowdedIn}
 use Rattle.written.proofs.SpeltLaws.{isSaid, said-is, plain-set}
 use Rattle.written.proofs.ReadyLaws.{speaks, said-all, all-said}
 
@@ -54,7 +55,7 @@ module _ (s : Bool) where
   not-inside p k true q e = absurd (not-said k p (sym e ∙ plain-iff p .1 q))
   not-inside p k false q e = q
 
-  stuck-unwritable : (x : Part) (k : ℕ) → saidPart s x ≡ stuck k → Unwritable s x
+  stuck-unwritable : (x : Part) (k : ℕ) → saidPart s x ≡ stuck k → UnwritablePart s x
   stuck-unwritable (copy p) k e = not-inside p k (all xset p) refl e
   stuck-unwritable (name p) k e = unwritable-iff s p .0 (k, e)
   stuck-unwritable (taxName p) k e = unwritable-iff s p .0 (k, e)
@@ -66,12 +67,12 @@ module _ (s : Bool) where
   text-says p (said t) e w = refl
   text-says p (stuck k) e w = absurd (unwritable-iff s p .0 (k, e) (w .0) (w .1))
 
-  pub speaks-writable : (x : Part) → (speaks s x ≡ true) ↔ Writable s x
+  pub speaks-writable : (x : Part) → (speaks s x ≡ true) ↔ WritablePart s x
   speaks-writable (copy p) = (λ e. plain-set p (textOf (plainly p)) (said-is (plainly p) e), λ e. ap isSaid (plain-iff p .1 e))
   speaks-writable (name p) = (says-text p, text-says p (writing s p) refl)
   speaks-writable (taxName p) = (says-text p, text-says p (writing s p) refl)
 
-  every-speaks : (xs : List Part) → Every (Writable s) xs → all (speaks s) xs ≡ true
+  every-speaks : (xs : List Part) → AllHold (WritablePart s) xs → all (speaks s) xs ≡ true
   every-speaks [] w = refl
   every-speaks (x ∷ xs) w = both (speaks-writable x .1 (w .0)) (every-speaks xs (w .1))
 
@@ -122,13 +123,13 @@ module _ (s : Bool) where
 
   -- ---- records one behind another
   module _ (form : Form) where
-    all-writable : (xs : List Part) → all (speaks s) xs ≡ true → Every (Writable s) xs
+    all-writable : (xs : List Part) → all (speaks s) xs ≡ true → AllHold (WritablePart s) xs
     all-writable [] e = tt
     all-writable (x ∷ xs) e = (speaks-writable x .0 (left (speaks s x) _ e), all-writable xs (right (speaks s x) _ e))
 
     record-broken : (o : ℕ) (t : List ℕ) (ps : List (List ℕ)) (rs : List Record) (n p : ℕ) (v : Verdict) → unsaid s (o + length t + 1) (castParts (shapeOf form t) ps) ≡ v
-        → then v (rule15 form s (nextOf o (field t ps)) rs) ≡ Broken n p
-        → (rule15 form s (nextOf o (field t ps)) rs ≡ Broken n p → (n ≡ 15) × StuckAt form s (nextOf o (field t ps)) rs p) → (n ≡ 15) × StuckAt form s o (field t ps ∷ rs) p
+        → then v (rule15 form s (nextRecord o (field t ps)) rs) ≡ Broken n p
+        → (rule15 form s (nextRecord o (field t ps)) rs ≡ Broken n p → (n ≡ 15) × StuckAt form s (nextRecord o (field t ps)) rs p) → (n ≡ 15) × StuckAt form s o (field t ps ∷ rs) p
     record-broken o t ps rs n p (Broken m q) u e ih =
         let h = parts-broken (o + length t + 1) (castParts (shapeOf form t) ps) n p (u ∙ e) in
         let z : o + length t + 1 ≡ o + 0 + length t + 1 = omega arith in (
@@ -144,9 +145,9 @@ module _ (s : Bool) where
           },
         )
     record-broken o t ps rs n p Fine u e ih =
-        let h : (n ≡ 15) × StuckAt form s (nextOf o (field t ps)) rs p = ih e in
-        let w : StuckAt form s (nextOf o (field t ps)) rs p = h .1 in
-        let z : nextOf o (field t ps) + sizeOf (w .before) + length (w .tag) + 1 ≡ o + sizeOf (field t ps ∷ w .before) + length (w .tag) + 1 = omega arith in (
+        let h : (n ≡ 15) × StuckAt form s (nextRecord o (field t ps)) rs p = ih e in
+        let w : StuckAt form s (nextRecord o (field t ps)) rs p = h .1 in
+        let z : nextRecord o (field t ps) + recordsSize (w .before) + length (w .tag) + 1 ≡ o + recordsSize (field t ps ∷ w .before) + length (w .tag) + 1 = omega arith in (
           h .0,
           record {
             before = field t ps ∷ w .before;
@@ -163,20 +164,20 @@ module _ (s : Bool) where
     unfolding rule15
     rule15-broken o [] n p e = absurd (fine-broken n p e)
     rule15-broken o (field t ps ∷ rs) n p e =
-        record-broken o t ps rs n p (unsaid s (o + length t + 1) (castParts (shapeOf form t) ps)) refl e (rule15-broken (nextOf o (field t ps)) rs n p)
+        record-broken o t ps rs n p (unsaid s (o + length t + 1) (castParts (shapeOf form t) ps)) refl e (rule15-broken (nextRecord o (field t ps)) rs n p)
 
-    hit : (o : ℕ) (us : List Record) (t : List ℕ) (ps : List (List ℕ)) (vs : List Record) (p : ℕ) → Every (WritableRecord form s) us
-        → StuckPart s (o + sizeOf us + length t + 1) (castParts (shapeOf form t) ps) p → rule15 form s o (us ++ field t ps ∷ vs) ≡ Broken 15 p
+    hit : (o : ℕ) (us : List Record) (t : List ℕ) (ps : List (List ℕ)) (vs : List Record) (p : ℕ) → AllHold (WritableRecord form s) us
+        → StuckPart s (o + recordsSize us + length t + 1) (castParts (shapeOf form t) ps) p → rule15 form s o (us ++ field t ps ∷ vs) ≡ Broken 15 p
     unfolding rule15
     hit o [] t ps vs p w h =
         let z : o + 0 + length t + 1 ≡ o + length t + 1 = omega arith in
-        ap (λ (v : Verdict). then v (rule15 form s (nextOf o (field t ps)) vs))
+        ap (λ (v : Verdict). then v (rule15 form s (nextRecord o (field t ps)) vs))
         (stuck-broken (o + length t + 1) (castParts (shapeOf form t) ps) p (subst (λ (k : ℕ). StuckPart s k (castParts (shapeOf form t) ps) p) z h))
     hit o (field u qs ∷ us) t ps vs p w h =
-        let z : o + sizeOf (field u qs ∷ us) + length t + 1 ≡ nextOf o (field u qs) + sizeOf us + length t + 1 = omega arith in
-        ap (λ (v : Verdict). then v (rule15 form s (nextOf o (field u qs)) (us ++ field t ps ∷ vs)))
+        let z : o + recordsSize (field u qs ∷ us) + length t + 1 ≡ nextRecord o (field u qs) + recordsSize us + length t + 1 = omega arith in
+        ap (λ (v : Verdict). then v (rule15 form s (nextRecord o (field u qs)) (us ++ field t ps ∷ vs)))
         (all-said s (o + length u + 1) (castParts (shapeOf form u) qs) (every-speaks (castParts (shapeOf form u) qs) (w .0)))
-        ∙ hit (nextOf o (field u qs)) us t ps vs p (w .1) (subst (λ (k : ℕ). StuckPart s k (castParts (shapeOf form t) ps) p) z h)
+        ∙ hit (nextRecord o (field u qs)) us t ps vs p (w .1) (subst (λ (k : ℕ). StuckPart s k (castParts (shapeOf form t) ps) p) z h)
 
     stuck-rule15 : (o : ℕ) (rs : List Record) (p : ℕ) → StuckAt form s o rs p → rule15 form s o rs ≡ Broken 15 p
     stuck-rule15 o rs p w = ap (rule15 form s o) (w .list) ∙ hit o (w .before) (w .tag) (w .parts) (w .behind) p (w .fine) (w .stuck)
@@ -187,8 +188,8 @@ module _ (s : Bool) where
 
 -- ---- 16
 module _ (s : Bool) where
-  unfit-undivided : (place : Place) (ps : List (List ℕ)) → (isUnfit (sizeFor place (codeSize s) (told s ps)) ≡ true) ↔ Undivided s place ps
-  unfit-undivided place ps = (λ e rows d. unfit-none place (codeSize s) (told s ps) (go (sizeFor place (codeSize s) (told s ps)) e) d, λ n. ap isUnfit (none-unfit place (codeSize s) (told s ps) n))
+  unfit-undivided : (place : DetailsField) (ps : List (List ℕ)) → (isUnfit (sizeFor place (codeSize s) (codeAndText s ps)) ≡ true) ↔ Undivided s place ps
+  unfit-undivided place ps = (λ e rows d. unfit-none place (codeSize s) (codeAndText s ps) (go (sizeFor place (codeSize s) (codeAndText s ps)) e) d, λ n. ap isUnfit (none-unfit place (codeSize s) (codeAndText s ps) n))
     where
       go : (z : Size) → isUnfit z ≡ true → z ≡ Unfit
       go (Bytes n) e = absurd (false≢true e)

@@ -18,30 +18,30 @@ use Rattle.roles.specs.declared.Shape.{Shape}
 use Rattle.roles.specs.declared.Shape.the-variants.{Plain, Payer, Payee, Agent, Note202}
 use Rattle.records.specs.Record.{Record, records}
 use Rattle.records.specs.Rule19.{sheetForm, sheetSign}
-use Rattle.records.specs.Sentences.{Right}
+use Rattle.records.specs.Sentences.{RightParts}
 use Rattle.records.specs.Sentences as sentences
 use Rattle.details.specs.Lines.{together, Division, lines}
-use Rattle.details.specs.Layouts.{layout, marked, linesOf, linesFor, sizeFor}
-use Rattle.details.specs.declared.Place.{Place}
-use Rattle.details.specs.declared.Place.the-variants.{In70, In72, BehindRpp}
+use Rattle.details.specs.Layouts.{layout, marked, fitLines, linesFor, sizeFor}
+use Rattle.details.specs.declared.DetailsField.{DetailsField}
+use Rattle.details.specs.declared.DetailsField.the-variants.{In70, In72, BehindRpp}
 use Rattle.details.specs.declared.Size.{Size}
 use Rattle.details.specs.declared.Size.the-variants.{Bytes, Unfit}
 use Rattle.details.proofs.DivisionTheorems.{Fitted, fitted}
 use Rattle.alphabets.proofs.Theorems.{shortest-iff}
-use Rattle.writer.specs.Spread.{castParts, lineFor, told, rppLine, contentLines, fieldFor, spread}
+use Rattle.writer.specs.Spread.{castParts, lineFor, codeAndText, rppLine, contentLines, fieldFor, spread}
 use Rattle.writer.specs.Sheet.{isUnfit, crowded, fieldsOf, messageFor, sheetRules}
-use Rattle.written.specs.Sentences.{OneByOne, Line, Told, Content, plain, payer, payee, agent, details, note103, note202, behindRpp, Made}
+use Rattle.written.specs.Sentences.{OneByOne, PartLine, WrittenDetails, Content, plain, payer, payee, agent, details, note103, note202, behindRpp, Made}
 use Rattle.written.proofs.SpeltLaws.{said-is}
 use Rattle.written.proofs.ReadyLaws.{speaks, Ready}
 use Rattle.written.proofs.BuiltLaws.{AllPass, records-pass, built-fields}
 
 module _ (s : Bool) where
-  one-line : (x : Part) → speaks s x ≡ true → Line s x (lineFor s x)
+  one-line : (x : Part) → speaks s x ≡ true → PartLine s x (lineFor s x)
   one-line (copy p) e = refl
   one-line (name p) e = shortest-iff s p (textOf (writing s p)) .0 (said-is (writing s p) e)
   one-line (taxName p) e = shortest-iff s p (textOf (writing s p)) .0 (said-is (writing s p) e)
 
-  line-by-line : (xs : List Part) → all (speaks s) xs ≡ true → OneByOne (Line s) xs (map (lineFor s) xs)
+  line-by-line : (xs : List Part) → all (speaks s) xs ≡ true → OneByOne (PartLine s) xs (map (lineFor s) xs)
   line-by-line [] e = tt
   line-by-line (x ∷ xs) e = (one-line x (left (speaks s x) _ e), line-by-line xs (right (speaks s x) _ e))
 
@@ -49,42 +49,42 @@ module _ (s : Bool) where
   rows-join : {ok : ℕ → Bool} {least : ℕ} {text ws : List ℕ} {rows : List (List ℕ)} → Division ok least text ws rows → together rows ≡ text
   rows-join (lines a b c m j) = j
 
-  pub told-made : (place : Place) (vo text : List ℕ) → speaks s (name text) ≡ true → isUnfit (sizeFor place (codeSize s) (told s (vo ∷ text ∷ []))) ≡ false
-      → Told s place vo text (linesFor place (codeSize s) (told s (vo ∷ text ∷ [])))
+  pub details-made : (place : DetailsField) (vo text : List ℕ) → speaks s (name text) ≡ true → isUnfit (sizeFor place (codeSize s) (codeAndText s (vo ∷ text ∷ []))) ≡ false
+      → WrittenDetails s place vo text (linesFor place (codeSize s) (codeAndText s (vo ∷ text ∷ [])))
   unfolding linesFor
-  told-made place vo text e u = go (sizeFor place (codeSize s) (told s (vo ∷ text ∷ []))) refl u
+  details-made place vo text e u = go (sizeFor place (codeSize s) (codeAndText s (vo ∷ text ∷ []))) refl u
     where
-      go : (z : Size) → sizeFor place (codeSize s) (told s (vo ∷ text ∷ [])) ≡ z → isUnfit z ≡ false → Told s place vo text (linesFor place (codeSize s) (told s (vo ∷ text ∷ [])))
+      go : (z : Size) → sizeFor place (codeSize s) (codeAndText s (vo ∷ text ∷ [])) ≡ z → isUnfit z ≡ false → WrittenDetails s place vo text (linesFor place (codeSize s) (codeAndText s (vo ∷ text ∷ [])))
       go (Bytes n) f u =
-          let w : Fitted place (codeSize s) (told s (vo ∷ text ∷ [])) n = fitted place (codeSize s) (told s (vo ∷ text ∷ [])) n f in
+          let w : Fitted place (codeSize s) (codeAndText s (vo ∷ text ∷ [])) n = fitted place (codeSize s) (codeAndText s (vo ∷ text ∷ [])) n f in
           record {
             spelt = textOf (writing s text);
             shortest = shortest-iff s text (textOf (writing s text)) .0 (said-is (writing s text) e);
             rows = w .ls;
-            marks = ap (λ (a : _). marked (layout place) (linesOf a)) (w .is);
-            joined = rows-join (w .division);
+            marks = ap (λ (a : _). marked (layout place) (fitLines a)) (w .is);
+            spells = rows-join (w .division);
             division = w .division;
             fullest = w .fullest;
           }
       go Unfit f u = absurd (true≢false u)
 
-  note-made : (b : Bool) (r vo text : List ℕ) → empty r ≡ b → speaks s (name text) ≡ true → isUnfit (sizeFor (pick b In72 BehindRpp) (codeSize s) (told s (vo ∷ text ∷ []))) ≡ false
-      → Content s Note202 (r ∷ vo ∷ text ∷ []) (pick b [] (rppLine r ∷ []) ++ linesFor (pick b In72 BehindRpp) (codeSize s) (told s (vo ∷ text ∷ [])))
-  note-made true [] vo text q e u = note202 (told-made In72 vo text e u)
+  note-made : (b : Bool) (r vo text : List ℕ) → empty r ≡ b → speaks s (name text) ≡ true → isUnfit (sizeFor (pick b In72 BehindRpp) (codeSize s) (codeAndText s (vo ∷ text ∷ []))) ≡ false
+      → Content s Note202 (r ∷ vo ∷ text ∷ []) (pick b [] (rppLine r ∷ []) ++ linesFor (pick b In72 BehindRpp) (codeSize s) (codeAndText s (vo ∷ text ∷ [])))
+  note-made true [] vo text q e u = note202 (details-made In72 vo text e u)
   note-made true (x ∷ r) vo text q e u = absurd (false≢true q)
-  note-made false r vo text q e u = behindRpp q (told-made BehindRpp vo text e u)
+  note-made false r vo text q e u = behindRpp q (details-made BehindRpp vo text e u)
 
   -- ---- a record
   pub content-made : (sh : Shape) (ps : List (List ℕ)) → Ready s sh ps → Content s sh ps (contentLines s sh ps)
   unfolding contentLines crowded
   content-made sh ps w = go (w .is-right) (w .says) (w .fits)
     where
-      go : {sh : Shape} {ps : List (List ℕ)} → Right s sh ps → all (speaks s) (castParts sh ps) ≡ true → crowded s sh ps ≡ false → Content s sh ps (contentLines s sh ps)
+      go : {sh : Shape} {ps : List (List ℕ)} → RightParts s sh ps → all (speaks s) (castParts sh ps) ≡ true → crowded s sh ps ≡ false → Content s sh ps (contentLines s sh ps)
       go (sentences.plain p ps e g) a u = plain (line-by-line (cast Plain (p ∷ ps)) a)
       go (sentences.agent p ps e g) a u = agent (line-by-line (cast Agent (p ∷ ps)) a)
       go (sentences.payer p ps e g n) a u = payer (line-by-line (cast Payer (p ∷ ps)) a)
       go (sentences.payee p ps e g n) a u = payee (line-by-line (cast Payee (p ∷ ps)) a)
-      go (sentences.details v t d e) a u = details (told-made In70 v t (left (speaks s (name t)) _ (right (speaks s (copy v)) _ a)) u)
+      go (sentences.details v t d e) a u = details (details-made In70 v t (left (speaks s (name t)) _ (right (speaks s (copy v)) _ a)) u)
       go (sentences.note103 r e) a u = note103
       go (sentences.note202 r v t d e) a u =
           note-made (empty r) r v t refl (left (speaks s (name t)) _ (right (speaks s (copy v)) _ (right (speaks s (copy r)) _ a))) u

@@ -27,17 +27,17 @@ use Rattle.roles.specs.declared.Shape.{Shape}
 use Rattle.roles.specs.declared.Shape.the-variants.{Plain, Payer, Payee, Agent}
 use Rattle.roles.proofs.BreachLaws.{same-lines}
 use Rattle.records.specs.Record.{Record}
-use Rattle.records.specs.Places.{nextOf}
-use Rattle.records.specs.Sentences.{Right, plain, agent, payer, payee, details, note103, note202}
+use Rattle.records.specs.Places.{nextRecord}
+use Rattle.records.specs.Sentences.{RightParts, plain, agent, payer, payee, details, note103, note202}
 use Rattle.details.specs.Lines.{together, Later, none, line, Division, lines}
 use Rattle.details.specs.Breaking.{opens}
-use Rattle.details.specs.Layouts.{layout, marked, linesOf, linesFor, sizeFor}
-use Rattle.details.specs.declared.Place.{Place}
-use Rattle.details.specs.declared.Place.the-variants.{In70, In72, BehindRpp}
+use Rattle.details.specs.Layouts.{layout, marked, fitLines, linesFor, sizeFor}
+use Rattle.details.specs.declared.DetailsField.{DetailsField}
+use Rattle.details.specs.declared.DetailsField.the-variants.{In70, In72, BehindRpp}
 use Rattle.details.specs.declared.Size.{Size}
 use Rattle.details.specs.declared.Size.the-variants.{Bytes, Unfit}
 use Rattle.details.proofs.DivisionTheorems.{Fitted, fitted}
-use Rattle.writer.specs.Spread.{saidPart, castParts, lineFor, code, told, rppLine, contentLines}
+use Rattle.writer.specs.Spread.{saidPart, castParts, lineFor, code, codeAndText, rppLine, contentLines}
 use Rattle.writer.specs.Sheet.{stoppedAt, unsaid, rule15, isUnfit, crowded, someCrowded, rule16}
 use Rattle.written.proofs.SpeltLaws.{isSaid, said-is, plain-set, spelt-set, spelt-on}
 
@@ -75,14 +75,14 @@ module _ (s : Bool) where
     fine-speaking o [] e = refl
     fine-speaking o (field t ps ∷ rs) e =
         let f = then-clean (unsaid s (o + length t + 1) (castParts (shapeOf form t) ps)) _ e in
-        both (said-all (o + length t + 1) (castParts (shapeOf form t) ps) (f .0)) (fine-speaking (nextOf o (field t ps)) rs (f .1))
+        both (said-all (o + length t + 1) (castParts (shapeOf form t) ps) (f .0)) (fine-speaking (nextRecord o (field t ps)) rs (f .1))
 
     speaking-fine : (o : ℕ) (rs : List Record) → all (speaking form s) rs ≡ true → rule15 form s o rs ≡ Fine
     unfolding rule15
     speaking-fine o [] e = refl
     speaking-fine o (field t ps ∷ rs) e =
-        ap (λ (v : Verdict). then v (rule15 form s (nextOf o (field t ps)) rs)) (all-said (o + length t + 1) (castParts (shapeOf form t) ps) (left (speaking form s (field t ps)) _ e))
-        ∙ speaking-fine (nextOf o (field t ps)) rs (right (speaking form s (field t ps)) _ e)
+        ap (λ (v : Verdict). then v (rule15 form s (nextRecord o (field t ps)) rs)) (all-said (o + length t + 1) (castParts (shapeOf form t) ps) (left (speaking form s (field t ps)) _ e))
+        ∙ speaking-fine (nextRecord o (field t ps)) rs (right (speaking form s (field t ps)) _ e)
 
     pub rule15-fine : (o : ℕ) (rs : List Record) → (rule15 form s o rs ≡ Fine) ↔ (all (speaking form s) rs ≡ true)
     rule15-fine o rs = (fine-speaking o rs, speaking-fine o rs)
@@ -109,7 +109,7 @@ module _ (form : Form) (s : Bool) where
       go false e = refl
 
 -- ---- details in their lines
-pub record Laid (p : Place) (least : ℕ) (text : List ℕ) : Type 0 where
+pub record Laid (p : DetailsField) (least : ℕ) (text : List ℕ) : Type 0 where
   pub front : List ℕ
   pub behind : List (List ℕ)
   pub is : linesFor p least text ≡ marked (layout p) (front ∷ behind)
@@ -117,7 +117,7 @@ pub record Laid (p : Place) (least : ℕ) (text : List ℕ) : Type 0 where
   pub later : Later (opens (layout p .barred)) (tail (layout p .widths)) behind
   pub joins : together (front ∷ behind) ≡ text
 
-pub laid : (p : Place) (least : ℕ) (text : List ℕ) → isUnfit (sizeFor p least text) ≡ false → Laid p least text
+pub laid : (p : DetailsField) (least : ℕ) (text : List ℕ) → isUnfit (sizeFor p least text) ≡ false → Laid p least text
 unfolding linesFor
 laid p least text e = go (sizeFor p least text) refl e
   where
@@ -126,12 +126,12 @@ laid p least text e = go (sizeFor p least text) refl e
         record { front = l; behind = ls; is = i; code = q; later = rw (← w) m; joins = j }
 
     go : (z : Size) → sizeFor p least text ≡ z → isUnfit z ≡ false → Laid p least text
-    go (Bytes n) f e = let w : Fitted p least text n = fitted p least text n f in by (ap (λ (a : _). marked (layout p) (linesOf a)) (w .is)) refl (w .division)
+    go (Bytes n) f e = let w : Fitted p least text n = fitted p least text n f in by (ap (λ (a : _). marked (layout p) (fitLines a)) (w .is)) refl (w .division)
     go Unfit f e = absurd (true≢false e)
 
 -- ---- a record that 19, 15 and 16 let pass
 pub record Ready (s : Bool) (sh : Shape) (ps : List (List ℕ)) : Type 0 where
-  pub is-right : Right s sh ps
+  pub is-right : RightParts s sh ps
   pub says : all (speaks s) (castParts sh ps) ≡ true
   pub fits : crowded s sh ps ≡ false
 
@@ -184,7 +184,7 @@ together-set : (ls : List (List ℕ)) → all xset (together ls) ≡ true → al
 together-set [] e = refl
 together-set (l ∷ ls) e = both (all-front xset l (together ls) e) (together-set ls (all-behind xset l (together ls) e))
 
-layout-set : (p : Place) → (all xset (layout p .mark) ≡ true) × (all xset (layout p .next) ≡ true)
+layout-set : (p : DetailsField) → (all xset (layout p .mark) ≡ true) × (all xset (layout p .next) ≡ true)
 unfolding xset letter capital shared digit isIn marks
 layout-set In70 = (refl, refl)
 layout-set In72 = (refl, refl)
@@ -194,7 +194,7 @@ next-set : (m : List ℕ) (ls : List (List ℕ)) → all xset m ≡ true → all
 next-set m [] e h = refl
 next-set m (l ∷ ls) e h = both (all-append xset m l e (left (all xset l) _ h)) (next-set m ls e (right (all xset l) _ h))
 
-marked-set : (p : Place) (ls : List (List ℕ)) → all (all xset) ls ≡ true → all (all xset) (marked (layout p) ls) ≡ true
+marked-set : (p : DetailsField) (ls : List (List ℕ)) → all (all xset) ls ≡ true → all (all xset) (marked (layout p) ls) ≡ true
 marked-set p [] e = refl
 marked-set p (l ∷ ls) e =
     both (all-append xset (layout p .mark) l (layout-set p .0) (left (all xset l) _ e)) (next-set (layout p .next) ls (layout-set p .1) (right (all xset l) _ e))
@@ -216,12 +216,12 @@ on-72 : (ls : List (List ℕ)) → all goesOn (map (λ (k : List ℕ). bytes "//
 on-72 [] = refl
 on-72 (l ∷ ls) = on-72 ls
 
-next-on : (p : Place) {ws : List ℕ} {ls : List (List ℕ)} → Later (opens (layout p .barred)) ws ls → all goesOn (map (λ (k : List ℕ). layout p .next ++ k) ls) ≡ true
+next-on : (p : DetailsField) {ws : List ℕ} {ls : List (List ℕ)} → Later (opens (layout p .barred)) ws ls → all goesOn (map (λ (k : List ℕ). layout p .next ++ k) ls) ≡ true
 next-on In70 m = on-70 m
 next-on In72 {ls = ls} m = on-72 ls
 next-on BehindRpp {ls = ls} m = on-72 ls
 
-laid-fair : {p : Place} {least : ℕ} {text : List ℕ} → Laid p least text → all xset text ≡ true → Fair (linesFor p least text)
+laid-fair : {p : DetailsField} {least : ℕ} {text : List ℕ} → Laid p least text → all xset text ≡ true → Fair (linesFor p least text)
 laid-fair {p} {least} {text} w e =
     let f : Fair (marked (layout p) (w .front ∷ w .behind)) =
     record {
@@ -231,8 +231,8 @@ laid-fair {p} {least} {text} w e =
     } in
     rw (w .is) f
 
-told-set : (s : Bool) (vo text : List ℕ) → all (speaks s) (copy vo ∷ name text ∷ []) ≡ true → all xset (told s (vo ∷ text ∷ [])) ≡ true
-told-set s vo text e =
+details-set : (s : Bool) (vo text : List ℕ) → all (speaks s) (copy vo ∷ name text ∷ []) ≡ true → all xset (codeAndText s (vo ∷ text ∷ [])) ≡ true
+details-set s vo text e =
     all-append xset (code s vo) (textOf (writing s text)) (code-set s vo (line-set s (copy vo) (left (speaks s (copy vo)) _ e)))
     (line-set s (name text) (left (speaks s (name text)) _ (right (speaks s (copy vo)) _ e)))
 
@@ -255,12 +255,12 @@ pub ready-fair : (s : Bool) (sh : Shape) (ps : List (List ℕ)) → Ready s sh p
 unfolding contentLines crowded cast
 ready-fair s sh ps w = go (w .is-right) (w .says) (w .fits)
   where
-    go : {sh : Shape} {ps : List (List ℕ)} → Right s sh ps → all (speaks s) (castParts sh ps) ≡ true → crowded s sh ps ≡ false → Fair (contentLines s sh ps)
+    go : {sh : Shape} {ps : List (List ℕ)} → RightParts s sh ps → all (speaks s) (castParts sh ps) ≡ true → crowded s sh ps ≡ false → Fair (contentLines s sh ps)
     go (plain p ps e g) a u = parts-fair s (cast Plain (p ∷ ps)) p ps (same-lines Plain (p ∷ ps)) g a
     go (agent p ps e g) a u = parts-fair s (cast Agent (p ∷ ps)) p ps (same-lines Agent (p ∷ ps)) g a
     go (payer p ps e g n) a u = parts-fair s (cast Payer (p ∷ ps)) p ps (same-lines Payer (p ∷ ps)) g a
     go (payee p ps e g n) a u = parts-fair s (cast Payee (p ∷ ps)) p ps (same-lines Payee (p ∷ ps)) g a
-    go (details v t d e) a u = laid-fair (laid In70 (codeSize s) (told s (v ∷ t ∷ [])) u) (told-set s v t a)
+    go (details v t d e) a u = laid-fair (laid In70 (codeSize s) (codeAndText s (v ∷ t ∷ [])) u) (details-set s v t a)
     go (note103 r e) a u = record { some = refl; on = refl; inside = both (rpp-set r (line-set s (copy r) (left (speaks s (copy r)) _ a))) refl }
     go (note202 r v t d e) a u =
-        note-fair s (empty r) r (told s (v ∷ t ∷ [])) (line-set s (copy r) (left (speaks s (copy r)) _ a)) (told-set s v t (right (speaks s (copy r)) _ a)) u
+        note-fair s (empty r) r (codeAndText s (v ∷ t ∷ [])) (line-set s (copy r) (left (speaks s (copy r)) _ a)) (details-set s v t (right (speaks s (copy r)) _ a)) u

@@ -19,10 +19,10 @@ use Rattle.base.proofs.RuleLaws.{same-broken}
 use Rattle.base.proofs.CallLaws.{refused, is-long, within-limit}
 use Rattle.alphabets.specs.Best.{writing}
 use Rattle.alphabets.proofs.SizeLaws.{twice-at-most}
-use Rattle.fields.specs.Field.{field, closing, laid, lined, linesOf, message}
+use Rattle.fields.specs.Field.{field, closing, withCrLf, lined, linesOf, message}
 use Rattle.fields.specs.Frame.{limit}
 use Rattle.fields.specs.Places as lines
-use Rattle.fields.proofs.FieldLaws.{laid-size}
+use Rattle.fields.proofs.FieldLaws.{crlf-size}
 use Rattle.fields.proofs.PlaceLaws.{size-append}
 use Rattle.roles.specs.Role.{Part, copy, name, taxName, lineOf, cast, shapeOf}
 use Rattle.roles.specs.Speech.{codeSize}
@@ -30,17 +30,17 @@ use Rattle.roles.specs.declared.Shape.{Shape}
 use Rattle.roles.specs.declared.Shape.the-variants.{Plain, Payer, Payee, Agent, Details, Note103, Note202}
 use Rattle.roles.proofs.BreachLaws.{same-lines}
 use Rattle.records.specs.Record.{Record, tabbed, line, sheet, records, rest}
-use Rattle.records.specs.Places.{sizeOf}
+use Rattle.records.specs.Places.{recordsSize}
 use Rattle.records.specs.Rule19.{sheetForm, sheetSign}
-use Rattle.records.specs.Sentences.{BadAt, unbegun, untyped, wrong, unended}
+use Rattle.records.specs.Sentences.{BadSheetAt, unbegun, untyped, wrong, unended}
 use Rattle.records.proofs.SheetLaws.{sheet-rest}
 use Rattle.records.proofs.PlaceLaws.{size-sheet, widthOf, size-tabbed}
 use Rattle.details.specs.Layouts.{linesFor, sizeFor}
-use Rattle.details.specs.declared.Place.{Place}
-use Rattle.details.specs.declared.Place.the-variants.{In70, In72, BehindRpp}
+use Rattle.details.specs.declared.DetailsField.{DetailsField}
+use Rattle.details.specs.declared.DetailsField.the-variants.{In70, In72, BehindRpp}
 use Rattle.details.specs.declared.Size.{Size}
 use Rattle.details.specs.declared.Size.the-variants.{Bytes, Unfit}
-use Rattle.writer.specs.Spread.{coded, castParts, lineFor, told, rppLine, noteLines, contentLines, fieldFor, spread}
+use Rattle.writer.specs.Spread.{coded, castParts, lineFor, codeAndText, rppLine, noteLines, contentLines, fieldFor, spread}
 use Rattle.writer.specs.Sheet.{fieldsOf, messageFor, writeRules, MessageTo}
 use Rattle.writer.proofs.RuleLaws.{sheet-rules}
 use Rattle.written.specs.Sentences as why
@@ -61,36 +61,36 @@ line-size s (copy p) = omega arith
 line-size s (name p) = text-size s p
 line-size s (taxName p) = text-size s p
 
-parts-size : (s : Bool) (xs : List Part) → lines.sizeOf (map (lineFor s) xs) ≤ 7 * widthOf (map lineOf xs)
+parts-size : (s : Bool) (xs : List Part) → lines.linesSize (map (lineFor s) xs) ≤ 7 * widthOf (map lineOf xs)
 parts-size s [] = omega arith
 parts-size s (x ∷ xs) = omega (arith, line-size s x, parts-size s xs)
 
-cast-size : (s : Bool) (sh : Shape) (ps : List (List ℕ)) → lines.sizeOf (map (lineFor s) (cast sh ps)) ≤ 7 * widthOf ps + 250
+cast-size : (s : Bool) (sh : Shape) (ps : List (List ℕ)) → lines.linesSize (map (lineFor s) (cast sh ps)) ≤ 7 * widthOf ps + 250
 cast-size s sh ps = omega (arith, parts-size s (cast sh ps), ap widthOf (same-lines sh ps))
 
 -- ---- details and notes
-details-size : (p : Place) (least : ℕ) (text : List ℕ) → lines.sizeOf (linesFor p least text) ≤ 250
+details-size : (p : DetailsField) (least : ℕ) (text : List ℕ) → lines.linesSize (linesFor p least text) ≤ 250
 details-size p least text = go (sizeFor p least text) refl
   where
-    go : (z : Size) → sizeFor p least text ≡ z → lines.sizeOf (linesFor p least text) ≤ 250
-    go (Bytes n) e = omega (arith, lines-few p least text n (sym e), laid-size (linesFor p least text))
-    go Unfit e = omega (arith, ap lines.sizeOf (unfit-lines p least text e))
+    go : (z : Size) → sizeFor p least text ≡ z → lines.linesSize (linesFor p least text) ≤ 250
+    go (Bytes n) e = omega (arith, lines-few p least text n (sym e), crlf-size (linesFor p least text))
+    go Unfit e = omega (arith, ap lines.linesSize (unfit-lines p least text e))
 
-rpps-size : (ps : List (List ℕ)) → lines.sizeOf (map rppLine ps) ≤ 7 * widthOf ps
+rpps-size : (ps : List (List ℕ)) → lines.linesSize (map rppLine ps) ≤ 7 * widthOf ps
 rpps-size [] = omega arith
 rpps-size (p ∷ ps) = omega (arith, rpps-size ps)
 
-note-size : (s : Bool) (ps : List (List ℕ)) → lines.sizeOf (noteLines s ps) ≤ 7 * widthOf ps + 250
+note-size : (s : Bool) (ps : List (List ℕ)) → lines.linesSize (noteLines s ps) ≤ 7 * widthOf ps + 250
 note-size s [] = omega arith
 note-size s (r ∷ ps) = go (empty r)
   where
-    go : (b : Bool) → lines.sizeOf (pick b [] (rppLine r ∷ []) ++ linesFor (pick b In72 BehindRpp) (codeSize s) (told s ps)) ≤ 7 * widthOf (r ∷ ps) + 250
-    go true = omega (arith, details-size In72 (codeSize s) (told s ps))
-    go false = omega (arith, details-size BehindRpp (codeSize s) (told s ps))
+    go : (b : Bool) → lines.linesSize (pick b [] (rppLine r ∷ []) ++ linesFor (pick b In72 BehindRpp) (codeSize s) (codeAndText s ps)) ≤ 7 * widthOf (r ∷ ps) + 250
+    go true = omega (arith, details-size In72 (codeSize s) (codeAndText s ps))
+    go false = omega (arith, details-size BehindRpp (codeSize s) (codeAndText s ps))
 
-content-size : (s : Bool) (sh : Shape) (ps : List (List ℕ)) → lines.sizeOf (contentLines s sh ps) ≤ 7 * widthOf ps + 250
+content-size : (s : Bool) (sh : Shape) (ps : List (List ℕ)) → lines.linesSize (contentLines s sh ps) ≤ 7 * widthOf ps + 250
 unfolding contentLines
-content-size s Details ps = omega (arith, details-size In70 (codeSize s) (told s ps))
+content-size s Details ps = omega (arith, details-size In70 (codeSize s) (codeAndText s ps))
 content-size s Note103 ps = omega (arith, rpps-size ps)
 content-size s Note202 ps = note-size s ps
 content-size s Plain ps = cast-size s Plain ps
@@ -99,27 +99,27 @@ content-size s Payee ps = cast-size s Payee ps
 content-size s Agent ps = cast-size s Agent ps
 
 -- ---- records
-lined-size : (t : List ℕ) (ls : List (List ℕ)) → lines.sizeOf (lined (field t ls)) ≤ length t + 2 + lines.sizeOf ls
+lined-size : (t : List ℕ) (ls : List (List ℕ)) → lines.linesSize (lined (field t ls)) ≤ length t + 2 + lines.linesSize ls
 lined-size t [] = omega arith
 lined-size t (l ∷ ls) = omega (arith, length-append t (58 ∷ l))
 
 line-long : (t : List ℕ) (ps : List (List ℕ)) → length (line (field t ps)) ≡ length t + widthOf ps
 line-long t ps = omega (arith, length-append t (tabbed ps), size-tabbed ps)
 
-record-size : (form : Form) (s : Bool) (r : Record) → lines.sizeOf (lined (fieldFor form s r)) ≤ 300 * (length (line r) + 1)
+record-size : (form : Form) (s : Bool) (r : Record) → lines.linesSize (lined (fieldFor form s r)) ≤ 300 * (length (line r) + 1)
 record-size form s (field t ps) =
     omega (arith, lined-size t (contentLines s (shapeOf form t) ps), content-size s (shapeOf form t) ps, line-long t ps)
 
-records-size : (form : Form) (s : Bool) (rs : List Record) → lines.sizeOf (linesOf (map (fieldFor form s) rs)) ≤ 300 * sizeOf rs
+records-size : (form : Form) (s : Bool) (rs : List Record) → lines.linesSize (linesOf (map (fieldFor form s) rs)) ≤ 300 * recordsSize rs
 records-size form s [] = omega arith
 records-size form s (r ∷ rs) =
     omega (arith, record-size form s r, records-size form s rs, size-append (lined (fieldFor form s r)) (linesOf (map (fieldFor form s) rs)))
 
 -- the records take no more than the sheet
-records-within : (s : List ℕ) → sizeOf (records s) ≤ length s
+records-within : (s : List ℕ) → recordsSize (records s) ≤ length s
 records-within s = omega (arith, size-sheet (records s), ap length (sheet-rest s), length-append (sheet (records s)) (rest s))
 
-tail-within : (rs : List Record) → sizeOf (tail rs) ≤ sizeOf rs
+tail-within : (rs : List Record) → recordsSize (tail rs) ≤ recordsSize rs
 tail-within [] = omega arith
 tail-within (r ∷ rs) = omega arith
 
@@ -129,7 +129,7 @@ unfolding messageFor fieldsOf spread message
 message-within s =
     let rs : List Record = tail (records s) in
     let ls : List (List ℕ) = linesOf (map (fieldFor (sheetForm s) (sheetSign s)) rs) in
-    omega (arith, records-size (sheetForm s) (sheetSign s) rs, tail-within (records s), records-within s, laid-size ls, length-append (laid ls) closing)
+    omega (arith, records-size (sheetForm s) (sheetSign s) rs, tail-within (records s), records-within s, crlf-size ls, length-append (withCrLf ls) closing)
 
 -- so the place of 17 is small: the longest message of a sheet within the limit
 abbrev pub longest : ℕ
@@ -143,8 +143,8 @@ sum-on : {A : Type 0} (size : List A → ℕ) (one : A → ℕ) → size [] ≡ 
 sum-on size one e f [] xs = omega arith
 sum-on size one e f (x ∷ before) xs = omega (arith, f x before, f x (before ++ xs), sum-on size one e f before xs)
 
-size-on : (before rs : List Record) → sizeOf (before ++ rs) ≡ sizeOf before + sizeOf rs
-size-on = sum-on sizeOf (λ r. length (line r) + 1) refl (λ r rs. refl)
+size-on : (before rs : List Record) → recordsSize (before ++ rs) ≡ recordsSize before + recordsSize rs
+size-on = sum-on recordsSize (λ r. length (line r) + 1) refl (λ r rs. refl)
 
 parts-on : (before xs : List Part) → partsSize (before ++ xs) ≡ partsSize before + partsSize xs
 parts-on = sum-on partsSize (λ x. length (lineOf x) + 1) refl (λ x xs. refl)
@@ -175,15 +175,15 @@ width Agent ps = cast-width Agent ps
 part-within : {s : Bool} {o : ℕ} {xs : List Part} {p : ℕ} → StuckPart s o xs p → p < o + partsSize xs
 part-within w = omega (arith, w .place, w .first .within, ap partsSize (w .list), parts-on (w .before) (w .this ∷ w .behind))
 
-stuck-within : {form : Form} {s : Bool} {rs : List Record} {p : ℕ} → StuckAt form s 0 rs p → p < sizeOf rs
+stuck-within : {form : Form} {s : Bool} {rs : List Record} {p : ℕ} → StuckAt form s 0 rs p → p < recordsSize rs
 stuck-within {form} {s} {rs} w =
-    omega (arith, part-within (w .stuck), width (shapeOf form (w .tag)) (w .parts), line-long (w .tag) (w .parts), ap sizeOf (w .list), size-on (w .before) (field (w .tag) (w .parts) ∷ w .behind))
+    omega (arith, part-within (w .stuck), width (shapeOf form (w .tag)) (w .parts), line-long (w .tag) (w .parts), ap recordsSize (w .list), size-on (w .before) (field (w .tag) (w .parts) ∷ w .behind))
 
-bad-within : {s : List ℕ} {p : ℕ} → BadAt s p → p ≤ sizeOf (records s)
+bad-within : {s : List ℕ} {p : ℕ} → BadSheetAt s p → p ≤ recordsSize (records s)
 bad-within (unbegun e z) = omega arith
 bad-within (untyped m rs e t z) = omega arith
-bad-within (wrong m before r behind e t g b z) = omega (arith, ap sizeOf e, size-on before (r ∷ behind))
-bad-within (unended m rs e t g w z) = omega (arith, ap sizeOf e)
+bad-within (wrong m before r behind e t g b z) = omega (arith, ap recordsSize e, size-on before (r ∷ behind))
+bad-within (unended m rs e t g w z) = omega (arith, ap recordsSize e)
 
 -- ---- a refusal's number and place
 own-most : {n : ℕ} → Own n → n ≤ lastNumber

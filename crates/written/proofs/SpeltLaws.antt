@@ -15,7 +15,7 @@ use Rattle.base.specs.Calls.{Answer, said, stuck, textOf}
 use Rattle.base.proofs.Bools.{left, right, both}
 use Rattle.base.proofs.ByteLaws.{begins-byte}
 use Rattle.base.proofs.CallLaws.{not-said}
-use Rattle.alphabets.specs.Grid.{grid, Kind, unwritable, russian, latin, common, kind, spell, allowed, sign}
+use Rattle.alphabets.specs.Grid.{grid, Kind, unwritable, russian, latin, common, kind, spell, allowed, character}
 use Rattle.alphabets.specs.Bank.{after, reads, plainly}
 use Rattle.alphabets.specs.Best.{latinNext, sideFor, cross, best, nowhere, spotAfter, bad, writing}
 use Rattle.alphabets.proofs.GridLaws.{Back, write-read}
@@ -24,7 +24,7 @@ use Rattle.alphabets.proofs.Shortest.{Came, turned, signed, came}
 use Rattle.alphabets.proofs.Theorems.{Written, written, plain-only, plain-iff, reads-back}
 use Rattle.fields.specs.Shapes.{goesOn}
 use Rattle.contents.specs.Tests.{looksTax, starts}
-use Rattle.roles.specs.Rule14.{hidden, isInn}
+use Rattle.roles.specs.Rule14.{hidden, isCyrillicInn}
 
 -- ---- an answer that is a text
 abbrev pub isSaid : Answer → Bool
@@ -43,19 +43,19 @@ pub plain-set : (p t : List ℕ) → plainly p ≡ said t → all xset p ≡ tru
 plain-set p t e = plain-iff p .0 (e ∙ ap said (plain-same p t e))
 
 -- ---- what reads is of the x set
-no-sign : (s : Bool) (x : ℕ) → letter x ≡ false → shared x ≡ false → sign s x ≡ 0
-unfolding sign
-no-sign true x a b = rw (a, b)
-no-sign false x a b = rw (b, a)
+no-character : (s : Bool) (x : ℕ) → letter x ≡ false → shared x ≡ false → character s x ≡ 0
+unfolding character
+no-character true x a b = rw (a, b)
+no-character false x a b = rw (b, a)
 
-outside-sign : (s : Bool) (x : ℕ) → xset x ≡ false → sign s x ≡ 0
+outside-character : (s : Bool) (x : ℕ) → xset x ≡ false → character s x ≡ 0
 unfolding xset
-outside-sign s x e = go (letter x) (shared x) refl refl e
+outside-character s x e = go (letter x) (shared x) refl refl e
   where
-    go : (a b : Bool) → letter x ≡ a → shared x ≡ b → (a || (b || eqb x 39)) ≡ false → sign s x ≡ 0
+    go : (a b : Bool) → letter x ≡ a → shared x ≡ b → (a || (b || eqb x 39)) ≡ false → character s x ≡ 0
     go true b p q e = absurd (true≢false e)
     go false true p q e = absurd (true≢false e)
-    go false false p q e = no-sign s x p q
+    go false false p q e = no-character s x p q
 
 apostrophe-set : xset 39 ≡ true
 unfolding xset letter capital shared digit isIn marks
@@ -66,7 +66,7 @@ set-byte s x y a e = go (xset x) refl
   where
     go : (b : Bool) → xset x ≡ b → xset x ≡ true
     go true h = h
-    go false h = let w : Back s y = write-read s y a in absurd (w .not-zero (sym (w .reads-back) ∙ ap (sign s) e ∙ outside-sign s x h))
+    go false h = let w : Back s y = write-read s y a in absurd (w .not-zero (sym (w .reads-back) ∙ ap (character s) e ∙ outside-character s x h))
 
 set-by : (s : Bool) (x : ℕ) (b d : List ℕ) → Came s x b d → ((s′ : Bool) (d′ : List ℕ) → reads s′ b ≡ said d′ → all xset b ≡ true) → all xset (x ∷ b) ≡ true
 set-by s x b d (turned e r) ih = both (ap xset e ∙ apostrophe-set) (ih (not s) d r)
@@ -92,11 +92,11 @@ mark-kind c slash = refl
 mark-kind c colon = refl
 mark-kind c dash = refl
 
-pub mark-sign : (c : ℕ) → Mark c → sign false c ≡ c
-unfolding sign marks isIn digit capital letter shared
-mark-sign c slash = refl
-mark-sign c colon = refl
-mark-sign c dash = refl
+pub mark-character : (c : ℕ) → Mark c → character false c ≡ c
+unfolding character marks isIn digit capital letter shared
+mark-character c slash = refl
+mark-character c colon = refl
+mark-character c dash = refl
 
 pub not-apostrophe : (c : ℕ) → Mark c → eqb 39 c ≡ false
 not-apostrophe c slash = refl
@@ -124,9 +124,9 @@ head-by : (k : Kind) (n : Bool) (x c : ℕ) (xs : List ℕ) → kind x ≡ k →
 head-by unwritable n x c xs e m g = absurd (never 0 g)
 head-by russian n x c xs e m g =
     let w : Back false x = write-read false x (rw e) in
-    let r : sign false (getD grid x 0) ≡ x = rw e at (w .reads-back) in
+    let r : character false (getD grid x 0) ≡ x = rw e at (w .reads-back) in
     let other : x ≡ c → ⊥ = λ q. russian-not (sym e ∙ ap kind q ∙ mark-kind c m) in
-    ne-eqb (getD grid x 0) c (λ q. other (sym r ∙ ap (sign false) q ∙ mark-sign c m)) ∙ sym (ne-eqb x c other)
+    ne-eqb (getD grid x 0) c (λ q. other (sym r ∙ ap (character false) q ∙ mark-character c m)) ∙ sym (ne-eqb x c other)
 head-by latin n x c xs e m g = not-apostrophe c m ∙ sym (ne-eqb x c (λ q. latin-not (sym e ∙ ap kind q ∙ mark-kind c m)))
 head-by common n x c xs e m g = refl
 
@@ -180,29 +180,29 @@ spelt-open d t e = go (eqb (byte d 0) 47) (eqb (byte d 0) 58) (eqb (byte d 0) 45
     go false false false f g h = and-false (begins 39 t)
 
 -- ---- a text that is written as a tax line begins with Cyrillic INN and a digit
-digit-sign : (x : ℕ) → digit x ≡ true → sign false x ≡ x
-unfolding sign shared
-digit-sign x e = rw e
+digit-character : (x : ℕ) → digit x ≡ true → character false x ≡ x
+unfolding character shared
+digit-character x e = rw e
 
-inn-signs : (sign false 73 ≡ 200) × (sign false 78 ≡ 205)
-unfolding sign grid marks isIn digit capital letter shared
-inn-signs = (refl, refl)
+inn-characters : (character false 73 ≡ 200) × (character false 78 ≡ 205)
+unfolding character grid marks isIn digit capital letter shared
+inn-characters = (refl, refl)
 
 digit-not : (x : ℕ) → digit x ≡ true → eqb x 39 ≡ false
 unfolding digit
 digit-not x e = ne-eqb x 39 (λ q. absurd (false≢true (rw q at e)))
 
-inn-by : (x : ℕ) (d : List ℕ) (a : Answer) → digit x ≡ true → after 200 (after 205 (after 205 (after x a))) ≡ said d → isInn d ≡ true
-unfolding isInn digit same
+inn-by : (x : ℕ) (d : List ℕ) (a : Answer) → digit x ≡ true → after 200 (after 205 (after 205 (after x a))) ≡ said d → isCyrillicInn d ≡ true
+unfolding isCyrillicInn digit same
 inn-by zero d a e r = absurd (false≢true e)
 inn-by (suc x) d (stuck k) e r = absurd (not-said (suc (suc (suc (suc k)))) d r)
-inn-by (suc x) d (said t) e r = let q : 200 ∷ 205 ∷ 205 ∷ suc x ∷ t ≡ d = cc in ap isInn (sym q) ∙ e
+inn-by (suc x) d (said t) e r = let q : 200 ∷ 205 ∷ 205 ∷ suc x ∷ t ≡ d = cc in ap isCyrillicInn (sym q) ∙ e
 
-inn-reads : (x : ℕ) (r d : List ℕ) → digit x ≡ true → reads false (73 ∷ 78 ∷ 78 ∷ x ∷ r) ≡ said d → isInn d ≡ true
+inn-reads : (x : ℕ) (r d : List ℕ) → digit x ≡ true → reads false (73 ∷ 78 ∷ 78 ∷ x ∷ r) ≡ said d → isCyrillicInn d ≡ true
 unfolding reads
-inn-reads x r d e q = inn-by x d (reads false r) e (rw (inn-signs .0, inn-signs .1, digit-not x e, digit-sign x e) at q)
+inn-reads x r d e q = inn-by x d (reads false r) e (rw (inn-characters .0, inn-characters .1, digit-not x e, digit-character x e) at q)
 
-tax-reads : (b d : List ℕ) → looksTax b ≡ true → reads false b ≡ said d → isInn d ≡ true
+tax-reads : (b d : List ℕ) → looksTax b ≡ true → reads false b ≡ said d → isCyrillicInn d ≡ true
 unfolding looksTax digit same
 tax-reads [] d e r = absurd (false≢true e)
 tax-reads (x ∷ []) d e r = absurd (false≢true (right (starts (bytes "INN") (x ∷ [])) _ e))
@@ -217,7 +217,7 @@ tax-reads (x ∷ y ∷ z ∷ w ∷ b) d e r =
     let u : z ≡ 78 = eqb-true z 78 (left (eqb z 78) _ h) in
     inn-reads w b d (right (starts (bytes "INN") (x ∷ y ∷ z ∷ w ∷ b)) _ e) (rw (p, q, u) at r)
 
-pub spelt-tax : (d t : List ℕ) → writing true d ≡ said t → isInn d ≡ false → looksTax t ≡ false
+pub spelt-tax : (d t : List ℕ) → writing true d ≡ said t → isCyrillicInn d ≡ false → looksTax t ≡ false
 spelt-tax d t e n = go (looksTax t) refl
   where
     go : (b : Bool) → looksTax t ≡ b → looksTax t ≡ false

@@ -21,47 +21,47 @@ use Rattle.fields.specs.Places as fields
 use Rattle.fields.specs.Shapes.{goesOn}
 use Rattle.contents.specs.Tests.{looksTax}
 use Rattle.roles.specs.Role.{shapeOf, Part, copy, name, taxName, lineOf, cast}
-use Rattle.roles.specs.Speech.{Manner, named, taxPlaced, told, Speech, speech, saidAt, names, noted, codeSize, speeches}
+use Rattle.roles.specs.Speech.{Manner, asName, asTaxName, asDetails, Speech, speech, saidAt, nameSpeeches, noteSpeeches, codeSize, speeches}
 use Rattle.roles.specs.Speech as speech
-use Rattle.roles.specs.Rule14.{mute, isInn, taxLike, clauses, breaks, spoken, rule14}
+use Rattle.roles.specs.Rule14.{mute, isCyrillicInn, taxLike, clauses, breaks14, speechesOf, rule14}
 use Rattle.roles.specs.Sentences.{Heard}
 use Rattle.roles.specs.declared.Shape.{Shape}
 use Rattle.roles.specs.declared.Shape.the-variants.{Payer, Payee, Agent}
 use Rattle.roles.proofs.BreachLaws.{same-lines, rule14-fine}
 use Rattle.records.specs.Record.{Record, records}
-use Rattle.records.specs.Rule19.{digits, sheetForm, sheetSign}
-use Rattle.records.specs.Sentences.{Right, plain, agent, payer, payee, details, note103, note202}
+use Rattle.records.specs.Rule19.{isDigits, sheetForm, sheetSign}
+use Rattle.records.specs.Sentences.{RightParts, plain, agent, payer, payee, details, note103, note202}
 use Rattle.records.proofs.SoundLaws.{calm, cast-calm}
 use Rattle.details.specs.Layouts.{linesFor, sizeFor}
-use Rattle.details.specs.declared.Place.{Place}
-use Rattle.details.specs.declared.Place.the-variants.{In70, In72, BehindRpp}
+use Rattle.details.specs.declared.DetailsField.{DetailsField}
+use Rattle.details.specs.declared.DetailsField.the-variants.{In70, In72, BehindRpp}
 use Rattle.writer.specs.Spread.{castParts, lineFor, code, rppLine, contentLines, fieldFor, spread}
 use Rattle.writer.specs.Spread as spread
 use Rattle.writer.specs.Sheet.{isUnfit, crowded, fieldsOf, sheetRules}
 use Rattle.written.proofs.SpeltLaws.{said-is, spelt-open}
 use Rattle.written.proofs.ReadyLaws.{speaks, Laid, laid, Ready}
-use Rattle.written.proofs.CastLaws.{turned, untaxed, cast-untaxed, cast-again, frontOf, nextOf, told-again}
+use Rattle.written.proofs.CastLaws.{turned, untaxed, cast-untaxed, cast-again, frontOf, nextOf, details-again}
 use Rattle.written.proofs.BuiltLaws.{AllPass, records-pass, built-sign}
 
 -- ---- one text: it reads as its part
 back : (p : List ℕ) → speaks true (name p) ≡ true → reading true (textOf (writing true p)) ≡ said p
 back p e = reads-back true p (textOf (writing true p)) (said-is (writing true p) e)
 
-by-reading : (m : Manner) (b d : List ℕ) → reading true b ≡ said d → clauses m (empty d) b d ≡ false → breaks m b ≡ false
-unfolding breaks
+by-reading : (m : Manner) (b d : List ℕ) → reading true b ≡ said d → clauses m (empty d) b d ≡ false → breaks14 m b ≡ false
+unfolding breaks14
 by-reading m b d r e = ap (λ (a : Answer). clauses m (mute a) b (textOf a)) r ∙ e
 
-told-heard : (p : List ℕ) → speaks true (name p) ≡ true → empty p ≡ false → breaks told (textOf (writing true p)) ≡ false
-told-heard p e n = by-reading told (textOf (writing true p)) p (back p e) n
+details-heard : (p : List ℕ) → speaks true (name p) ≡ true → empty p ≡ false → breaks14 asDetails (textOf (writing true p)) ≡ false
+details-heard p e n = by-reading asDetails (textOf (writing true p)) p (back p e) n
 
-name-heard : (p : List ℕ) → speaks true (name p) ≡ true → empty p ≡ false → breaks named (textOf (writing true p)) ≡ false
+name-heard : (p : List ℕ) → speaks true (name p) ≡ true → empty p ≡ false → breaks14 asName (textOf (writing true p)) ≡ false
 name-heard p e n =
-    by-reading named (textOf (writing true p)) p (back p e) (ap₂ _||_ n (spelt-open p (textOf (writing true p)) (said-is (writing true p) e)))
+    by-reading asName (textOf (writing true p)) p (back p e) (ap₂ _||_ n (spelt-open p (textOf (writing true p)) (said-is (writing true p) e)))
 
-tax-heard : (p : List ℕ) → speaks true (name p) ≡ true → empty p ≡ false → looksTax p ≡ false → isInn p ≡ false → breaks taxPlaced (textOf (writing true p)) ≡ false
+tax-heard : (p : List ℕ) → speaks true (name p) ≡ true → empty p ≡ false → looksTax p ≡ false → isCyrillicInn p ≡ false → breaks14 asTaxName (textOf (writing true p)) ≡ false
 unfolding taxLike
 tax-heard p e n t i =
-    by-reading taxPlaced (textOf (writing true p)) p (back p e)
+    by-reading asTaxName (textOf (writing true p)) p (back p e)
     (ap₂ _||_ n (ap₂ _||_ (spelt-open p (textOf (writing true p)) (said-is (writing true p) e)) (ap₂ _||_ t i)))
 
 -- ---- the names of a record
@@ -71,84 +71,84 @@ some p = not (empty p)
 part-heard : (o : ℕ) (x : Part) → speaks true x ≡ true → some (lineOf x) ≡ true → untaxed x ≡ true → calm x ≡ true → Heard (saidAt o (turned true x))
 part-heard o (copy p) e n t c = tt
 part-heard o (name p) e n t c = (name-heard p e (isnt (empty p) n), tt)
-part-heard o (taxName p) e n t c = (tax-heard p e (isnt (empty p) n) (isnt (looksTax p) t) (isnt (isInn p) c), tt)
+part-heard o (taxName p) e n t c = (tax-heard p e (isnt (empty p) n) (isnt (looksTax p) t) (isnt (isCyrillicInn p) c), tt)
 
 heard-both : (xs ys : List Speech) → Heard xs → Heard ys → Heard (xs ++ ys)
 heard-both [] ys h k = k
 heard-both (speech m o b ∷ xs) ys h k = (h .0, heard-both xs ys (h .1) k)
 
-names-heard : (o : ℕ) (xs : List Part) → all (speaks true) xs ≡ true → all some (map lineOf xs) ≡ true → all untaxed xs ≡ true → all calm xs ≡ true → Heard (names o (map (turned true) xs))
-unfolding names
+names-heard : (o : ℕ) (xs : List Part) → all (speaks true) xs ≡ true → all some (map lineOf xs) ≡ true → all untaxed xs ≡ true → all calm xs ≡ true → Heard (nameSpeeches o (map (turned true) xs))
+unfolding nameSpeeches
 names-heard o [] e n t c = tt
 names-heard o (x ∷ xs) e n t c =
-    heard-both (saidAt o (turned true x)) (names (o + length (lineOf (turned true x)) + 2) (map (turned true) xs))
+    heard-both (saidAt o (turned true x)) (nameSpeeches (o + length (lineOf (turned true x)) + 2) (map (turned true) xs))
     (part-heard o x (left (speaks true x) _ e) (left (some (lineOf x)) _ n) (left (untaxed x) _ t) (left (calm x) _ c))
     (names-heard (o + length (lineOf (turned true x)) + 2) xs (right (speaks true x) _ e) (right (some (lineOf x)) _ n) (right (untaxed x) _ t) (right (calm x) _ c))
 
 on-some : (ps : List (List ℕ)) → all goesOn ps ≡ true → all some ps ≡ true
 on-some ps g = all-imp goesOn some (λ p h. left (some p) _ h) ps g
 
-parts-heard : (o : ℕ) (sh : Shape) (p : List ℕ) (ps : List (List ℕ)) → Right true sh (p ∷ ps) → empty p ≡ false → all goesOn ps ≡ true → all (speaks true) (cast sh (p ∷ ps)) ≡ true
-    → Heard (names o (cast sh (map (lineFor true) (cast sh (p ∷ ps)))))
+parts-heard : (o : ℕ) (sh : Shape) (p : List ℕ) (ps : List (List ℕ)) → RightParts true sh (p ∷ ps) → empty p ≡ false → all goesOn ps ≡ true → all (speaks true) (cast sh (p ∷ ps)) ≡ true
+    → Heard (nameSpeeches o (cast sh (map (lineFor true) (cast sh (p ∷ ps)))))
 parts-heard o sh p ps r n g e =
     let xs : List Part = cast sh (p ∷ ps) in
     let k : all some (map lineOf xs) ≡ true = ap (all some) (same-lines sh (p ∷ ps)) ∙ both (ap not n) (on-some ps g) in
-    subst (λ (l : List Part). Heard (names o l)) (sym (cast-again true sh (p ∷ ps) r e)) (names-heard o xs e k (cast-untaxed sh (p ∷ ps)) (cast-calm sh (p ∷ ps) r))
+    subst (λ (l : List Part). Heard (nameSpeeches o l)) (sym (cast-again true sh (p ∷ ps) r e)) (names-heard o xs e k (cast-untaxed sh (p ∷ ps)) (cast-calm sh (p ∷ ps) r))
 
 -- ---- details
-heard-told : (q : Place) (vo p : List ℕ) (o : ℕ) → digits 5 vo ≡ true → empty p ≡ false → speaks true (name p) ≡ true → Laid q (codeSize true) (code true vo ++ textOf (writing true p))
-    → Heard (speech.details (frontOf q true) (nextOf q) o (linesFor q (codeSize true) (code true vo ++ textOf (writing true p))))
-heard-told q vo p o d n e h =
-    let w = told-again q true vo (textOf (writing true p)) o d h in
-    subst Heard (sym (w .1)) (told-heard p e n, tt)
+heard-details : (q : DetailsField) (vo p : List ℕ) (o : ℕ) → isDigits 5 vo ≡ true → empty p ≡ false → speaks true (name p) ≡ true → Laid q (codeSize true) (code true vo ++ textOf (writing true p))
+    → Heard (speech.detailsSpeech (frontOf q true) (nextOf q) o (linesFor q (codeSize true) (code true vo ++ textOf (writing true p))))
+heard-details q vo p o d n e h =
+    let w = details-again q true vo (textOf (writing true p)) o d h in
+    subst Heard (sym (w .1)) (details-heard p e n, tt)
 
 -- /NZP/ is no RPP line, /RPP/ is one
-noted-first : (o : ℕ) (least : ℕ) (text : List ℕ) → Laid In72 least text → noted true o (linesFor In72 least text) ≡ speech.details (frontOf In72 true) (nextOf In72) o (linesFor In72 least text)
-unfolding noted same
-noted-first o least text h = ap (noted true o) (h .is) ∙ ap (speech.details (frontOf In72 true) (nextOf In72) o) (sym (h .is))
+note-first : (o : ℕ) (least : ℕ) (text : List ℕ) → Laid In72 least text → noteSpeeches true o (linesFor In72 least text) ≡ speech.detailsSpeech (frontOf In72 true) (nextOf In72) o (linesFor In72 least text)
+unfolding noteSpeeches same
+note-first o least text h = ap (noteSpeeches true o) (h .is) ∙ ap (speech.detailsSpeech (frontOf In72 true) (nextOf In72) o) (sym (h .is))
 
-noted-behind : (o : ℕ) (r : List ℕ) (ls : List (List ℕ)) → noted true o (rppLine r ∷ ls) ≡ speech.details (frontOf BehindRpp true) (nextOf BehindRpp) (o + length (rppLine r) + 2) ls
-unfolding noted same
-noted-behind o r ls = refl
+note-behind : (o : ℕ) (r : List ℕ) (ls : List (List ℕ)) → noteSpeeches true o (rppLine r ∷ ls) ≡ speech.detailsSpeech (frontOf BehindRpp true) (nextOf BehindRpp) (o + length (rppLine r) + 2) ls
+unfolding noteSpeeches same
+note-behind o r ls = refl
 
-note-heard : (b : Bool) (o : ℕ) (r vo p : List ℕ) → digits 5 vo ≡ true → empty p ≡ false → speaks true (name p) ≡ true
+note-heard : (b : Bool) (o : ℕ) (r vo p : List ℕ) → isDigits 5 vo ≡ true → empty p ≡ false → speaks true (name p) ≡ true
     → isUnfit (sizeFor (pick b In72 BehindRpp) (codeSize true) (code true vo ++ textOf (writing true p))) ≡ false
-    → Heard (noted true o (pick b [] (rppLine r ∷ []) ++ linesFor (pick b In72 BehindRpp) (codeSize true) (code true vo ++ textOf (writing true p))))
+    → Heard (noteSpeeches true o (pick b [] (rppLine r ∷ []) ++ linesFor (pick b In72 BehindRpp) (codeSize true) (code true vo ++ textOf (writing true p))))
 note-heard true o r vo p d n e u =
     let text : List ℕ = code true vo ++ textOf (writing true p) in
     let h = laid In72 (codeSize true) text u in
-    subst Heard (sym (noted-first o (codeSize true) text h)) (heard-told In72 vo p o d n e h)
+    subst Heard (sym (note-first o (codeSize true) text h)) (heard-details In72 vo p o d n e h)
 note-heard false o r vo p d n e u =
     let text : List ℕ = code true vo ++ textOf (writing true p) in
     let h = laid BehindRpp (codeSize true) text u in
-    subst Heard (sym (noted-behind o r (linesFor BehindRpp (codeSize true) text))) (heard-told BehindRpp vo p (o + length (rppLine r) + 2) d n e h)
+    subst Heard (sym (note-behind o r (linesFor BehindRpp (codeSize true) text))) (heard-details BehindRpp vo p (o + length (rppLine r) + 2) d n e h)
 
 -- ---- a record, the records
 ready-heard : (o : ℕ) (sh : Shape) (ps : List (List ℕ)) → Ready true sh ps → Heard (speeches true sh o (contentLines true sh ps))
 unfolding speeches contentLines crowded
 ready-heard o sh ps w = go (w .is-right) (w .says) (w .fits)
   where
-    go : {sh : Shape} {ps : List (List ℕ)} → Right true sh ps → all (speaks true) (castParts sh ps) ≡ true → crowded true sh ps ≡ false
+    go : {sh : Shape} {ps : List (List ℕ)} → RightParts true sh ps → all (speaks true) (castParts sh ps) ≡ true → crowded true sh ps ≡ false
         → Heard (speeches true sh o (contentLines true sh ps))
     go (plain p ps e g) a u = tt
     go (agent p ps e g) a u = parts-heard o Agent p ps (agent p ps e g) e g a
     go (payer p ps e g n) a u = parts-heard o Payer p ps (payer p ps e g n) e g a
     go (payee p ps e g n) a u = parts-heard o Payee p ps (payee p ps e g n) e g a
     go (details v t d e) a u =
-        heard-told In70 v t o d e (left (speaks true (name t)) _ (right (speaks true (copy v)) _ a)) (laid In70 (codeSize true) (spread.told true (v ∷ t ∷ [])) u)
+        heard-details In70 v t o d e (left (speaks true (name t)) _ (right (speaks true (copy v)) _ a)) (laid In70 (codeSize true) (spread.codeAndText true (v ∷ t ∷ [])) u)
     go (note103 r e) a u = tt
     go (note202 r v t d e) a u =
         note-heard (empty r) o r v t d e (left (speaks true (name t)) _ (right (speaks true (copy v)) _ (right (speaks true (copy r)) _ a))) u
 
-records-heard : (form : Form) (o : ℕ) (rs : List Record) → AllPass form true rs → Heard (spoken form o (map (fieldFor form true) rs))
-unfolding spoken
+records-heard : (form : Form) (o : ℕ) (rs : List Record) → AllPass form true rs → Heard (speechesOf form o (map (fieldFor form true) rs))
+unfolding speechesOf
 records-heard form o [] w = tt
 records-heard form o (field t ps ∷ rs) w =
     let ls : List (List ℕ) = contentLines true (shapeOf form t) ps in
-    heard-both (speeches true (shapeOf form t) (startOf o (field t ls)) ls) (spoken form (fields.nextOf o (field t ls)) (map (fieldFor form true) rs))
+    heard-both (speeches true (shapeOf form t) (startOf o (field t ls)) ls) (speechesOf form (fields.nextOf o (field t ls)) (map (fieldFor form true) rs))
     (ready-heard (startOf o (field t ls)) (shapeOf form t) ps (w .0 .1)) (records-heard form (fields.nextOf o (field t ls)) rs (w .1))
 
-signed-heard : (form : Form) (g : Bool) (rs : List Record) → g ≡ true → AllPass form g rs → Heard (spoken form 5 (map (fieldFor form g) rs))
+signed-heard : (form : Form) (g : Bool) (rs : List Record) → g ≡ true → AllPass form g rs → Heard (speechesOf form 5 (map (fieldFor form g) rs))
 signed-heard form true rs q w = records-heard form 5 rs w
 signed-heard form false rs q w = absurd (false≢true q)
 

@@ -17,7 +17,7 @@ use Rattle.base.specs.declared.Verdict.the-variants.{Fine, Broken}
 use Rattle.base.specs.declared.Outcome.{Outcome}
 use Rattle.base.specs.declared.Outcome.the-variants.{Done, Refused}
 use Rattle.base.proofs.RuleLaws.{fine-broken, same-broken, then-fine, first-clean, broken-first}
-use Rattle.base.proofs.CallLaws.{gives-one, accepted, refused, is-long, not-long, is-short, not-short, enough}
+use Rattle.base.proofs.CallLaws.{gives-one, accepted, refused, is-long, not-long, is-short, not-short, short-within}
 use Rattle.fields.specs.Field.{fields}
 use Rattle.fields.specs.Frame.{limit}
 use Rattle.types.specs.declared.Form.{Form}
@@ -27,7 +27,7 @@ use Rattle.types.specs.Walk.{rule18}
 use Rattle.judge.specs.Message.{verdictOf}
 use Rattle.records.specs.Record.{records}
 use Rattle.records.specs.Rule19.{sheetForm, sheetSign, rule19}
-use Rattle.records.specs.Sentences.{BadAt}
+use Rattle.records.specs.Sentences.{BadSheetAt}
 use Rattle.records.proofs.RuleLaws.{rule19-bad, bad-rule19}
 use Rattle.writer.specs.Sheet.{rule15, rule16, messageFor, sheetRules, atStart, ownRule, writeRules, MessageTo}
 use Rattle.writer.proofs.RuleLaws.{sheet-holds, rules-sheet, write-by, write-rules}
@@ -123,7 +123,7 @@ module _ (s out : List ℕ) where
 module _ (s out : List ℕ) (p : ℕ) where
   abbrev pub Tells : ℕ → Type 0
   Tells n =
-      pick (eqb n 19) (BadAt s p)
+      pick (eqb n 19) (BadSheetAt s p)
       (pick (eqb n 18) ((p ≡ 0) × NoType (sheetForm s))
       (pick (eqb n 15) (StuckAt (sheetForm s) (sheetSign s) 0 (records s) p)
       (pick (eqb n 16) ((p ≡ 0) × CrowdedIn (sheetForm s) (sheetSign s) (tail (records s)))
@@ -170,15 +170,15 @@ module _ (s out : List ℕ) (r : Outcome) (after : List ℕ) (g : MessageTo s ou
   pub refused-why : (n p : ℕ) → r ≡ Refused n p → Reason s out p n × (after ≡ out)
   refused-why n p e = let h = rule-of n p e in (refusal-reason s out n p (h .0), h .1)
 
-  told : (n p : ℕ) → r ≡ Refused n p → Tells s out p n
-  told n p e = tells s out p (refused-why n p e .0)
+  because : (n p : ℕ) → r ≡ Refused n p → Tells s out p n
+  because n p e = tells s out p (refused-why n p e .0)
 
   broken-at : (n p : ℕ) → FirstOf (writeRules s out) n p → r ≡ Refused n p
   broken-at n p f = given n p (broken-first (writeRules s out) n p f)
 
   -- 1 at the limit exactly if the sheet is over it; a message over its own limit is 1 at 0 (exact-own)
   pub exact-1 : (r ≡ Refused 1 limit) ↔ (limit < length s)
-  exact-1 = ((λ e. go (told 1 limit e)), (λ h. given 1 limit (rw (is-long limit s h))))
+  exact-1 = ((λ e. go (because 1 limit e)), (λ h. given 1 limit (rw (is-long limit s h))))
     where
       go : ((limit ≡ limit) × (limit < length s)) ⊎ (limit ≡ 0) → limit < length s
       go (inl h) = h .1
@@ -186,22 +186,22 @@ module _ (s out : List ℕ) (r : Outcome) (after : List ℕ) (g : MessageTo s ou
 
   module _ (p : ℕ) where
     -- 19 exactly if a rule of the sheet is broken, at the first bad record
-    pub exact-19 : length s ≤ limit → (r ≡ Refused 19 p) ↔ BadAt s p
+    pub exact-19 : length s ≤ limit → (r ≡ Refused 19 p) ↔ BadSheetAt s p
     exact-19 h = (
-      (λ e. told 19 p e),
+      (λ e. because 19 p e),
       (λ b. given 19 p (rw (not-long limit s h, bad-rule19 s p b))),
     )
 
     pub exact-18 : Clean (long limit s ∷ rule19 s ∷ []) → (r ≡ Refused 18 p) ↔ ((p ≡ 0) × NoType (sheetForm s))
     exact-18 (size, (sound, z)) = (
-      (λ e. told 18 p e),
+      (λ e. because 18 p e),
       (λ b. given 18 p (rw (size, sound, no-type (sheetForm s) (b .1), b .0))),
     )
 
     -- 15 exactly if a name or details text has no bank text or a copied part leaves the x set, at the first such byte
     pub exact-15 : Clean (long limit s ∷ rule19 s ∷ rule18 (sheetForm s) ∷ []) → (r ≡ Refused 15 p) ↔ StuckAt (sheetForm s) (sheetSign s) 0 (records s) p
     exact-15 (size, (sound, (type, z))) = (
-      (λ e. told 15 p e),
+      (λ e. because 15 p e),
       (λ b. given 15 p (rw (size, sound, type, rule15-iff (sheetSign s) (sheetForm s) 0 (records s) p .1 b))),
     )
 
@@ -209,14 +209,14 @@ module _ (s out : List ℕ) (r : Outcome) (after : List ℕ) (g : MessageTo s ou
     pub exact-16 : Clean (long limit s ∷ rule19 s ∷ rule18 (sheetForm s) ∷ rule15 (sheetForm s) (sheetSign s) 0 (records s) ∷ [])
         → (r ≡ Refused 16 p) ↔ ((p ≡ 0) × CrowdedIn (sheetForm s) (sheetSign s) (tail (records s)))
     exact-16 (size, (sound, (type, (texts, z)))) = (
-      (λ e. told 16 p e),
+      (λ e. because 16 p e),
       (λ b. given 16 p (rw (size, sound, type, texts, crowded-rule16 (sheetSign s) (sheetForm s) (tail (records s)) (b .1), b .0))),
     )
 
     -- 17 exactly if the room is shorter than the message, whose length is the place
     pub exact-17 : Clean (sheetRules s) → (r ≡ Refused 17 p) ↔ ((p ≡ length (messageFor s)) × (length out < length (messageFor s)))
     exact-17 c = (
-      (λ e. told 17 p e),
+      (λ e. because 17 p e),
       λ b. broken-at 17 p (record {
         before = sheetRules s;
         behind = ownRule s ∷ [];
@@ -256,7 +256,7 @@ module _ (s out : List ℕ) (r : Outcome) (after : List ℕ) (g : MessageTo s ou
       let a = accepted (writeRules s out) (messageFor s) out n after (subst (λ (q : Outcome). Gives (writeRules s out) (messageFor s) out q after) e g) in
       let c = write-rules s out (a .clean) in
       let k : Clean (sheetRules s) = rules-sheet s (c .sheet) in
-      record { clean = k; count = a .count; room = enough (messageFor s) out (c .room); filled = a .filled; message-fine = own-fine s k (c .own); made = built-made s k }
+      record { clean = k; count = a .count; room = short-within (messageFor s) out (c .room); filled = a .filled; message-fine = own-fine s k (c .own); made = built-made s k }
 
   -- written exactly if the message is accepted, where the sheet is fine and there is room
   pub exact-done : Clean (sheetRules s) → length (messageFor s) ≤ length out

@@ -5,11 +5,10 @@ use Prim.Native.String.{String}
 use mathlib.Core.Path.{_≡_}
 use mathlib.Core.List.{List, [], _∷_}
 use lib.ListN.{replicate}
-use Rattle.base.specs.Quoted.{bytes}
+use Rattle.base.specs.Quoted.{bytes, desk}
 use Rattle.base.specs.Rules.{first}
 use Rattle.base.specs.declared.Verdict.the-variants.{Fine, Broken}
 use Rattle.frame.specs.Cases.{sample}
-use Rattle.records.specs.Cases.{desk}
 use Rattle.writer.specs.Sheet.{messageFor, writeRules}
 
 pub data Case : Type 0 where

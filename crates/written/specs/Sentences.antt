@@ -11,6 +11,7 @@ use Rattle.types.specs.declared.Form.the-variants.{Other}
 use Rattle.base.specs.Choice.{all}
 use Rattle.base.specs.Bytes.{empty, xset}
 use Rattle.base.specs.Calls.{said}
+use Rattle.base.specs.Examples.{AllHold}
 use Rattle.base.specs.declared.Verdict.the-variants.{Broken}
 use Rattle.alphabets.specs.Sentences.{canSay, FirstFails, Shortest}
 use Rattle.alphabets.specs.Sentences as texts
@@ -23,22 +24,18 @@ use Rattle.roles.specs.declared.Shape.{Shape}
 use Rattle.roles.specs.declared.Shape.the-variants.{Plain, Payer, Payee, Agent, Details, Note103, Note202}
 use Rattle.judge.specs.Message.{verdictOf}
 use Rattle.records.specs.Record.{Record, records}
-use Rattle.records.specs.Places.{sizeOf}
+use Rattle.records.specs.Places.{recordsSize}
 use Rattle.records.specs.Rule19.{sheetForm, sheetSign}
-use Rattle.records.specs.Sentences.{BadAt}
+use Rattle.records.specs.Sentences.{BadSheetAt}
 use Rattle.details.specs.Lines.{together, Most}
 use Rattle.details.specs.Breaking.{opens}
 use Rattle.details.specs.Layouts.{layout, DivisionIn, marked}
-use Rattle.details.specs.declared.Place.{Place}
-use Rattle.details.specs.declared.Place.the-variants.{In70, In72, BehindRpp}
-use Rattle.writer.specs.Spread.{castParts, code, told, rppLine}
+use Rattle.details.specs.declared.DetailsField.{DetailsField}
+use Rattle.details.specs.declared.DetailsField.the-variants.{In70, In72, BehindRpp}
+use Rattle.writer.specs.Spread.{castParts, code, codeAndText, rppLine}
 use Rattle.writer.specs.Sheet.{messageFor}
 
 -- ---- lists
-abbrev pub Every : {A : Type 0} → (A → Type 0) → List A → Type 0
-Every P [] = Unit {0}
-Every P (x ∷ xs) = P x × Every P xs
-
 -- as many on both sides, each with its own
 abbrev pub OneByOne : {A B : Type 0} → (A → B → Type 0) → List A → List B → Type 0
 OneByOne P [] [] = Unit {0}
@@ -48,31 +45,31 @@ OneByOne P (x ∷ xs) (y ∷ ys) = P x y × OneByOne P xs ys
 
 -- ---- the fields made of records; s: with the sign
 -- the line of a part: a copied part itself; for a name the shortest text that reads as it (D3)
-abbrev pub Line : Bool → Part → List ℕ → Type 0
-Line s (copy p) l = l ≡ p
-Line s (name p) l = Shortest s p l
-Line s (taxName p) l = Shortest s p l
+abbrev pub PartLine : Bool → Part → List ℕ → Type 0
+PartLine s (copy p) l = l ≡ p
+PartLine s (name p) l = Shortest s p l
+PartLine s (taxName p) l = Shortest s p l
 
 -- details: their lines, the marks left out, are together the code and the shortest text for it (D3); they are a division, and each has the most
 -- that it lawfully can
-pub record Told (s : Bool) (place : Place) (vo text : List ℕ) (ls : List (List ℕ)) : Type 0 where
+pub record WrittenDetails (s : Bool) (into : DetailsField) (vo text : List ℕ) (ls : List (List ℕ)) : Type 0 where
   pub spelt : List ℕ
   pub shortest : Shortest s text spelt
   pub rows : List (List ℕ)
-  pub marks : ls ≡ marked (layout place) rows
-  pub joined : together rows ≡ code s vo ++ spelt
-  pub division : DivisionIn (layout place) (codeSize s) (code s vo ++ spelt) rows
-  pub fullest : Most (opens (layout place .barred)) (layout place .widths) rows
+  pub marks : ls ≡ marked (layout into) rows
+  pub spells : together rows ≡ code s vo ++ spelt
+  pub division : DivisionIn (layout into) (codeSize s) (code s vo ++ spelt) rows
+  pub fullest : Most (opens (layout into .barred)) (layout into .widths) rows
 
 pub data Content (s : Bool) : Shape → List (List ℕ) → List (List ℕ) → Type 0 where
-  plain : {ps ls : List (List ℕ)} → OneByOne (Line s) (cast Plain ps) ls → Content s Plain ps ls
-  payer : {ps ls : List (List ℕ)} → OneByOne (Line s) (cast Payer ps) ls → Content s Payer ps ls
-  payee : {ps ls : List (List ℕ)} → OneByOne (Line s) (cast Payee ps) ls → Content s Payee ps ls
-  agent : {ps ls : List (List ℕ)} → OneByOne (Line s) (cast Agent ps) ls → Content s Agent ps ls
-  details : {vo text : List ℕ} {ls : List (List ℕ)} → Told s In70 vo text ls → Content s Details (vo ∷ text ∷ []) ls
+  plain : {ps ls : List (List ℕ)} → OneByOne (PartLine s) (cast Plain ps) ls → Content s Plain ps ls
+  payer : {ps ls : List (List ℕ)} → OneByOne (PartLine s) (cast Payer ps) ls → Content s Payer ps ls
+  payee : {ps ls : List (List ℕ)} → OneByOne (PartLine s) (cast Payee ps) ls → Content s Payee ps ls
+  agent : {ps ls : List (List ℕ)} → OneByOne (PartLine s) (cast Agent ps) ls → Content s Agent ps ls
+  details : {vo text : List ℕ} {ls : List (List ℕ)} → WrittenDetails s In70 vo text ls → Content s Details (vo ∷ text ∷ []) ls
   note103 : {r : List ℕ} → Content s Note103 (r ∷ []) (rppLine r ∷ [])
-  note202 : {vo text : List ℕ} {ls : List (List ℕ)} → Told s In72 vo text ls → Content s Note202 ([] ∷ vo ∷ text ∷ []) ls
-  behindRpp : {r vo text : List ℕ} {ls : List (List ℕ)} → empty r ≡ false → Told s BehindRpp vo text ls → Content s Note202 (r ∷ vo ∷ text ∷ []) (rppLine r ∷ ls)
+  note202 : {vo text : List ℕ} {ls : List (List ℕ)} → WrittenDetails s In72 vo text ls → Content s Note202 ([] ∷ vo ∷ text ∷ []) ls
+  behindRpp : {r vo text : List ℕ} {ls : List (List ℕ)} → empty r ≡ false → WrittenDetails s BehindRpp vo text ls → Content s Note202 (r ∷ vo ∷ text ∷ []) (rppLine r ∷ ls)
 
 -- a field made of a record: the same tag, and such a content
 abbrev pub Made : Form → Bool → Record → Field → Type 0
@@ -80,16 +77,16 @@ Made form s (field t ps) (field u ls) = (u ≡ t) × Content s (shapeOf form t) 
 
 -- ---- 15
 -- a copied part is of the x set; some bank text reads as a name or a details text
-abbrev pub Writable : Bool → Part → Type 0
-Writable s (copy p) = all xset p ≡ true
-Writable s (name p) = (b : List ℕ) × (reading s b ≡ said p)
-Writable s (taxName p) = (b : List ℕ) × (reading s b ≡ said p)
+abbrev pub WritablePart : Bool → Part → Type 0
+WritablePart s (copy p) = all xset p ≡ true
+WritablePart s (name p) = (b : List ℕ) × (reading s b ≡ said p)
+WritablePart s (taxName p) = (b : List ℕ) × (reading s b ≡ said p)
 
 -- a copied part is not, no bank text of any length does
-abbrev pub Unwritable : Bool → Part → Type 0
-Unwritable s (copy p) = all xset p ≡ false
-Unwritable s (name p) = texts.Unwritable s p
-Unwritable s (taxName p) = texts.Unwritable s p
+abbrev pub UnwritablePart : Bool → Part → Type 0
+UnwritablePart s (copy p) = all xset p ≡ false
+UnwritablePart s (name p) = texts.Unwritable s p
+UnwritablePart s (taxName p) = texts.Unwritable s p
 
 abbrev pub canWrite : Bool → Part → ℕ → Bool
 canWrite s (copy p) x = xset x
@@ -107,14 +104,14 @@ pub record StuckPart (s : Bool) (o : ℕ) (xs : List Part) (p : ℕ) : Type 0 wh
   pub this : Part
   pub behind : List Part
   pub list : xs ≡ before ++ this ∷ behind
-  pub fine : Every (Writable s) before
-  pub bad : Unwritable s this
+  pub fine : AllHold (WritablePart s) before
+  pub bad : UnwritablePart s this
   pub at : ℕ
   pub first : FirstFails (canWrite s this) (lineOf this) at
   pub place : p ≡ o + partsSize before + at
 
 abbrev pub WritableRecord : Form → Bool → Record → Type 0
-WritableRecord form s (field t ps) = Every (Writable s) (castParts (shapeOf form t) ps)
+WritableRecord form s (field t ps) = AllHold (WritablePart s) (castParts (shapeOf form t) ps)
 
 -- of records one behind another, the first at o: p is that byte, in the first record that can't be written
 pub record StuckAt (form : Form) (s : Bool) (o : ℕ) (rs : List Record) (p : ℕ) : Type 0 where
@@ -123,13 +120,13 @@ pub record StuckAt (form : Form) (s : Bool) (o : ℕ) (rs : List Record) (p : �
   pub parts : List (List ℕ)
   pub behind : List Record
   pub list : rs ≡ before ++ field tag parts ∷ behind
-  pub fine : Every (WritableRecord form s) before
-  pub stuck : StuckPart s (o + sizeOf before + length tag + 1) (castParts (shapeOf form tag) parts) p
+  pub fine : AllHold (WritableRecord form s) before
+  pub stuck : StuckPart s (o + recordsSize before + length tag + 1) (castParts (shapeOf form tag) parts) p
 
 -- ---- 16
 -- the code and the text written for it can't be divided in any way
-abbrev pub Undivided : Bool → Place → List (List ℕ) → Type 0
-Undivided s place ps = (rows : List (List ℕ)) → DivisionIn (layout place) (codeSize s) (told s ps) rows → ⊥
+abbrev pub Undivided : Bool → DetailsField → List (List ℕ) → Type 0
+Undivided s into ps = (rows : List (List ℕ)) → DivisionIn (layout into) (codeSize s) (codeAndText s ps) rows → ⊥
 
 pub data NoWay (s : Bool) : Shape → List (List ℕ) → Type 0 where
   in70 : {ps : List (List ℕ)} → Undivided s In70 ps → NoWay s Details ps
@@ -155,7 +152,7 @@ NoType form = form ≡ Other
 -- ---- why a sheet is refused by n at p; that nothing earlier stands is in the order of the rules
 pub data Reason (s out : List ℕ) (p : ℕ) : ℕ → Type 0 where
   over : limit < length s → p ≡ limit → Reason s out p 1
-  against : BadAt s p → Reason s out p 19
+  against : BadSheetAt s p → Reason s out p 19
   typeless : NoType (sheetForm s) → p ≡ 0 → Reason s out p 18
   unsaid : StuckAt (sheetForm s) (sheetSign s) 0 (records s) p → Reason s out p 15
   crowded : CrowdedIn (sheetForm s) (sheetSign s) (tail (records s)) → p ≡ 0 → Reason s out p 16

@@ -1,5 +1,5 @@
 -- `base::marks::clear_by` meets its contract: w bytes a turn. Assumes nothing.
-use Rattle.base.specs.Bytes.{upTo}
+use Rattle.base.specs.Bytes.{countUpTo}
 use lib.ListN.{length, drop}
 use borrow.Author.Tests.{not-false}
 use native.Mathlib.Omega.{arith}
@@ -9,7 +9,7 @@ use Rattle.base.proofs.marks.clear_by.Statement.{statement}
 use Rattle.base.proofs.marks.clear_by.Tie as tie
 
 abbrev Inv-loop : tie.InvT-loop
-Inv-loop w c s at i₀ i = (i ≤ length s) × (i + upTo c (drop i s) ≡ at + upTo c (drop at s))
+Inv-loop w c s at i₀ i = (i ≤ length s) × (i + countUpTo c (drop i s) ≡ at + countUpTo c (drop at s))
 
 abbrev μ-loop : tie.MeasureT-loop
 μ-loop w c s at i₀ i = length s - i

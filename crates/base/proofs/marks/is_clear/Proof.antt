@@ -1,6 +1,6 @@
 -- `base::marks::is_clear` meets its contract: a byte more a turn, as long as none is the mark. Assumes nothing.
 use Rattle.base.proofs.MarkLaws.{up-pass}
-use Rattle.base.specs.Bytes.{upTo}
+use Rattle.base.specs.Bytes.{countUpTo}
 use lib.ListN.{drop}
 use native.Mathlib.Nat.{zero-add, add-zero}
 use native.Mathlib.Omega.{arith}
@@ -12,7 +12,7 @@ use Rattle.base.proofs.marks.is_clear.Statement.{statement}
 use Rattle.base.proofs.marks.is_clear.Tie as tie
 
 abbrev Inv-loop : tie.InvT-loop
-Inv-loop w c s i clear₀ k₀ clear k = (k ≤ w) × (clear ≡ true → upTo c (drop i s) ≡ k + upTo c (drop (i + k) s))
+Inv-loop w c s i clear₀ k₀ clear k = (k ≤ w) × (clear ≡ true → countUpTo c (drop i s) ≡ k + countUpTo c (drop (i + k) s))
 
 abbrev μ-loop : tie.MeasureT-loop
 μ-loop w c s i clear₀ k₀ clear k = w - k
@@ -40,7 +40,7 @@ loop-again c = let l = c .before .before .before in let a = l .before .args in l
 
 returns : tie.Need-returns Inv-loop μ-loop
 returns c = let l = c .before in let a = l .before .args in let q : l .loop .k ≡ a .w = omega (arith, c .loop-test .left) in
-    λ e. l .loop .inv .1 e ∙ ap (λ (m : ℕ). m + upTo (a .c) (drop (a .i + m) (a .s .now))) q
+    λ e. l .loop .inv .1 e ∙ ap (λ (m : ℕ). m + countUpTo (a .c) (drop (a .i + m) (a .s .now))) q
 
 pub is-clear-spec : {M : Type 1} → statement M
 is-clear-spec =

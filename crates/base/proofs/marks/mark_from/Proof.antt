@@ -4,13 +4,13 @@ use mathlib.Core.Path.{_≡_, refl}
 use native.Mathlib.Omega.{arith}
 use borrow.Author.Needs.{needs}
 use lib.ListN.{length, drop}
-use Rattle.base.specs.Bytes.{upTo}
+use Rattle.base.specs.Bytes.{countUpTo}
 use Rattle.base.proofs.MarkLaws.{up-pass, up-hit, up-end}
 use Rattle.base.proofs.marks.mark_from.Statement.{statement}
 use Rattle.base.proofs.marks.mark_from.Tie as tie
 
 abbrev Inv-loop : tie.InvT-loop
-Inv-loop c s at i₀ i = (i ≤ length s) × (at + upTo c (drop at s) ≡ i + upTo c (drop i s))
+Inv-loop c s at i₀ i = (i ≤ length s) × (at + countUpTo c (drop at s) ≡ i + countUpTo c (drop i s))
 
 abbrev μ-loop : tie.MeasureT-loop
 μ-loop c s at i₀ i = length s - i

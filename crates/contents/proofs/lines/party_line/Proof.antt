@@ -49,7 +49,7 @@ are-digits-requires-2 : tie.Need-are-digits-requires-2
 are-digits-requires-2 c κs = search needs
 
 returns-7 : tie.Need-returns-7
-returns-7 c = let l = c .before .before .before .before .before .before .before .before .before .before .before .args .l .now in not-party l (λ b a t. denied (c .before .are-digits2 .ensures) (c .if7 .taken) (bik-tests b a l t .code)) (λ a t. c .before .before .before .before .before .before .before .before .before .if1 .left (account-tests a l t .0))
+returns-7 c = let l = c .before .before .before .before .before .before .before .before .before .before .before .args .l .now in not-party l (λ b a t. denied (c .before .are-digits2 .ensures) (c .if7 .taken) (bik-tests b a l t .nine)) (λ a t. c .before .before .before .before .before .before .before .before .before .if1 .left (account-tests a l t .0))
 
 returns-8 : tie.Need-returns-8
 returns-8 c = bik-short (c .before .before .before .before .before .before .before .before .before .before .before .before .args .l .now) (said (c .before .before .before .before .before .before .before .has-word2 .ensures) (c .before .before .before .before .before .before .if5 .left)) (said (c .before .before .before .before .has-word3 .ensures) (c .before .before .before .if6 .left)) (said (c .before .before .are-digits2 .ensures) (c .before .if7 .left)) (c .if8 .taken)

@@ -9,12 +9,12 @@ use Rattle.base.proofs.MarkLaws.{up-rest}
 use Rattle.fields.specs.Lines.{linesIn}
 use Rattle.fields.proofs.ContentLaws.{lines-last}
 use Rattle.contents.specs.Fields.{Several}
-use Rattle.contents.specs.Answers.{Later}
+use Rattle.contents.specs.Answers.{LaterOrName}
 use Rattle.contents.proofs.whole.are_lines.Statement.{statement}
 use Rattle.contents.proofs.whole.are_lines.Tie as tie
 
 abbrev Inv-loop : tie.InvT-loop
-Inv-loop marked c from most at₀ left₀ at left = (at ≤ length c) × (Several (Later marked) left (linesIn (drop at c)) → Several (Later marked) most (linesIn (drop from c))) × (Several (Later marked) most (linesIn (drop from c)) → Several (Later marked) left (linesIn (drop at c)))
+Inv-loop marked c from most at₀ left₀ at left = (at ≤ length c) × (Several (LaterOrName marked) left (linesIn (drop at c)) → Several (LaterOrName marked) most (linesIn (drop from c))) × (Several (LaterOrName marked) most (linesIn (drop from c)) → Several (LaterOrName marked) left (linesIn (drop at c)))
 
 abbrev μ-loop : tie.MeasureT-loop
 μ-loop marked c from most at₀ left₀ at left = length c - at

@@ -6,7 +6,7 @@ use borrow.Author.Needs.{needs}
 use borrow.Author.Tests.{not-true, not-false}
 use lib.ListN.{length, take, drop}
 use Rattle.base.specs.declared.Verdict.the-variants.{Broken}
-use Rattle.frame.specs.Rest.{Line}
+use Rattle.frame.specs.Rest.{LineAt}
 use Rattle.frame.proofs.LateLaws.{For4, for4-begin, for4-stop, for4-bad, for4-end, for4-on}
 use Rattle.frame.proofs.late.late_field.Statement.{statement}
 use Rattle.frame.proofs.late.late_field.Tie as tie
@@ -19,7 +19,7 @@ abbrev μ-loop : tie.MeasureT-loop
 
 -- the line that a turn passes
 line : (c : tie.Else1 Inv-loop μ-loop) → let k = c .before .before in let l = k .before .before in let m = l .before .before .args .m .now in
-    Line m (l .loop .at) (k .end-of .result) (take (k .end-of .result - l .loop .at) (drop (l .loop .at) m))
+    LineAt m (l .loop .at) (k .end-of .result) (take (k .end-of .result - l .loop .at) (drop (l .loop .at) m))
 line c = c .before .before .end-of .ensures .line (sym (c .before .is-ended .ensures) ∙ not-false _ (c .if1 .left))
 
 sub-dash : tie.Need-sub-dash Inv-loop μ-loop

@@ -5,7 +5,7 @@ use native.Mathlib.Omega.{arith}
 use borrow.Author.Tests.{not-true, not-false}
 use lib.ListN.{length, take, drop}
 use Rattle.base.specs.declared.Verdict.the-variants.{Broken}
-use Rattle.frame.specs.Rest.{Line}
+use Rattle.frame.specs.Rest.{LineAt}
 use Rattle.frame.proofs.LateLaws.{For3, for3-begin, for3-stop, for3-end, for3-on}
 use Rattle.frame.proofs.late.late_line.Statement.{statement}
 use Rattle.frame.proofs.late.late_line.Tie as tie
@@ -18,7 +18,7 @@ abbrev μ-loop : tie.MeasureT-loop
 
 -- the line that a turn passes
 line : (c : tie.Else1 Inv-loop μ-loop) → let k = c .before .before in let l = k .before .before in let m = l .before .before .args .m .now in
-    Line m (l .loop .at) (k .end-of .result) (take (k .end-of .result - l .loop .at) (drop (l .loop .at) m))
+    LineAt m (l .loop .at) (k .end-of .result) (take (k .end-of .result - l .loop .at) (drop (l .loop .at) m))
 line c = c .before .before .end-of .ensures .line (sym (c .before .is-ended .ensures) ∙ not-false _ (c .if1 .left))
 
 sub-e : tie.Need-sub-e Inv-loop μ-loop

@@ -4,7 +4,7 @@ use mathlib.Core.Path.{ap, _∙_}
 use mathlib.Core.List.{List}
 use native.Mathlib.Omega.{arith}
 use Rattle.base.specs.Bytes.{lead}
-use Rattle.frame.specs.Rest.{rest, Stop}
+use Rattle.frame.specs.Rest.{bodyFrom, Stop}
 use Rattle.frame.proofs.RunLaws.{run-stops}
 use borrow.Author.Needs.{needs}
 use Rattle.frame.proofs.lines.end_of.Statement.{statement}
@@ -16,7 +16,7 @@ stops c =
     let a = k .before .args in
     let p = k .before .pre in
     run-stops (a .m .now) (a .at) (a .at + c .lead-of .result) (λ i. k .shared-slice-known .given i .fits) (p .1) (p .2)
-    (ap (λ (j : ℕ). a .at + j) (c .lead-of .ensures ∙ ap (λ (t : List ℕ). lead t (rest (a .m .now) (a .at))) (p .0)))
+    (ap (λ (j : ℕ). a .at + j) (c .lead-of .ensures ∙ ap (λ (t : List ℕ). lead t (bodyFrom (a .m .now) (a .at))) (p .0)))
 
 sub-e : tie.Need-sub-e
 sub-e c = search needs

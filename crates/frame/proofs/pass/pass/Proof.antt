@@ -17,7 +17,7 @@ use Rattle.types.specs.Form.{placesOf}
 use Rattle.types.specs.Walk.{find, wrong}
 use Rattle.types.proofs.TableLaws.{few-places, missing-of-form}
 use Rattle.types.proofs.WalkLaws.{wrong-seated}
-use Rattle.frame.specs.Rest.{Line}
+use Rattle.frame.specs.Rest.{LineAt}
 use Rattle.frame.proofs.PassLaws.{Going, begin, plain, opened, stepped, bare-broken, bare-after3, bare-after4, stop-3, stop-4, stop-5, on-line, on-field, finish, accept}
 use Rattle.frame.proofs.pass.pass.Statement.{statement}
 use Rattle.frame.proofs.pass.pass.Tie as tie
@@ -31,7 +31,7 @@ abbrev μ-loop : tie.MeasureT-loop
 
 -- the line that a turn passes
 line : (c : tie.Else1 Inv-loop μ-loop) → let k = c .before .before in let l = k .before .before in let m = l .before .before .args .m .now in
-    Line m (l .loop .at) (k .end-of .result) (take (k .end-of .result - l .loop .at) (drop (l .loop .at) m))
+    LineAt m (l .loop .at) (k .end-of .result) (take (k .end-of .result - l .loop .at) (drop (l .loop .at) m))
 line c = c .before .before .end-of .ensures .line (sym (c .before .is-ended .ensures) ∙ not-false _ (c .if1 .left))
 
 -- it is good

@@ -5,7 +5,7 @@ use borrow.Author.Tests.{not-true}
 use Rattle.base.specs.Quoted.{bytes}
 use Rattle.fields.specs.Shapes.{pack, unpack}
 use Rattle.fields.proofs.PackLaws.{same-unpack}
-use Rattle.judge.specs.Facts.{orElse, marked}
+use Rattle.judge.specs.Facts.{orElse, placeIf}
 use Rattle.judge.proofs.FactLaws.{made-marked}
 use borrow.Author.Needs.{needs}
 use Rattle.judge.proofs.facts.mark.Statement.{statement}
@@ -40,10 +40,10 @@ returns-2 c =
     let a = c .before .before .before .before .before .before .before .before .args in
     let f = a .f in
     made-marked f (a .o) (unpack (a .tag))
-    (c .before .before .before .before .colon-of .ensures ∙ ap (λ (b : Bool). orElse (f .bank) (marked b (a .o))) (c .before .before .before .before .before .is-56 .ensures))
+    (c .before .before .before .before .colon-of .ensures ∙ ap (λ (b : Bool). orElse (f .bank) (placeIf b (a .o))) (c .before .before .before .before .before .is-56 .ensures))
     (c .before .before .either .ensures ∙ ap (λ (b : Bool). f .through || b) (c .before .before .before .is-57 .ensures))
-    (c .before .colon-of2 .ensures ∙ ap (λ (b : Bool). orElse (f .purpose) (marked b (a .o))) (sym (same-unpack (a .tag) (pack (bytes "26T")))))
-    (c .colon-of3 .ensures ∙ ap (λ (b : Bool). orElse (f .budget) (marked b (a .o))) (sym (same-unpack (a .tag) (pack (bytes "77B")))))
+    (c .before .colon-of2 .ensures ∙ ap (λ (b : Bool). orElse (f .purpose) (placeIf b (a .o))) (sym (same-unpack (a .tag) (pack (bytes "26T")))))
+    (c .colon-of3 .ensures ∙ ap (λ (b : Bool). orElse (f .budget) (placeIf b (a .o))) (sym (same-unpack (a .tag) (pack (bytes "77B")))))
 
 pub mark-spec : {M : Type 1} → statement M
 mark-spec =

@@ -11,8 +11,8 @@ use Rattle.fields.specs.Places.{startOf}
 use Rattle.contents.specs.Rule8.{firstWrong, rightField}
 use Rattle.judge.specs.declared.facts.Facts.{Facts}
 use Rattle.judge.specs.Facts.{nothingYet, factsFrom}
-use Rattle.judge.proofs.FactLaws.{nothing-noted}
-use Rattle.judge.proofs.LoopLaws.{none-found, plain-found, some-found, not-right, is-right, found-small, finds-are, wrong-here, right-on, noted-on}
+use Rattle.judge.proofs.FactLaws.{nothing-found}
+use Rattle.judge.proofs.LoopLaws.{none-found, plain-found, some-found, not-right, is-right, found-small, finds-are, wrong-here, right-on, field-on}
 use Rattle.judge.proofs.PartLaws.{walk-start, walk-end}
 use Rattle.judge.proofs.facts.read_fields.Statement.{statement}
 use Rattle.judge.proofs.facts.read_fields.Tie as tie
@@ -103,8 +103,8 @@ loop-again c =
       l .loop .inv .1 ∙ right-on h (a .form) (a .sign) (is-right h (a .form) (a .sign) i
           (⊎-elim (λ w. plain-found _ _ _ (r .found-in .ensures) (w .1 .given .1) .0) (λ w. some-found _ _ _ (r .found-in .ensures) (w .1 .given .1) .0) (c .match .came))),
       l .loop .inv .2
-          ∙ ⊎-elim (λ w. noted-on h (a .form) _ (finds-are h (a .form) (a .sign) i (plain-found _ _ _ (r .found-in .ensures) (w .1 .given .1) .1)) g (w .2 ∙ nothing-noted _ _ _ refl))
-          (λ w. noted-on h (a .form) _ (finds-are h (a .form) (a .sign) i (some-found _ _ _ (r .found-in .ensures) (w .1 .given .1) .1)) g (w .4 ∙ w .3 .ensures)) (c .match .came),
+          ∙ ⊎-elim (λ w. field-on h (a .form) _ (finds-are h (a .form) (a .sign) i (plain-found _ _ _ (r .found-in .ensures) (w .1 .given .1) .1)) g (w .2 ∙ nothing-found _ _ _ refl))
+          (λ w. field-on h (a .form) _ (finds-are h (a .form) (a .sign) i (some-found _ _ _ (r .found-in .ensures) (w .1 .given .1) .1)) g (w .4 ∙ w .3 .ensures)) (c .match .came),
     )
 
 returns-2 : tie.Need-returns-2 Inv-loop μ-loop

@@ -2,7 +2,7 @@
 use borrow.Author.Needs.{needs}
 use Rattle.judge.proofs.LoopLaws.{unheard-here, heard-on, place-small}
 use Rattle.judge.proofs.PartLaws.{walk-start, walk-end}
-use Rattle.roles.specs.Rule14.{unheard, spoken}
+use Rattle.roles.specs.Rule14.{unheard, speechesOf}
 use Rattle.fields.specs.Field.{fields}
 use Rattle.base.specs.Bytes.{byte}
 use lib.ListN.{drop}
@@ -13,13 +13,13 @@ use Rattle.judge.proofs.speeches.speeches_rule.Statement.{statement}
 use Rattle.judge.proofs.speeches.speeches_rule.Tie as tie
 
 abbrev Inv-loop : tie.InvT-loop
-Inv-loop back form m spots n k₀ k = (k ≤ n) × (unheard (spoken form 5 (fields m)) ≡ unheard (spoken form (byte spots k) (drop k (fields m))))
+Inv-loop back form m spots n k₀ k = (k ≤ n) × (unheard (speechesOf form 5 (fields m)) ≡ unheard (speechesOf form (byte spots k) (drop k (fields m))))
 
 abbrev μ-loop : tie.MeasureT-loop
 μ-loop back form m spots n k₀ k = n - k
 
 loop-holds : tie.Need-loop-holds Inv-loop μ-loop
-loop-holds c = let a = (c .before .args) in (omega arith, walk-start (c .before .pre .1) (λ o fs. unheard (spoken (a .form) o fs)))
+loop-holds c = let a = (c .before .args) in (omega arith, walk-start (c .before .pre .1) (λ o fs. unheard (speechesOf (a .form) o fs)))
 
 field-at-requires : tie.Need-field-at-requires Inv-loop μ-loop
 field-at-requires c κs = ((c .before .before .before .pre .1), omega (arith, (c .loop-test .taken), (c .before .before .before .pre .2)))
@@ -68,8 +68,8 @@ loop-again c =
     (omega (arith, (c .before .before .before .before .before .loop-test .taken)), (c .before .before .before .before .before .before .loop .inv .1) ∙ heard-on h (s .args .form) (s .pre .0) (sym (c .enum-told .given .1) ∙ (c .before .before .broken-text .ensures)))
 
 returns-2 : tie.Need-returns-2 Inv-loop μ-loop
-unfolding unheard spoken
-returns-2 c = let s = (c .before .before .before) in let a = s .args in sym ((c .before .loop .inv .1) ∙ walk-end (a .m .now) _ (λ o fs. unheard (spoken (a .form) o fs)) (s .pre .2) (c .loop-test .left))
+unfolding unheard speechesOf
+returns-2 c = let s = (c .before .before .before) in let a = s .args in sym ((c .before .loop .inv .1) ∙ walk-end (a .m .now) _ (λ o fs. unheard (speechesOf (a .form) o fs)) (s .pre .2) (c .loop-test .left))
 
 pub speeches-rule-spec : {M : Type 1} → statement M
 speeches-rule-spec =

@@ -45,8 +45,8 @@ is-sole-requires c κs = search needs
 enum-told-7 : tie.Need-enum-told-7
 enum-told-7 c = search needs
 
-is-noted-requires : tie.Need-is-noted-requires
-is-noted-requires c κs = search needs
+is-rpp-and-detailed-requires : tie.Need-is-rpp-and-detailed-requires
+is-rpp-and-detailed-requires c κs = search needs
 
 returns : tie.Need-returns
 unfolding sound
@@ -74,7 +74,7 @@ returns-6 c = let a = c .before .before .before .before .args in sound-by (a .si
 
 returns-7 : tie.Need-returns-7
 unfolding sound
-returns-7 c = let a = c .before .before .before .before .args in sound-by (a .sign) (piecesAt 9 (a .l .now) (a .i)) (c .before .enum-told7 .given .1) (c .is-noted .ensures)
+returns-7 c = let a = c .before .before .before .before .args in sound-by (a .sign) (piecesAt 9 (a .l .now) (a .i)) (c .before .enum-told7 .given .1) (c .is-rpp-and-detailed .ensures)
 
 pub is-sound-spec : {M : Type 1} → statement M
 is-sound-spec =
@@ -93,7 +93,7 @@ is-sound-spec =
     enum-told-6
     is-sole-requires
     enum-told-7
-    is-noted-requires
+    is-rpp-and-detailed-requires
     returns
     returns-2
     returns-3

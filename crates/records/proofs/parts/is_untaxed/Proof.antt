@@ -3,7 +3,7 @@ use native.Mathlib.Omega.{arith}
 use Prim.Native.Nat.{_≤_}
 use lib.ListN.{length}
 use borrow.Author.Tests.{not-true, not-false}
-use Rattle.roles.specs.Rule14.{isInn}
+use Rattle.roles.specs.Rule14.{isCyrillicInn}
 use Rattle.records.proofs.PieceLaws.{end-within}
 use Rattle.records.proofs.FoundLaws.{untaxed-off, untaxed-none, untaxed-part}
 use borrow.Author.Needs.{needs}
@@ -35,7 +35,7 @@ is-inn-requires : tie.Need-is-inn-requires
 is-inn-requires c κs = search needs
 
 returns-3 : tie.Need-returns-3
-unfolding isInn
+unfolding isCyrillicInn
 returns-3 c = let n = c .before .before in let a = n .before .before .before .before .args in
     untaxed-part (a .l .now) (a .i) (n .mark-at .result) (n .before .if2 .left) (n .mark-at .ensures) (a .sign) (not-false _ (n .before .before .if1 .left)) (c .is-inn .ensures)
 

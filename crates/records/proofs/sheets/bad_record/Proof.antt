@@ -5,14 +5,14 @@ use native.Mathlib.Omega.{arith}
 use borrow.Author.Needs.{needs}
 use borrow.Author.Tests.{not-true, not-false}
 use lib.ListN.{length}
-use Rattle.records.specs.Found.{piecesAt, badLine}
+use Rattle.records.specs.Found.{piecesAt, badSheetLine}
 use Rattle.records.proofs.PieceLaws.{end-within}
 use Rattle.records.proofs.WalkLaws.{bad-last, bad-hit, bad-miss, bad-end}
 use Rattle.records.proofs.sheets.bad_record.Statement.{statement}
 use Rattle.records.proofs.sheets.bad_record.Tie as tie
 
 abbrev Inv-loop : tie.InvT-loop
-Inv-loop s form sign from at₀ at = (at ≤ length s) × (badLine form sign from (piecesAt 10 s from) ≡ badLine form sign at (piecesAt 10 s at))
+Inv-loop s form sign from at₀ at = (at ≤ length s) × (badSheetLine form sign from (piecesAt 10 s from) ≡ badSheetLine form sign at (piecesAt 10 s at))
 
 abbrev μ-loop : tie.MeasureT-loop
 μ-loop s form sign from at₀ at = length s - at

@@ -5,7 +5,7 @@ use lib.ListN.{length, drop, length-drop}
 use lib.Seq.{length-take-le, take-all}
 use borrow.Author.Tests.{not-true, not-false}
 use Prim.Native.Nat.{_-_}
-use Rattle.records.specs.Rule19.{digits}
+use Rattle.records.specs.Rule19.{isDigits}
 use Rattle.records.proofs.TypeLaws.{typed-size, typed-tab, typed-mark, typed-six}
 use borrow.Author.Needs.{needs}
 use Rattle.records.proofs.sheets.is_typed.Statement.{statement}
@@ -43,7 +43,7 @@ is-digits-requires c κs = search needs
 
 returns-4 : tie.Need-returns-4
 returns-4 c = let g = c .before .before in let t = g .before in let f = t .before .before in let n = f .before .before in let l = n .before .before .args .l .now in
-    typed-six l (n .if1 .left) (f .if2 .left) (sym (t .is-two .ensures) ∙ not-false _ (g .if3 .left)) (c .is-digits .ensures ∙ ap (digits 3) (take-all (length l - 3) (drop 3 l) (omega (arith, length-drop 3 l))))
+    typed-six l (n .if1 .left) (f .if2 .left) (sym (t .is-two .ensures) ∙ not-false _ (g .if3 .left)) (c .is-digits .ensures ∙ ap (isDigits 3) (take-all (length l - 3) (drop 3 l) (omega (arith, length-drop 3 l))))
 
 pub is-typed-spec : {M : Type 1} → statement M
 is-typed-spec =

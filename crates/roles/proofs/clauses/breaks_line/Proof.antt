@@ -5,8 +5,8 @@ use borrow.Author.Needs.{needs}
 use Rattle.roles.proofs.clauses.breaks_line.Statement.{statement}
 use Rattle.roles.proofs.clauses.breaks_line.Tie as tie
 
-breaks-named-requires : tie.Need-breaks-named-requires
-breaks-named-requires c κs = search needs
+breaks-name-requires : tie.Need-breaks-name-requires
+breaks-name-requires c κs = search needs
 
 returns : tie.Need-returns
 unfolding lineBreaks
@@ -30,7 +30,7 @@ pub breaks-line-spec : {M : Type 1} → statement M
 breaks-line-spec =
     tie.close
     (tie.spec
-    breaks-named-requires
+    breaks-name-requires
     returns
     looks-tax-requires
     returns-2

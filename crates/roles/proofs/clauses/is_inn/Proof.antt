@@ -1,6 +1,6 @@
 -- `roles::clauses::is_inn` meets its contract. Assumes nothing.
 use borrow.Author.Needs.{needs}
-use Rattle.roles.specs.Rule14.{isInn}
+use Rattle.roles.specs.Rule14.{isCyrillicInn}
 use Rattle.roles.proofs.clauses.is_inn.Statement.{statement}
 use Rattle.roles.proofs.clauses.is_inn.Tie as tie
 
@@ -11,7 +11,7 @@ is-numbered-requires : tie.Need-is-numbered-requires
 is-numbered-requires c κs = search needs
 
 returns : tie.Need-returns
-unfolding isInn
+unfolding isCyrillicInn
 returns c = c .is-numbered .ensures
 
 pub is-inn-spec : {M : Type 1} → statement M

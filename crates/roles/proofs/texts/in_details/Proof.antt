@@ -9,7 +9,7 @@ use Rattle.roles.proofs.FoundLaws.{details-heard, details-here, details
 use borrow.Author.Needs.{needs}
 use Rattle.roles.proofs.texts.in_details.Statement.{statement}
 use Rattle.roles.proofs.texts.in_details.Tie as tie
-use Rattle.base.specs.Bytes.{upTo}
+use Rattle.base.specs.Bytes.{countUpTo}
 
 near : (c : tie.After-mark-at) → c .mark-at .result ≤ length (c .before .before .before .before .args .c .now) + 1
 near c = let s = c .before .before .before .before in end-near (s .args .c .now) (s .args .at) (c .mark-at .result) (c .mark-at .ensures) (s .pre .0)
@@ -19,7 +19,7 @@ is-mute-text-requires c κs = search needs
 
 returns : tie.Need-returns
 returns c = let m = c .before in let a = m .before .before .args in
-    details-heard (a .back .now) (a .c .now) (a .at) (a .front) (a .mark) (a .at + upTo 13 (drop (a .at) (a .c .now))) refl (sym (not-true _ (c .if1 .taken)) ∙ m .is-mute-text .ensures)
+    details-heard (a .back .now) (a .c .now) (a .at) (a .front) (a .mark) (a .at + countUpTo 13 (drop (a .at) (a .c .now))) refl (sym (not-true _ (c .if1 .taken)) ∙ m .is-mute-text .ensures)
 
 mark-at-requires : tie.Need-mark-at-requires
 mark-at-requires c κs = search needs

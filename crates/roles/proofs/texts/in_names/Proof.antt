@@ -5,14 +5,14 @@ use native.Mathlib.Omega.{arith}
 use borrow.Author.Needs.{needs}
 use lib.ListN.{length}
 use Rattle.base.proofs.MarkLaws.{up-rest}
-use Rattle.roles.specs.Speech.{names}
+use Rattle.roles.specs.Speech.{nameSpeeches}
 use Rattle.roles.specs.Found.{linesPast, castFrom, found}
 use Rattle.roles.proofs.FoundLaws.{names-end, names-hit, names-miss}
 use Rattle.roles.proofs.texts.in_names.Statement.{statement}
 use Rattle.roles.proofs.texts.in_names.Tie as tie
 
 abbrev Inv-loop : tie.InvT-loop
-Inv-loop back c end tax e₀ first₀ e first = found back (names (end + 2) (castFrom tax (linesPast c end))) ≡ found back (names (e + 2) (castFrom first (linesPast c e)))
+Inv-loop back c end tax e₀ first₀ e first = found back (nameSpeeches (end + 2) (castFrom tax (linesPast c end))) ≡ found back (nameSpeeches (e + 2) (castFrom first (linesPast c e)))
 
 abbrev μ-loop : tie.MeasureT-loop
 μ-loop back c end tax e₀ first₀ e first = length c - e

@@ -9,8 +9,8 @@ use Rattle.sheets.proofs.parts.put_content.Tie as tie
 enum-told : tie.Need-enum-told
 enum-told c = search needs
 
-put-told-requires : tie.Need-put-told-requires
-put-told-requires c κs = search needs
+put-details-requires : tie.Need-put-details-requires
+put-details-requires c κs = search needs
 
 enum-told-2 : tie.Need-enum-told-2
 enum-told-2 c = search needs
@@ -35,7 +35,7 @@ same-length c = search needs
 
 returns : tie.Need-returns
 unfolding contentBy
-returns c = let a = c .before .before .before .before .before .before .before .before .args in let p = c .before .before .put-told .ensures in (omega (arith, p .0), shape-put (a .back .now) (a .sign) (a .c .now) (c .before .before .before .before .enum-told .given .1) (p .1))
+returns c = let a = c .before .before .before .before .before .before .before .before .args in let p = c .before .before .put-details .ensures in (omega (arith, p .0), shape-put (a .back .now) (a .sign) (a .c .now) (c .before .before .before .before .enum-told .given .1) (p .1))
 
 same-length-2 : tie.Need-same-length-2
 same-length-2 c = search needs
@@ -62,7 +62,7 @@ put-content-spec =
     tie.close
     (tie.spec
     enum-told
-    put-told-requires
+    put-details-requires
     enum-told-2
     put-lines-requires
     enum-told-3

@@ -22,17 +22,17 @@ slice-aggregate-put c = search needs
 put-requires : tie.Need-put-requires
 put-requires c κs = search needs
 
-add-put-told : tie.Need-add-put-told
-add-put-told c = search needs
+add-put-details : tie.Need-add-put-details
+add-put-details c = search needs
 
-put-told-requires : tie.Need-put-told-requires
-put-told-requires c κs = search needs
+put-details-requires : tie.Need-put-details-requires
+put-details-requires c κs = search needs
 
 same-length : tie.Need-same-length
 same-length c = search needs
 
 returns : tie.Need-returns
-returns c = let a = c .before .before .before .before .before .before .before .before .before .before .before .before .before .before .before .args in note-none (a .c .now) (c .before .before .before .before .before .before .before .before .before .before .before .before .mark-at .result) (c .before .before .before .before .before .before .before .before .before .before .before .before .mark-at .ensures) (a .back .now) (a .sign) (c .before .before .before .before .before .before .before .before .before .before .opens-rpp .ensures) (not-true _ (c .before .before .before .before .before .before .before .before .before .if1 .taken)) (c .before .before .before .before .before .before .put .ensures) (c .before .before .put-told .ensures .0) (c .before .before .put-told .ensures .1)
+returns c = let a = c .before .before .before .before .before .before .before .before .before .before .before .before .before .before .before .args in note-none (a .c .now) (c .before .before .before .before .before .before .before .before .before .before .before .before .mark-at .result) (c .before .before .before .before .before .before .before .before .before .before .before .before .mark-at .ensures) (a .back .now) (a .sign) (c .before .before .before .before .before .before .before .before .before .before .opens-rpp .ensures) (not-true _ (c .before .before .before .before .before .before .before .before .before .if1 .taken)) (c .before .before .before .before .before .before .put .ensures) (c .before .before .put-details .ensures .0) (c .before .before .put-details .ensures .1)
 
 slice-aggregate-past : tie.Need-slice-aggregate-past
 slice-aggregate-past c = head-size (c .before .before .before .before .before .before .before .args .c .now) (c .before .before .before .before .mark-at .result) (c .before .before .before .before .mark-at .ensures)
@@ -52,23 +52,23 @@ returns-2 c = let a = c .before .before .before .before .before .before .before 
 next-line-requires : tie.Need-next-line-requires
 next-line-requires c κs = search needs
 
-sub-put-told : tie.Need-sub-put-told
-sub-put-told c = search needs
+sub-put-details : tie.Need-sub-put-details
+sub-put-details c = search needs
 
-part-put-told-start : tie.Need-part-put-told-start
-part-put-told-start c = search needs
+part-put-details-start : tie.Need-part-put-details-start
+part-put-details-start c = search needs
 
-part-put-told-end : tie.Need-part-put-told-end
-part-put-told-end c = search needs
+part-put-details-end : tie.Need-part-put-details-end
+part-put-details-end c = search needs
 
-put-told-requires-2 : tie.Need-put-told-requires-2
-put-told-requires-2 c κs = let s = c .before .before .before .before .before .before .before .before .before .before .before .before .before .before .before .before in (omega arith, search needs, omega (arith, head-small (s .args .c .now) (c .before .before .before .before .before .before .before .before .before .before .before .before .before .mark-at .result) (c .before .before .before .before .before .before .before .before .before .before .before .before .before .mark-at .ensures) (s .args .back .now) (s .args .sign) 5 (c .before .before .before .before .before .before .before .before .past .ensures), c .before .before .before .before .before .before .put-part .ensures .0, s .pre))
+put-details-requires-2 : tie.Need-put-details-requires-2
+put-details-requires-2 c κs = let s = c .before .before .before .before .before .before .before .before .before .before .before .before .before .before .before .before in (omega arith, search needs, omega (arith, head-small (s .args .c .now) (c .before .before .before .before .before .before .before .before .before .before .before .before .before .mark-at .result) (c .before .before .before .before .before .before .before .before .before .before .before .before .before .mark-at .ensures) (s .args .back .now) (s .args .sign) 5 (c .before .before .before .before .before .before .before .before .past .ensures), c .before .before .before .before .before .before .put-part .ensures .0, s .pre))
 
 same-length-3 : tie.Need-same-length-3
 same-length-3 c = search needs
 
 returns-3 : tie.Need-returns-3
-returns-3 c = let a = c .before .before .before .before .before .before .before .before .before .before .before .before .before .before .before .before .before .before .before .args in note-more (a .c .now) (c .before .before .before .before .before .before .before .before .before .before .before .before .before .before .before .before .mark-at .result) (c .before .before .before .before .before .before .before .before .before .before .before .before .before .before .before .before .mark-at .ensures) (a .back .now) (a .sign) (c .before .before .before .before .before .before .before .before .before .before .before .before .before .before .opens-rpp .ensures) (not-false _ (c .before .before .before .before .before .before .before .before .before .before .before .before .before .if1 .left)) (c .before .before .before .before .before .before .before .before .before .before .before .past .ensures) (c .before .before .before .before .before .next-line .result) (c .before .before .before .before .before .before .if2 .left) (c .before .before .before .before .before .next-line .ensures) (c .before .before .before .before .before .before .before .before .before .put-part .ensures .0) (c .before .before .before .before .before .before .before .before .before .put-part .ensures .1) (c .before .before .put-told2 .ensures .0) (c .before .before .put-told2 .ensures .1)
+returns-3 c = let a = c .before .before .before .before .before .before .before .before .before .before .before .before .before .before .before .before .before .before .before .args in note-more (a .c .now) (c .before .before .before .before .before .before .before .before .before .before .before .before .before .before .before .before .mark-at .result) (c .before .before .before .before .before .before .before .before .before .before .before .before .before .before .before .before .mark-at .ensures) (a .back .now) (a .sign) (c .before .before .before .before .before .before .before .before .before .before .before .before .before .before .opens-rpp .ensures) (not-false _ (c .before .before .before .before .before .before .before .before .before .before .before .before .before .if1 .left)) (c .before .before .before .before .before .before .before .before .before .before .before .past .ensures) (c .before .before .before .before .before .next-line .result) (c .before .before .before .before .before .before .if2 .left) (c .before .before .before .before .before .next-line .ensures) (c .before .before .before .before .before .before .before .before .before .put-part .ensures .0) (c .before .before .before .before .before .before .before .before .before .put-part .ensures .1) (c .before .before .put-details2 .ensures .0) (c .before .before .put-details2 .ensures .1)
 
 pub put-note-spec : {M : Type 1} → statement M
 put-note-spec =
@@ -79,8 +79,8 @@ put-note-spec =
     opens-rpp-requires
     slice-aggregate-put
     put-requires
-    add-put-told
-    put-told-requires
+    add-put-details
+    put-details-requires
     same-length
     returns
     slice-aggregate-past
@@ -89,9 +89,9 @@ put-note-spec =
     same-length-2
     returns-2
     next-line-requires
-    sub-put-told
-    part-put-told-start
-    part-put-told-end
-    put-told-requires-2
+    sub-put-details
+    part-put-details-start
+    part-put-details-end
+    put-details-requires-2
     same-length-3
     returns-3)

@@ -1,7 +1,7 @@
 -- `sheets::texts::put_over` meets its contract: from each line on as from the first. Assumes nothing.
 use Rattle.sheets.proofs.TextLaws.{this-within, line-less, part-needs, part-next, piece-last, over-last, over-on}
 use Rattle.base.proofs.Room.{Leads}
-use Rattle.sheets.specs.Steps.{cutBy, overBy}
+use Rattle.sheets.specs.Steps.{textPieces, overBy}
 use Rattle.fields.specs.Lines.{linesIn}
 use lib.ListN.{length, drop}
 use native.Mathlib.Omega.{arith}
@@ -14,7 +14,7 @@ use Rattle.sheets.proofs.texts.put_over.Tie as tie
 
 abbrev Inv-loop : tie.InvT-loop
 Inv-loop back sign front mark c out₀ at d₀ latin₀ n₀ i₀ out d latin n i = (length out ≡ length out₀) × (i ≤ length c) × (n ≤ at + i)
-    × Leads (overBy back sign false (cutBy front mark (linesIn c))) out₀ at (overBy back sign latin (cutBy d mark (linesIn (drop i c)))) out n
+    × Leads (overBy back sign false (textPieces front mark (linesIn c))) out₀ at (overBy back sign latin (textPieces d mark (linesIn (drop i c)))) out n
 
 abbrev μ-loop : tie.MeasureT-loop
 μ-loop back sign front mark c out₀ at d₀ latin₀ n₀ i₀ out d latin n i = length c - i

@@ -4,13 +4,13 @@ use mathlib.Core.List.{[]}
 use Prim.Native.Nat.{_-_}
 use native.Mathlib.Omega.{arith}
 use Rattle.types.specs.Walk.{skips}
-use Rattle.types.specs.Tables.{toldFrom}
+use Rattle.types.specs.Tables.{tablePlacesFrom}
 use Rattle.types.proofs.StepLaws.{pass-met, pass-on, skips-end}
 use Rattle.types.proofs.steps.is_skipping.Statement.{statement}
 use Rattle.types.proofs.steps.is_skipping.Tie as tie
 
 abbrev Inv-loop : tie.InvT-loop
-Inv-loop musts count from to q₀ q = skips (toldFrom [] musts 0 count) from to ≡ skips (toldFrom [] musts 0 count) q to
+Inv-loop musts count from to q₀ q = skips (tablePlacesFrom [] musts 0 count) from to ≡ skips (tablePlacesFrom [] musts 0 count) q to
 
 abbrev μ-loop : tie.MeasureT-loop
 μ-loop musts count from to q₀ q = to - q
@@ -42,7 +42,7 @@ loop-again c =
 returns-2 : tie.Need-returns-2 Inv-loop μ-loop
 returns-2 c =
     let a = c .before .before .args in
-    sym (c .before .loop .inv ∙ skips-end (toldFrom [] (a .musts .now) 0 (a .count)) (c .before .loop .q) (a .to) (c .loop-test .left))
+    sym (c .before .loop .inv ∙ skips-end (tablePlacesFrom [] (a .musts .now) 0 (a .count)) (c .before .loop .q) (a .to) (c .loop-test .left))
 
 pub is-skipping-spec : {M : Type 1} → statement M
 is-skipping-spec =

@@ -4,13 +4,13 @@ use Prim.Native.Nat.{_-_}
 use native.Mathlib.Omega.{arith}
 use borrow.Author.Needs.{needs}
 use Rattle.fields.specs.Shapes.{unpack}
-use Rattle.types.specs.Tables.{toldFrom}
+use Rattle.types.specs.Tables.{tablePlacesFrom}
 use Rattle.types.proofs.StepLaws.{Seeking, seek-start, seeking-on, seeking-met, seeking-stop, seeking-end}
 use Rattle.types.proofs.steps.seek.Statement.{statement}
 use Rattle.types.proofs.steps.seek.Tie as tie
 
 abbrev Inv-loop : tie.InvT-loop
-Inv-loop tags musts count next tag q₀ q = Seeking (toldFrom tags musts 0 count) next (unpack tag) q
+Inv-loop tags musts count next tag q₀ q = Seeking (tablePlacesFrom tags musts 0 count) next (unpack tag) q
 
 abbrev μ-loop : tie.MeasureT-loop
 μ-loop tags musts count next tag q₀ q = count - q

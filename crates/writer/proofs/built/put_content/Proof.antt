@@ -4,7 +4,7 @@ use native.Mathlib.Omega.{arith}
 use lib.ListN.{length}
 use Rattle.records.specs.Found.{piecesAt}
 use Rattle.writer.proofs.StepLaws.{within-more}
-use Rattle.writer.proofs.PutLaws.{content-parts, content-told, content-note, content-rpp, sole-within, sound-told, sound-note}
+use Rattle.writer.proofs.PutLaws.{content-parts, content-details, content-note, content-rpp, sole-within, sound-details, sound-note}
 use borrow.Author.Needs.{needs}
 use Rattle.writer.proofs.built.put_content.Statement.{statement}
 use Rattle.writer.proofs.built.put_content.Tie as tie
@@ -13,7 +13,7 @@ enum-told : tie.Need-enum-told
 enum-told c = search needs
 
 put-purpose-requires : tie.Need-put-purpose-requires
-put-purpose-requires c κs = let s = c .before .before .before .before .before in let a = s .args in (s .pre .0, omega (arith, s .pre), sound-told (a .sign) (piecesAt 9 (a .l .now) (a .i)) (c .before .enum-told .given .1) (s .pre .3))
+put-purpose-requires c κs = let s = c .before .before .before .before .before in let a = s .args in (s .pre .0, omega (arith, s .pre), sound-details (a .sign) (piecesAt 9 (a .l .now) (a .i)) (c .before .enum-told .given .1) (s .pre .3))
 
 enum-told-2 : tie.Need-enum-told-2
 enum-told-2 c = search needs
@@ -41,7 +41,7 @@ returns c =
     let s = c .before .before .before .before .before .before .before .before in
     let a = s .args in
     let e = c .before .before .before .before .enum-told .given .1 in (
-      content-told (a .sign) (a .i) (piecesAt 9 (a .l .now) (a .i)) e (c .before .before .put-purpose .ensures .0),
+      content-details (a .sign) (a .i) (piecesAt 9 (a .l .now) (a .i)) e (c .before .before .put-purpose .ensures .0),
       within-more (length (a .l .now)) (a .at + 4 * length (a .l .now) + 300) (c .before .before .put-purpose .ensures .1) (omega arith) (omega arith),
     )
 

@@ -6,7 +6,7 @@ use Rattle.writer.proofs.StepLaws.{adds-unfit, adds-put, Onward, within
 use Rattle.writer.specs.Steps.{recordsAt}
 use Rattle.writer.specs.Sheet.{rule15, someCrowded}
 use Rattle.records.proofs.PieceLaws.{piece-length}
-use Rattle.records.specs.Found.{piecesAt, badLine}
+use Rattle.records.specs.Found.{piecesAt, badSheetLine}
 use Rattle.base.proofs.Room.{puts-put}
 use Rattle.base.specs.declared.Verdict.the-variants.{Fine}
 use Rattle.fields.specs.Field.{closing}
@@ -20,7 +20,7 @@ use Rattle.writer.proofs.built.put_message.Statement.{statement}
 use Rattle.writer.proofs.built.put_message.Tie as tie
 
 abbrev Inv-loop : tie.InvT-loop
-Inv-loop s form sign out₀ fit₀ n₀ i₀ end₀ out fit n i = (length out ≡ length out₀) × (i ≤ length s) × (n ≤ 5 + 400 * i) × (badLine form sign i (piecesAt 10 s i) ≡ Fine)
+Inv-loop s form sign out₀ fit₀ n₀ i₀ end₀ out fit n i = (length out ≡ length out₀) × (i ≤ length s) × (n ≤ 5 + 400 * i) × (badSheetLine form sign i (piecesAt 10 s i) ≡ Fine)
     × Onward (rule15 form sign 7 (recordsAt s 7)) (someCrowded form sign (recordsAt s 7)) (bodyOf form sign (recordsAt s 7)) out₀ 5 (rule15 form sign i (recordsAt s i)) (not fit || someCrowded form sign (recordsAt s i)) (bodyOf form sign (recordsAt s i)) out n
 
 abbrev μ-loop : tie.MeasureT-loop

@@ -5,7 +5,7 @@ use mathlib.Core.List.{map}
 use native.Mathlib.Omega.{arith}
 use borrow.Author.Needs.{needs}
 use lib.ListN.{length, take, drop}
-use Rattle.fields.specs.Field.{laid}
+use Rattle.fields.specs.Field.{withCrLf}
 use Rattle.roles.specs.Parts.{castBy}
 use Rattle.records.specs.Found.{piecesAt}
 use Rattle.records.proofs.PieceLaws.{end-within, piece-length}
@@ -18,7 +18,7 @@ use Rattle.writer.proofs.parts.put_parts.Tie as tie
 
 abbrev Inv-loop : tie.InvT-loop
 Inv-loop sign role₀ l i₀ out₀ at₀ role i out at = (length out ≡ length out₀) × (i ≤ length l + 1) × (i₀ ≤ i) × (at + 4 * i₀ ≤ at₀ + 4 * i)
-    × PartsLeft (unsaid sign i₀ (castBy role₀ (piecesAt 9 l i₀))) (laid (map (lineFor sign) (castBy role₀ (piecesAt 9 l i₀)))) out₀ at₀ sign role l i out at
+    × PartsLeft (unsaid sign i₀ (castBy role₀ (piecesAt 9 l i₀))) (withCrLf (map (lineFor sign) (castBy role₀ (piecesAt 9 l i₀)))) out₀ at₀ sign role l i out at
 
 abbrev μ-loop : tie.MeasureT-loop
 μ-loop sign role₀ l i₀ out₀ at₀ role i out at = length l + 1 - i

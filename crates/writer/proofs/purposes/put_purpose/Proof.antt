@@ -5,7 +5,7 @@ use lib.ListN.{length, length-take}
 use borrow.Author.Needs.{needs}
 use Rattle.writer.specs.Steps.{unfitIn}
 use Rattle.writer.proofs.StepLaws.{not-put, within-more, within-any}
-use Rattle.writer.proofs.PurposeLaws.{detailed-at, text-long, tell-stop, tell-over, tell-put}
+use Rattle.writer.proofs.PurposeLaws.{detailed-at, text-long, details-stop, details-over, details-put}
 use Rattle.writer.proofs.purposes.put_purpose.Statement.{statement}
 use Rattle.writer.proofs.purposes.put_purpose.Tie as tie
 
@@ -58,7 +58,7 @@ returns c =
     let w = detailed-at (a .l .now) (a .i) (s .pre .2) in
     let t = c .before .before .put-text in
     let n = not-put (t .result) (c .match .keys2) in (
-      tell-stop w (a .sign) (a .place) (t .ensures .0) (a .out .now) (a .at) n,
+      details-stop w (a .sign) (a .into) (t .ensures .0) (a .out .now) (a .at) n,
       within-more (length (a .l .now)) (a .at + 250) (within-any (a .at + 250) n (t .ensures .1)) (omega (arith, text-long w, w .inside)) (omega arith),
     )
 
@@ -67,7 +67,7 @@ returns-2 c =
     let s = c .before .before .before .before .before .before .before .before .before .before .before .before .before .before in
     let a = s .args in
     let w = detailed-at (a .l .now) (a .i) (s .pre .2) in
-    (tell-over w (a .sign) (a .place) (c .before .before .before .before .before .put-text .ensures .0) (c .before .before .before .before .before .before .before .before .before .put-code .ensures .2) (c .before .before .r .given .1) (a .out .now) (a .at) (c .if1 .taken), unfitIn)
+    (details-over w (a .sign) (a .into) (c .before .before .before .before .before .put-text .ensures .0) (c .before .before .before .before .before .before .before .before .before .put-code .ensures .2) (c .before .before .r .given .1) (a .out .now) (a .at) (c .if1 .taken), unfitIn)
 
 array-share-prefix-line : tie.Need-array-share-prefix-line
 array-share-prefix-line c = search needs
@@ -87,7 +87,7 @@ returns-3 c =
     let a = s .args in
     let w = detailed-at (a .l .now) (a .i) (s .pre .2) in
     let k = c .before .before .before .before .before .before .before .before .before .before .before .before .before .before .put-code in (
-      tell-put w (a .sign) (a .place) (c .before .before .before .before .before .before .before .before .before .before .put-text .ensures .0) (k .ensures .2) (c .before .before .before .before .before .before .before .r .given .1) (search needs) (k .ensures .0) (c .before .before .lay-lines .ensures .0),
+      details-put w (a .sign) (a .into) (c .before .before .before .before .before .before .before .before .before .before .put-text .ensures .0) (k .ensures .2) (c .before .before .before .before .before .before .before .r .given .1) (search needs) (k .ensures .0) (c .before .before .lay-lines .ensures .0),
       within-more (length (a .l .now)) (a .at + 250) (c .before .before .lay-lines .ensures .1) (omega arith) (omega arith),
     )
 

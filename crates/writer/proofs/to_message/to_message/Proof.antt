@@ -5,7 +5,7 @@ use native.Mathlib.Omega.{arith}
 use lib.ListN.{length, length-replicate}
 use lib.Seq.{length-take-le}
 use borrow.Author.Needs.{needs}
-use Rattle.writer.proofs.CallLaws.{seven-within, told-good, told-built, sound-stuck, sound-unfit, sound-put, sound-short, sound-over, too-long-sheet, bad-sheet, verdict-is, form-is, sign-is}
+use Rattle.writer.proofs.CallLaws.{seven-within, typed-good, typed-built, sound-stuck, sound-unfit, sound-put, sound-short, sound-over, too-long-sheet, bad-sheet, verdict-is, form-is, sign-is}
 use Rattle.writer.proofs.to_message.to_message.Statement.{statement}
 use Rattle.writer.proofs.to_message.to_message.Tie as tie
 
@@ -36,7 +36,7 @@ put-message-requires c κs =
     let s = j .before .before .before .before .args .sheet .now in
     let e = j .judge-sheet .ensures in
     let v = verdict-is s e (c .before .enum-told .given .1) in
-    (j .before .if1 .left, seven-within s v, told-good s v (form-is s e) (sign-is s e))
+    (j .before .if1 .left, seven-within s v, typed-good s v (form-is s e) (sign-is s e))
 
 enum-known-k : tie.Need-enum-known-k
 enum-known-k c = search needs
@@ -56,7 +56,7 @@ returns-3 c =
     let e = j .judge-sheet .ensures in
     let v = verdict-is s e (p .before .before .enum-told .given .1) in
     let w = j .before .if1 .left in
-    let b = told-built s v (form-is s e) (sign-is s e) (p .put-message .ensures) in
+    let b = typed-built s v (form-is s e) (sign-is s e) (p .put-message .ensures) in
     sound-short s v w (c .before .before .n .given .1) b (a .out .now) (c .if2 .taken)
 
 returns-4 : tie.Need-returns-4
@@ -68,7 +68,7 @@ returns-4 c =
     let e = j .judge-sheet .ensures in
     let v = verdict-is s e (p .before .before .enum-told .given .1) in
     let w = j .before .if1 .left in
-    let b = told-built s v (form-is s e) (sign-is s e) (p .put-message .ensures) in
+    let b = typed-built s v (form-is s e) (sign-is s e) (p .put-message .ensures) in
     sound-over s v w (c .before .before .before .n .given .1) b (a .out .now) (c .before .if2 .left) (c .if3 .taken)
 
 array-share-prefix-m : tie.Need-array-share-prefix-m
@@ -95,7 +95,7 @@ returns-5 c =
     let e = j .judge-sheet .ensures in
     let v = verdict-is s e (p .before .before .enum-told .given .1) in
     let w = j .before .if1 .left in
-    let b = told-built s v (form-is s e) (sign-is s e) (p .put-message .ensures) in
+    let b = typed-built s v (form-is s e) (sign-is s e) (p .put-message .ensures) in
     sound-stuck s v w (a .out .now) (c .before .k .given .1) b
 
 returns-6 : tie.Need-returns-6
@@ -107,7 +107,7 @@ returns-6 c =
     let e = j .judge-sheet .ensures in
     let v = verdict-is s e (p .before .before .enum-told .given .1) in
     let w = j .before .if1 .left in
-    let b = told-built s v (form-is s e) (sign-is s e) (p .put-message .ensures) in
+    let b = typed-built s v (form-is s e) (sign-is s e) (p .put-message .ensures) in
     sound-unfit s v w (a .out .now) (c .enum-told2 .given .1) b
 
 same-length : tie.Need-same-length
@@ -122,7 +122,7 @@ returns-7 c =
     let e = j .judge-sheet .ensures in
     let v = verdict-is s e (p .before .before .enum-told .given .1) in
     let w = j .before .if1 .left in
-    let b = told-built s v (form-is s e) (sign-is s e) (p .put-message .ensures) in
+    let b = typed-built s v (form-is s e) (sign-is s e) (p .put-message .ensures) in
     sound-put s v w (c .before .before .before .before .before .before .before .before .n .given .1) b (form-is s e) (length-replicate {A = ℕ} 10000 0) (c .before .before .before .before .before .if3 .left) (c .before .before .hand-over .ensures)
 
 pub to-message-spec : {M : Type 1} → statement M

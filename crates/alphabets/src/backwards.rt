@@ -1,4 +1,4 @@
-// The table backwards, from a bank byte to the sign that it stands for on the Russian side: 1 for a letter that only the Latin side
+// The table backwards, from a bank byte to the character that it stands for on the Russian side: 1 for a letter that only the Latin side
 // reads, 0 for the apostrophe and for any byte outside the x set.
 pub(crate) const BACK: [u8; 256] = [
     0,

@@ -1,11 +1,11 @@
--- `sheets::parts::put_told` meets its contract. Assumes nothing.
+-- `sheets::parts::put_details` meets its contract. Assumes nothing.
 use Rattle.sheets.proofs.TextLaws.{code-few}
-use Rattle.sheets.proofs.ContentLaws.{told-put}
+use Rattle.sheets.proofs.ContentLaws.{details-put}
 use Rattle.roles.proofs.LineLaws.{head-size}
 use native.Mathlib.Omega.{arith}
 use borrow.Author.Needs.{needs}
-use Rattle.sheets.proofs.parts.put_told.Statement.{statement}
-use Rattle.sheets.proofs.parts.put_told.Tie as tie
+use Rattle.sheets.proofs.parts.put_details.Statement.{statement}
+use Rattle.sheets.proofs.parts.put_details.Tie as tie
 
 mark-at-requires : tie.Need-mark-at-requires
 mark-at-requires c κs = search needs
@@ -44,10 +44,10 @@ same-length : tie.Need-same-length
 same-length c = search needs
 
 returns : tie.Need-returns
-returns c = let s = c .before .before .before .before .before .before .before .before .before .before .before .before .before .before .before .before .before .before .before .before in let a = s .args in told-put (a .c .now) (c .before .before .before .before .before .before .before .before .before .before .before .before .before .before .before .before .before .mark-at .result) (c .before .before .before .before .before .before .before .before .before .before .before .before .before .before .before .before .before .mark-at .ensures) (a .back .now) (a .sign) (a .first) (a .mark) (c .before .before .before .before .before .before .before .before .before .before .before .before .before .before .before .past .ensures) (c .before .before .before .before .before .before .before .before .before .before .before .before .before .before .digits-of .ensures) (c .before .before .before .before .code-size .ensures .0) (c .before .before .before .before .before .before .before .before .before .before .before .before .put-part .ensures .1) (c .before .before .before .before .before .before .before .put .ensures) (c .before .before .put-over .ensures .1) (c .before .before .before .before .before .before .before .before .before .before .before .before .put-part .ensures .0) (c .before .before .put-over .ensures .0)
+returns c = let s = c .before .before .before .before .before .before .before .before .before .before .before .before .before .before .before .before .before .before .before .before in let a = s .args in details-put (a .c .now) (c .before .before .before .before .before .before .before .before .before .before .before .before .before .before .before .before .before .mark-at .result) (c .before .before .before .before .before .before .before .before .before .before .before .before .before .before .before .before .before .mark-at .ensures) (a .back .now) (a .sign) (a .first) (a .mark) (c .before .before .before .before .before .before .before .before .before .before .before .before .before .before .before .past .ensures) (c .before .before .before .before .before .before .before .before .before .before .before .before .before .before .digits-of .ensures) (c .before .before .before .before .code-size .ensures .0) (c .before .before .before .before .before .before .before .before .before .before .before .before .put-part .ensures .1) (c .before .before .before .before .before .before .before .put .ensures) (c .before .before .put-over .ensures .1) (c .before .before .before .before .before .before .before .before .before .before .before .before .put-part .ensures .0) (c .before .before .put-over .ensures .0)
 
-pub put-told-spec : {M : Type 1} → statement M
-put-told-spec =
+pub put-details-spec : {M : Type 1} → statement M
+put-details-spec =
     tie.close
     (tie.spec
     mark-at-requires

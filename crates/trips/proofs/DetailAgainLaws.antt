@@ -16,25 +16,25 @@ use Rattle.contents.specs.Fields.{IsRpp, Right, RppAndDetails}
 use Rattle.roles.specs.Role.{copy, name, shapeFor}
 use Rattle.roles.specs.Speech.{codeSize}
 use Rattle.roles.specs.declared.Shape.the-variants.{Details, Note202}
-use Rattle.records.specs.Rule19.{digits}
+use Rattle.records.specs.Rule19.{isDigits}
 use Rattle.records.specs.Sentences as sentences
 use Rattle.details.specs.Layouts.{linesFor, sizeFor}
-use Rattle.details.specs.declared.Place.{Place}
-use Rattle.details.specs.declared.Place.the-variants.{In70}
+use Rattle.details.specs.declared.DetailsField.{DetailsField}
+use Rattle.details.specs.declared.DetailsField.the-variants.{In70}
 use Rattle.details.specs.declared.Size.{Size}
 use Rattle.details.specs.declared.Size.the-variants.{Bytes, Unfit}
 use Rattle.details.proofs.DivisionTheorems.{Fitted, fitted}
-use Rattle.writer.specs.Spread.{castParts, code, told, rppLine, notePlace, contentLines}
+use Rattle.writer.specs.Spread.{castParts, code, codeAndText, rppLine, noteField, contentLines}
 use Rattle.writer.specs.Sheet.{isUnfit, crowded}
 use Rattle.written.proofs.SpeltLaws.{said-is, spelt-empty}
 use Rattle.written.proofs.ReadyLaws.{speaks, Ready}
 use Rattle.sheets.specs.Gather.{contentParts}
-use Rattle.trips.proofs.Held.{Noted}
+use Rattle.trips.proofs.Held.{DetailsOrRpp}
 use Rattle.trips.proofs.DetailLaws.{IsIn, rpp-line, rpp-alone, divided-pass}
 
 module _ (s : Bool) where
   -- ---- details that fit
-  laid-pass : (p : Place) (vo text : List ℕ) → digits 5 vo ≡ true → empty text ≡ false → isUnfit (sizeFor p (codeSize s) (code s vo ++ text)) ≡ false
+  laid-pass : (p : DetailsField) (vo text : List ℕ) → isDigits 5 vo ≡ true → empty text ≡ false → isUnfit (sizeFor p (codeSize s) (code s vo ++ text)) ≡ false
       → IsIn p s (linesFor p (codeSize s) (code s vo ++ text))
   unfolding linesFor
   laid-pass p vo text d e u = go (sizeFor p (codeSize s) (code s vo ++ text)) refl u
@@ -46,22 +46,22 @@ module _ (s : Bool) where
       go Unfit f u = absurd (true≢false u)
 
   -- their text as it is written: it has a byte, as the desk text has one
-  told-pass : (p : Place) (vo t : List ℕ) → digits 5 vo ≡ true → empty t ≡ false → all (speaks s) (copy vo ∷ name t ∷ []) ≡ true
-      → isUnfit (sizeFor p (codeSize s) (told s (vo ∷ t ∷ []))) ≡ false → IsIn p s (linesFor p (codeSize s) (told s (vo ∷ t ∷ [])))
-  told-pass p vo t d e a u =
+  text-pass : (p : DetailsField) (vo t : List ℕ) → isDigits 5 vo ≡ true → empty t ≡ false → all (speaks s) (copy vo ∷ name t ∷ []) ≡ true
+      → isUnfit (sizeFor p (codeSize s) (codeAndText s (vo ∷ t ∷ []))) ≡ false → IsIn p s (linesFor p (codeSize s) (codeAndText s (vo ∷ t ∷ [])))
+  text-pass p vo t d e a u =
       let k : speaks s (name t) ≡ true = left (speaks s (name t)) _ (right (speaks s (copy vo)) _ a) in
       laid-pass p vo (textOf (writing s t)) d (spelt-empty s t (textOf (writing s t)) (said-is (writing s t) k) ∙ e) u
 
-  details-pass : {ps : List (List ℕ)} → sentences.Right s Details ps → all (speaks s) (castParts Details ps) ≡ true → crowded s Details ps ≡ false
+  details-pass : {ps : List (List ℕ)} → sentences.RightParts s Details ps → all (speaks s) (castParts Details ps) ≡ true → crowded s Details ps ≡ false
       → IsIn In70 s (contentLines s Details ps)
   unfolding contentLines crowded
-  details-pass (sentences.details v t d e) a u = told-pass In70 v t d e a u
+  details-pass (sentences.details v t d e) a u = text-pass In70 v t d e a u
 
   -- r is what follows /RPP/, or nothing
-  behind-pass : {r : List ℕ} {ps : List (List ℕ)} → sentences.Right s Note202 (r ∷ ps) → all (speaks s) (castParts Note202 (r ∷ ps)) ≡ true → crowded s Note202 (r ∷ ps) ≡ false
-      → IsIn (notePlace r) s (linesFor (notePlace r) (codeSize s) (told s ps))
+  behind-pass : {r : List ℕ} {ps : List (List ℕ)} → sentences.RightParts s Note202 (r ∷ ps) → all (speaks s) (castParts Note202 (r ∷ ps)) ≡ true → crowded s Note202 (r ∷ ps) ≡ false
+      → IsIn (noteField r) s (linesFor (noteField r) (codeSize s) (codeAndText s ps))
   unfolding crowded
-  behind-pass (sentences.note202 r v t d e) a u = told-pass (notePlace r) v t d e (right (speaks s (copy r)) _ a) u
+  behind-pass (sentences.note202 r v t d e) a u = text-pass (noteField r) v t d e (right (speaks s (copy r)) _ a) u
 
   -- ---- 72 of a 202
   note-pass : (ls : List (List ℕ)) → RppAndDetails s ls → Ready s Note202 (contentParts s Note202 ls) → RppAndDetails s (contentLines s Note202 (contentParts s Note202 ls))
@@ -79,9 +79,9 @@ module _ (s : Bool) where
       go (c ∷ r) e z i w = let v = rw e at w in rw e (inr (rw e at i, behind-pass (v .is-right) (v .says) (v .fits)))
 
 -- ---- by what the field holds
-pub noted-again : (c : Content) (s : Bool) (ls : List (List ℕ)) → Noted (shapeFor c) → Right c s ls → Ready s (shapeFor c) (contentParts s (shapeFor c) ls)
+pub details-again : (c : Content) (s : Bool) (ls : List (List ℕ)) → DetailsOrRpp (shapeFor c) → Right c s ls → Ready s (shapeFor c) (contentParts s (shapeFor c) ls)
     → Right c s (contentLines s (shapeFor c) (contentParts s (shapeFor c) ls))
 unfolding contentParts contentLines
-noted-again holds.Details s ls n r w = details-pass s (w .is-right) (w .says) (w .fits)
-noted-again holds.Document s ls n r w = let k = rpp-alone ls r in rw (k .1) (rw (k .1) at r)
-noted-again holds.DocumentAndDetails s ls n r w = note-pass s ls r w
+details-again holds.Details s ls n r w = details-pass s (w .is-right) (w .says) (w .fits)
+details-again holds.Document s ls n r w = let k = rpp-alone ls r in rw (k .1) (rw (k .1) at r)
+details-again holds.DocumentAndDetails s ls n r w = note-pass s ls r w

@@ -1,17 +1,17 @@
--- `alphabets::pieces::sign_from` meets its contract: the sign from i on is the sign from the start on. Assumes nothing.
+-- `alphabets::pieces::character_from` meets its contract: the character from i on is the character from the start on. Assumes nothing.
 use Prim.Native.Nat.{_-_, _≤_}
 use mathlib.Core.Path.{_≡_, refl, sym, _∙_}
 use native.Mathlib.Omega.{arith}
 use borrow.Author.Needs.{needs}
 use lib.ListN.{length, getD}
 use Rattle.alphabets.specs.Runs.{floorOf}
-use Rattle.alphabets.specs.Pieces.{signFrom}
-use Rattle.alphabets.proofs.PieceLaws.{sign-here, sign-stops, sign-on, sign-end, sign-made}
-use Rattle.alphabets.proofs.pieces.sign_from.Statement.{statement}
-use Rattle.alphabets.proofs.pieces.sign_from.Tie as tie
+use Rattle.alphabets.specs.Pieces.{characterFrom}
+use Rattle.alphabets.proofs.PieceLaws.{character-here, character-stops, character-on, character-end, character-made}
+use Rattle.alphabets.proofs.pieces.character_from.Statement.{statement}
+use Rattle.alphabets.proofs.pieces.character_from.Tie as tie
 
 abbrev Inv-loop : tie.InvT-loop
-Inv-loop back latin part from side₀ i₀ side i = signFrom back latin part from ≡ signFrom back side part i
+Inv-loop back latin part from side₀ i₀ side i = characterFrom back latin part from ≡ characterFrom back side part i
 
 abbrev μ-loop : tie.MeasureT-loop
 μ-loop back latin part from side₀ i₀ side i = length part - i
@@ -39,11 +39,11 @@ add-t14 c = omega arith
 
 returns : tie.Need-returns Inv-loop μ-loop
 returns c = let t = c .before in let f = t .before in let l = f .before .before .before .before in let a = l .before .before .args in
-    sym (l .loop .inv ∙ sign-here (a .back .now) (a .part .now) (l .loop .i) (l .loop .side) (f .before .before .before .loop-test .taken) (omega (arith, f .floor-of .ensures, f .before .value .ensures, t .if1 .taken)) ∙ sign-made _ _ _ _ _ _ (f .before .value .ensures) (c .heard-of .ensures))
+    sym (l .loop .inv ∙ character-here (a .back .now) (a .part .now) (l .loop .i) (l .loop .side) (f .before .before .before .loop-test .taken) (omega (arith, f .floor-of .ensures, f .before .value .ensures, t .if1 .taken)) ∙ character-made _ _ _ _ _ _ (f .before .value .ensures) (c .heard-of .ensures))
 
 returns-2 : tie.Need-returns-2 Inv-loop μ-loop
 returns-2 c = let e = c .before in let l = e .before .before .before .before .before in let a = l .before .before .args in
-    sym (l .loop .inv ∙ sign-stops (a .back .now) (a .part .now) (l .loop .i) (l .loop .side) (e .before .before .before .before .loop-test .taken) (below e) (c .if2 .taken))
+    sym (l .loop .inv ∙ character-stops (a .back .now) (a .part .now) (l .loop .i) (l .loop .side) (e .before .before .before .before .loop-test .taken) (below e) (c .if2 .taken))
 
 add-i : tie.Need-add-i Inv-loop μ-loop
 add-i c = omega arith
@@ -53,13 +53,13 @@ loop-less c = omega arith
 
 loop-again : tie.Need-loop-again Inv-loop μ-loop
 loop-again c = let e = c .before in let l = e .before .before .before .before .before in let a = l .before .before .args in
-    l .loop .inv ∙ sign-on (a .back .now) (a .part .now) (l .loop .i) (l .loop .side) (e .before .before .before .before .loop-test .taken) (below e) (c .if2 .left)
+    l .loop .inv ∙ character-on (a .back .now) (a .part .now) (l .loop .i) (l .loop .side) (e .before .before .before .before .loop-test .taken) (below e) (c .if2 .left)
 
 returns-3 : tie.Need-returns-3 Inv-loop μ-loop
-returns-3 c = let l = c .before in let a = l .before .before .args in sym (l .loop .inv ∙ sign-end (a .back .now) (a .part .now) (l .loop .i) (l .loop .side) (c .loop-test .left))
+returns-3 c = let l = c .before in let a = l .before .before .args in sym (l .loop .inv ∙ character-end (a .back .now) (a .part .now) (l .loop .i) (l .loop .side) (c .loop-test .left))
 
-pub sign-from-spec : {M : Type 1} → statement M
-sign-from-spec =
+pub character-from-spec : {M : Type 1} → statement M
+character-from-spec =
     tie.close
     (tie.spec
     Inv-loop
