@@ -1,4 +1,4 @@
--- AllHold field of a message that no rule refuses is held: its tag and lines are as 2, 3 and 4 want them, its content is right by 8, and with
+-- Every field of a message that no rule refuses is held: its tag and lines are as 2, 3 and 4 want them, its content is right by 8, and with
 -- the sign no text of it breaks 14 (N2-N4, N8, N14). Assumes nothing.
 use Prim.Native.Nat.{ℕ, _+_}
 use mathlib.Core.Path.{_≡_, refl, ap, _∙_, subst}
