@@ -7,7 +7,7 @@ ghost use Rattle.base.specs.declared.Verdict.the-variants.{Fine};
 ghost use Rattle.records.specs.Found.{piecesAt, badLine};
 ghost use Rattle.writer.specs.Sheet.{rule15, someCrowded};
 ghost use Rattle.writer.specs.Steps.{recordsAt};
-ghost use Rattle.writer.specs.Holder.{isIn, holderIn, holderOf};
+ghost use Rattle.writer.specs.Holder.{between, holderIn, holderOf};
 use super::Build;
 use super::Step;
 use super::built::build;
@@ -22,8 +22,8 @@ pub enum Holder {
 }
 
 // The place stands in what goes from one place up to another.
-fn is_in(place: usize, from: usize, to: usize) -> bool
-    ensures { λ r. ⌜ r ≡ isIn place from to ⌝ }
+fn is_between(place: usize, from: usize, to: usize) -> bool
+    ensures { λ r. ⌜ r ≡ between place from to ⌝ }
 {
     if place < from {
         return false;
@@ -44,7 +44,7 @@ fn find_holder(s: &[u8], form: Form, sign: bool, place: usize) -> Holder
         let Step::Put(m) = put_record(form, sign, &s[i..e], &mut none, n) else {
             return Holder::Nothing;
         };
-        if is_in(place, n, m) {
+        if is_between(place, n, m) {
             return Holder::Record(i);
         }
         n = m;

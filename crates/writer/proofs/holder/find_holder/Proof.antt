@@ -59,12 +59,12 @@ returns : tie.Need-returns Inv-loop μ-loop
 returns c = let a = c .before .before .before .before .before .before .before .before .before .args in let v = c .before .before .before .before .before .before .before .loop .inv in
     absurd (is-put (a .form) (a .sign) (a .s .now) (c .before .before .before .before .before .before .before .loop .i) (c .before .before .before .before .before .mark-at .result) (v .0) (c .before .before .before .before .before .mark-at .ensures) (c .before .before .before .before .before .before .loop-test .taken) (v .2) (v .3) (v .4) (c .before .before .put-record .ensures .0) (not-put (c .before .before .put-record .result) (c .match .keys2)))
 
-is-in-requires : tie.Need-is-in-requires Inv-loop μ-loop
-is-in-requires c κs = search needs
+is-between-requires : tie.Need-is-between-requires Inv-loop μ-loop
+is-between-requires c κs = search needs
 
 returns-2 : tie.Need-returns-2 Inv-loop μ-loop
 returns-2 c = let a = c .before .before .before .before .before .before .before .before .before .before .before .before .before .args in let v = c .before .before .before .before .before .before .before .before .before .before .before .loop .inv in
-    holder-hit (a .form) (a .sign) (a .s .now) (c .before .before .before .before .before .before .before .before .before .before .before .loop .i) (c .before .before .before .before .before .before .before .before .before .mark-at .result) (v .0) (c .before .before .before .before .before .before .before .before .before .mark-at .ensures) (c .before .before .before .before .before .before .before .before .before .before .loop-test .taken) (v .2) (v .3) (v .4) (c .before .before .before .before .before .before .put-record .ensures .0) (c .before .before .before .m .given .1) (a .place) (sym (c .before .is-in .ensures) ∙ c .if1 .taken) ∙ sym (v .5)
+    holder-hit (a .form) (a .sign) (a .s .now) (c .before .before .before .before .before .before .before .before .before .before .before .loop .i) (c .before .before .before .before .before .before .before .before .before .mark-at .result) (v .0) (c .before .before .before .before .before .before .before .before .before .mark-at .ensures) (c .before .before .before .before .before .before .before .before .before .before .loop-test .taken) (v .2) (v .3) (v .4) (c .before .before .before .before .before .before .put-record .ensures .0) (c .before .before .before .m .given .1) (a .place) (sym (c .before .is-between .ensures) ∙ c .if1 .taken) ∙ sym (v .5)
 
 add-i : tie.Need-add-i Inv-loop μ-loop
 add-i c = omega (arith, within (c .before .before .before .before .before .before .before .before .before), c .before .before .before .before .before .before .before .before .before .before .before .before .before .pre)
@@ -79,7 +79,7 @@ loop-again c = let a = c .before .before .before .before .before .before .before
   good-on (a .form) (a .sign) (a .s .now) (c .before .before .before .before .before .before .before .before .before .before .before .loop .i) (c .before .before .before .before .before .before .before .before .before .mark-at .result) (v .0) (c .before .before .before .before .before .before .before .before .before .mark-at .ensures) (c .before .before .before .before .before .before .before .before .before .before .loop-test .taken) (v .2),
   texts-on (a .form) (a .sign) (a .s .now) (c .before .before .before .before .before .before .before .before .before .before .before .loop .i) (c .before .before .before .before .before .before .before .before .before .mark-at .result) (v .0) (c .before .before .before .before .before .before .before .before .before .mark-at .ensures) (c .before .before .before .before .before .before .before .before .before .before .loop-test .taken) (v .2) (v .3) (v .4),
   details-on (a .form) (a .sign) (a .s .now) (c .before .before .before .before .before .before .before .before .before .before .before .loop .i) (c .before .before .before .before .before .before .before .before .before .mark-at .result) (v .0) (c .before .before .before .before .before .before .before .before .before .mark-at .ensures) (c .before .before .before .before .before .before .before .before .before .before .loop-test .taken) (v .2) (v .3) (v .4),
-  v .5 ∙ holder-miss (a .form) (a .sign) (a .s .now) (c .before .before .before .before .before .before .before .before .before .before .before .loop .i) (c .before .before .before .before .before .before .before .before .before .mark-at .result) (v .0) (c .before .before .before .before .before .before .before .before .before .mark-at .ensures) (c .before .before .before .before .before .before .before .before .before .before .loop-test .taken) (v .2) (v .3) (v .4) (c .before .before .before .before .before .before .put-record .ensures .0) (c .before .before .before .m .given .1) (a .place) (sym (c .before .is-in .ensures) ∙ c .if1 .left),
+  v .5 ∙ holder-miss (a .form) (a .sign) (a .s .now) (c .before .before .before .before .before .before .before .before .before .before .before .loop .i) (c .before .before .before .before .before .before .before .before .before .mark-at .result) (v .0) (c .before .before .before .before .before .before .before .before .before .mark-at .ensures) (c .before .before .before .before .before .before .before .before .before .before .loop-test .taken) (v .2) (v .3) (v .4) (c .before .before .before .before .before .before .put-record .ensures .0) (c .before .before .before .m .given .1) (a .place) (sym (c .before .is-between .ensures) ∙ c .if1 .left),
   search needs,
 )
 
@@ -101,7 +101,7 @@ find-holder-spec =
     put-record-requires
     enum-known-m
     returns
-    is-in-requires
+    is-between-requires
     returns-2
     add-i
     loop-less
