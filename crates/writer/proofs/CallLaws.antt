@@ -1,253 +1,82 @@
--- The ways out of the call: 1, 19 and 18, 15 and 16, then 17 and the message's own refusal. Assumes nothing.
-use Prim.Native.Nat.{ℕ, _+_, _≤_, _<_}
-use mathlib.Core.Path.{_≡_, refl, sym, ap, ap₂, subst, _∙_}
-use mathlib.Core.Bool.{Bool, true, false}
-use mathlib.Core.List.{List, [], _∷_, tail}
+-- The ways out of the calls, by what was built: the sheet's refusal, 17, the message's own refusal, the message. Assumes nothing.
+use Prim.Native.Nat.{ℕ, _≤_, _<_}
+use mathlib.Core.Path.{_≡_, sym, ap, ap₂, subst, _∙_}
+use mathlib.Core.Bool.{Bool}
+use mathlib.Core.List.{List, [], _∷_, _++_}
 use native.Mathlib.Omega.{arith}
-use native.Mathlib.Nat.{zero-add}
 use lib.ListN.{length, take, drop}
-use Rattle.base.specs.Choice.{pick}
-use Rattle.base.specs.Bytes.{same, countUpTo}
-use Rattle.base.specs.Quoted.{bytes}
+use lib.Seq.{take-append-seam}
 use Rattle.base.specs.Rules.{then, first}
-use Rattle.base.specs.Calls.{Answer, said, stuck, over, placed, Gives}
+use Rattle.base.specs.Calls.{short, over, Gives}
 use Rattle.base.specs.declared.Verdict.{Verdict}
 use Rattle.base.specs.declared.Verdict.the-variants.{Fine, Broken}
-use Rattle.base.proofs.RuleLaws.{fine-broken, then-clean, first-append}
-use Rattle.base.proofs.Room.{over-sets, puts-put}
-use Rattle.base.proofs.CallLaws.{is-long, not-long, gives-refused, gives-on}
-use Rattle.fields.specs.Field.{field, opening, message}
+use Rattle.base.specs.declared.Outcome.{Outcome}
+use Rattle.base.specs.declared.Outcome.the-variants.{Done, Refused}
+use Rattle.base.proofs.RuleLaws.{then-fine, first-append, first-clean}
+use Rattle.base.proofs.CallLaws.{is-long, is-short, not-short, gives-refused, gives-done, gives-on}
 use Rattle.fields.specs.Frame.{limit, rule1}
 use Rattle.types.specs.declared.Form.{Form}
-use Rattle.types.specs.declared.Form.the-variants.{Other, Mt103, Mt202}
 use Rattle.types.specs.Walk.{rule18}
-use Rattle.contents.specs.Tags.{tags103, tags202, heldBy}
-use Rattle.roles.specs.Role.{Part, cast, shapeOf, lineOf}
-use Rattle.roles.specs.declared.Shape.{Shape}
-use Rattle.roles.specs.declared.Shape.the-variants.{Plain}
-use Rattle.records.specs.Record.{Record, line, recordOf, records}
-use Rattle.records.specs.Places.{nextRecord}
-use Rattle.records.specs.Found.{piecesAt, badSheetLine}
-use Rattle.records.specs.Rule19.{typed, namedForm, sheetSign, sheetForm, verdict19And18, rule19, judged}
-use Rattle.records.specs.Sentences.{SoundSheet}
-use Rattle.records.specs.declared.Judged.{Judged}
-use Rattle.records.proofs.SheetLaws.{line-record}
-use Rattle.records.proofs.RuleLaws.{named, named-size, sound-fine, fine-sheet}
-use Rattle.records.proofs.WalkLaws.{first-within, first-size, none-ended, head-record, judge-typed}
-use Rattle.records.proofs.SoundLaws.{sound-behind}
-use Rattle.writer.specs.Spread.{saidPart, castParts, spread}
-use Rattle.writer.specs.Sheet.{stoppedAt, unsaid, rule15, someCrowded, rule16, fieldsOf, messageFor, sheetRules, handRules, writeRules, MessageTo}
-use Rattle.writer.specs.declared.Step.{Step}
-use Rattle.writer.specs.declared.Step.the-variants.{Stuck, Unfit, Put}
-use Rattle.writer.specs.Steps.{Adds, recordStops, recordsAt, Hands}
-use Rattle.writer.proofs.StepLaws.{adds-front, movedBy, came-stuck, came-unfit, came-put}
-use Rattle.writer.proofs.PurposeLaws.{said-digits}
-use Rattle.writer.proofs.PutLaws.{bodyOf, rule15-cons}
-use Rattle.writer.proofs.HandLaws.{hand-short, hand-refused}
-use lib.Seq.{take-append-seam}
-use Rattle.base.specs.declared.Outcome.{Outcome}
-use Rattle.base.specs.declared.Outcome.the-variants.{Refused}
 use Rattle.judge.specs.Message.{verdictOf}
+use Rattle.records.specs.Rule19.{sheetForm}
+use Rattle.writer.specs.Sheet.{messageFor, sheetRules, handRules, MessageTo, DraftTo}
+use Rattle.writer.specs.declared.Build.{Build}
+use Rattle.writer.specs.Steps.{Hands, Builds}
+use Rattle.writer.proofs.RuleLaws.{sheet-rules}
+use Rattle.writer.proofs.HandLaws.{hand-short, hand-refused}
+use Rattle.writer.proofs.BuildLaws.{Built}
 
--- ---- 17, and the message's own refusal
 pub long-verdict : (form : Form) (t : List ℕ) → rule18 form ≡ Fine → limit < length t → verdictOf form t ≡ Broken 1 limit
 unfolding verdictOf rule1
 long-verdict form t e h = rw (e, is-long limit t h)
 
-pub refused-first : (s out : List ℕ) {n p : ℕ} → first (sheetRules s) ≡ Broken n p → MessageTo s out (Refused n p) out
-unfolding MessageTo
-refused-first s out {n} {p} q =
-    let rest = handRules (sheetForm s) (messageFor s) out in
-    gives-refused (writeRules s out) (messageFor s) out n p (first-append (sheetRules s) rest ∙ ap (λ (v : Verdict). then v (first rest)) q)
+-- ---- the sheet is refused
+module _ (s out : List ℕ) {n p : ℕ} (q : first (sheetRules s) ≡ Broken n p) where
+  refused-first : (rest : List Verdict) → Gives (sheetRules s ++ rest) (messageFor s) out (Refused n p) out
+  refused-first rest = gives-refused (sheetRules s ++ rest) (messageFor s) out n p (first-append (sheetRules s) rest ∙ ap (λ (v : Verdict). then v (first rest)) q)
 
--- ---- the message whole
-pub message-put : (form : Form) (g : Bool) (rs : List Record) {v : Verdict} {b : Bool} {out mid after : List ℕ} {r : Step} → mid ≡ placed out 0 opening → Adds v b (bodyOf form g rs) mid 5 r after
-    → Adds v b (message (spread form g rs)) out 0 r after
-unfolding message
-message-put form g rs e a = adds-front opening (bodyOf form g rs) (puts-put {u = opening} refl e) a
+  pub message-refused : MessageTo s out (Refused n p) out
+  unfolding MessageTo
+  message-refused = refused-first (handRules (sheetForm s) (messageFor s) out)
 
--- ---- 15 gives its own number alone
-then-number : (n : ℕ) (v w : Verdict) → ((j p : ℕ) → v ≡ Broken j p → j ≡ n) → ((j p : ℕ) → w ≡ Broken j p → j ≡ n) → (j p : ℕ) → then v w ≡ Broken j p → j ≡ n
-then-number n Fine w f g j p e = g j p e
-then-number n (Broken k q) w f g j p e = f j p e
+  pub draft-refused : DraftTo s out (Refused n p) out
+  unfolding DraftTo
+  draft-refused = refused-first (short (messageFor s) out ∷ [])
 
-stopped-number : (o : ℕ) (a : Answer) (j p : ℕ) → stoppedAt o a ≡ Broken j p → j ≡ 15
-stopped-number o (said t) j p e = absurd (fine-broken j p e)
-stopped-number o (stuck k) j p e = cc
+-- ---- the message is built
+module _ (s : List ℕ) {form : Form} {g : Bool} {n : ℕ} (b : Built s form g n) where
+  handed : {out after : List ℕ} {q : Outcome} → Hands (sheetForm s) (messageFor s) out q after → MessageTo s out q after
+  unfolding MessageTo
+  handed {out} h = gives-on (sheetRules s) (handRules (sheetForm s) (messageFor s) out) (b .clean) h
 
-unsaid-number : (s : Bool) (o : ℕ) (cs : List Part) (j p : ℕ) → unsaid s o cs ≡ Broken j p → j ≡ 15
-unfolding unsaid
-unsaid-number s o [] j p e = absurd (fine-broken j p e)
-unsaid-number s o (c ∷ cs) j p e =
-    then-number 15 (stoppedAt o (saidPart s c)) (unsaid s (o + length (lineOf c) + 1) cs) (stopped-number o (saidPart s c)) (unsaid-number s (o + length (lineOf c) + 1) cs) j p e
+  pub message-short : (out : List ℕ) → length out < n → MessageTo s out (Refused 17 n) out
+  message-short out h = subst (λ (k : ℕ). MessageTo s out (Refused 17 k) out) (sym (b .size)) (handed (hand-short (sheetForm s) (messageFor s) out (omega (arith, b .size))))
 
-rule15-number : (form : Form) (s : Bool) (o : ℕ) (rs : List Record) (j p : ℕ) → rule15 form s o rs ≡ Broken j p → j ≡ 15
-unfolding rule15
-rule15-number form s o [] j p e = absurd (fine-broken j p e)
-rule15-number form s o (field t ps ∷ rs) j p e =
-    then-number 15 (unsaid s (o + length t + 1) (castParts (shapeOf form t) ps)) (rule15 form s (nextRecord o (field t ps)) rs) (unsaid-number s (o + length t + 1) (castParts (shapeOf form t) ps)) (rule15-number form s (nextRecord o (field t ps)) rs) j p e
+  pub message-over : (out : List ℕ) → n ≤ length out → limit < n → MessageTo s out (Refused 1 0) out
+  message-over out h o =
+      let e = sheet-rules s (first-clean (sheetRules s) (b .clean)) .type in
+      handed (hand-refused (sheetForm s) (messageFor s) out (omega (arith, b .size)) (long-verdict (sheetForm s) (messageFor s) e (omega (arith, b .size))))
 
--- ---- the first record can be written
-plain-mt : (form : Form) → shapeOf form (bytes "MT") ≡ Plain
-unfolding shapeOf heldBy tags103 tags202 same
-plain-mt Mt103 = refl
-plain-mt Mt202 = refl
-plain-mt Other = refl
+  -- it stands at the front of its room
+  module _ {m mid : List ℕ} {r : Build} (a : Builds s m r mid) (l : n ≤ length m) where
+    pub filled : mid ≡ over (messageFor s) m
+    filled = a .fills (b .clean) (omega (arith, b .size))
 
-first-fine : (form : Form) (s : Bool) (r : Record) → typed r ≡ true → recordStops form s r ≡ Fine
-unfolding unsaid cast
-first-fine form s r e =
-    let n = named r e in
-    ap (recordStops form s) (n .is)
-    ∙ ap (λ (sh : Shape). unsaid s 3 (castParts sh (n .type ∷ []))) (plain-mt form)
-    ∙ ap (λ (a : Answer). then (stoppedAt 3 a) Fine) (said-digits 3 (n .type) (n .three))
+    pub message-handed : {out after : List ℕ} {q : Outcome} → Hands form (take n mid) out q after → MessageTo s out q after
+    message-handed {out} {after} {q} h =
+        let t : take n mid ≡ messageFor s = ap₂ (λ (i : ℕ) (x : List ℕ). take i x) (b .size) filled ∙ take-append-seam (messageFor s) (drop (length (messageFor s)) m) in
+        handed (subst (λ (j : Form). Hands j (messageFor s) out q after) (b .type) (subst (λ (x : List ℕ). Hands form x out q after) t h))
 
--- ---- a sheet that 19 and 18 let pass
-module _ (s : List ℕ) (v : verdict19And18 s ≡ Fine) where
-  h : SoundSheet s
-  h = fine-sheet s v .0
+  -- ---- and not judged
+  pub draft-short : (out : List ℕ) → length out < n → DraftTo s out (Refused 17 n) out
+  unfolding DraftTo
+  draft-short out h =
+      let e : short (messageFor s) out ≡ Broken 17 n = is-short (messageFor s) out (omega (arith, b .size)) ∙ ap (Broken 17) (sym (b .size)) in
+      gives-on (sheetRules s) (short (messageFor s) out ∷ []) (b .clean) (gives-refused (short (messageFor s) out ∷ []) (messageFor s) out 17 n (then-fine (short (messageFor s) out) ∙ e))
 
-  pub type-fine : rule18 (sheetForm s) ≡ Fine
-  type-fine = fine-sheet s v .1
-
-  abbrev ours : List Record
-  ours = recordsAt s 7
-
-  tail-is : tail (records s) ≡ ours
-  tail-is = ap tail (h .list) ∙ sound-behind s h
-
-  rule15-is : rule15 (sheetForm s) (sheetSign s) 0 (records s) ≡ rule15 (sheetForm s) (sheetSign s) 7 ours
-  rule15-is =
-      let z : nextRecord 0 (h .head) ≡ 7 = omega (arith, named-size (h .head) (h .names)) in
-      ap (rule15 (sheetForm s) (sheetSign s) 0) (h .list ∙ ap (λ (rs : List Record). h .head ∷ rs) (sound-behind s h))
-      ∙ sym (rule15-cons (sheetForm s) (sheetSign s) 0 (h .head) ours)
-      ∙ ap₂ (λ (u : Verdict) (k : ℕ). then (movedBy 0 u) (rule15 (sheetForm s) (sheetSign s) k ours)) (first-fine (sheetForm s) (sheetSign s) (h .head) (h .names)) z
-
-  message-is : message (spread (sheetForm s) (sheetSign s) ours) ≡ messageFor s
-  unfolding messageFor fieldsOf
-  message-is = ap (λ (rs : List Record). message (spread (sheetForm s) (sheetSign s) rs)) (sym tail-is)
-
-  -- where its first line ends
-  abbrev end : ℕ
-  end = 0 + countUpTo 10 (drop 0 s)
-
-  goes-on : end ≡ length s → ⊥
-  goes-on z = let n : _≡_ {A = ℕ} 0 (length (h .head ∷ h .behind)) = ap length (sym (none-ended s end refl {g = sheetSign s} refl z) ∙ h .list) in absurd (omega arith)
-
-  abbrev headOr : List Record → Record
-  headOr [] = field [] []
-  headOr (r ∷ rs) = r
-
-  head-is : recordOf (take end s) ≡ h .head
-  head-is = ap headOr (sym (head-record s end refl {g = sheetSign s} refl goes-on) ∙ h .list)
-
-  end-six : end ≡ 6
-  end-six = first-size s end refl {g = sheetSign s} refl ∙ ap length (sym (line-record (take end s))) ∙ ap (λ (r : Record). length (line r)) head-is ∙ named-size (h .head) (h .names)
-
-  pub seven-within : 7 ≤ length s
-  seven-within = let k = goes-on in let w = first-within s end refl {g = sheetSign s} refl in let z = end-six in omega (arith, k)
-
-  pub lines-good : badSheetLine (sheetForm s) (sheetSign s) 7 (piecesAt 10 s 7) ≡ Fine
-  unfolding judged sheetForm
-  lines-good =
-      let j = judge-typed s end refl {g = sheetSign s} refl goes-on {form = sheetForm s} (ap typed head-is ∙ h .names) (ap namedForm (head-record s end refl {g = sheetSign s} refl goes-on)) refl in
-      let b : badSheetLine (sheetForm s) (sheetSign s) (end + 1) (piecesAt 10 s (end + 1)) ≡ Fine
-      = then-clean (badSheetLine (sheetForm s) (sheetSign s) (end + 1) (piecesAt 10 s (end + 1))) (rule18 (sheetForm s)) (ap (λ (x : Judged). x .verdict) j ∙ v) .0 in
-      subst (λ (k : ℕ). badSheetLine (sheetForm s) (sheetSign s) (k + 1) (piecesAt 10 s (k + 1)) ≡ Fine) end-six b
-
-  -- the type and the sign as the sheet names them
-  module _ {form : Form} {g : Bool} (k : form ≡ sheetForm s) (i : g ≡ sheetSign s) where
-    pub typed-good : badSheetLine form g 7 (piecesAt 10 s 7) ≡ Fine
-    typed-good = ap₂ (λ (n : Form) (b : Bool). badSheetLine n b 7 (piecesAt 10 s 7)) k i ∙ lines-good
-
-    pub typed-built : {m mid : List ℕ} {r : Step} → Adds (rule15 form g 7 ours) (someCrowded form g ours) (message (spread form g ours)) m 0 r mid
-        → Adds (rule15 (sheetForm s) (sheetSign s) 7 ours) (someCrowded (sheetForm s) (sheetSign s) ours) (message (spread (sheetForm s) (sheetSign s) ours)) m 0 r mid
-    typed-built {m} {mid} {r} a =
-        subst (λ (n : Form). Adds (rule15 n (sheetSign s) 7 ours) (someCrowded n (sheetSign s) ours) (message (spread n (sheetSign s) ours)) m 0 r mid) k
-        (subst (λ (b : Bool). Adds (rule15 form b 7 ours) (someCrowded form b ours) (message (spread form b ours)) m 0 r mid) i a)
-
-  module _ (w : length s ≤ limit) where
-    abbrev Left : Verdict
-    Left = then (rule15 (sheetForm s) (sheetSign s) 0 (records s)) (then (rule16 (sheetForm s) (sheetSign s) (tail (records s))) Fine)
-
-    past : first (sheetRules s) ≡ Left
-    past = rw (not-long limit s w, sound-fine s h, type-fine)
-
-    abbrev Built : List ℕ → Step → List ℕ → Type 0
-    Built m r after = Adds (rule15 (sheetForm s) (sheetSign s) 7 ours) (someCrowded (sheetForm s) (sheetSign s) ours) (message (spread (sheetForm s) (sheetSign s) ours)) m 0 r after
-
-    abbrev size : ℕ
-    size = 0 + length (message (spread (sheetForm s) (sheetSign s) ours))
-
-    pub sound-stuck : (out : List ℕ) {m mid : List ℕ} {r : Step} {k : ℕ} → r ≡ Stuck k → Built m r mid → MessageTo s out (Refused 15 k) out
-    sound-stuck out {k = k} e a =
-        let z = came-stuck (rule15 (sheetForm s) (sheetSign s) 7 ours) (someCrowded (sheetForm s) (sheetSign s) ours) size k (sym e ∙ a .answers) in
-        let n : z .0 ≡ 15 = rule15-number (sheetForm s) (sheetSign s) 7 ours (z .0) k (z .1) in
-        refused-first s out (past ∙ ap (λ (u : Verdict). then u (then (rule16 (sheetForm s) (sheetSign s) (tail (records s))) Fine)) (rule15-is ∙ z .1 ∙ ap (λ (j : ℕ). Broken j k) n))
-
-    left-is : {v : Verdict} {b : Bool} → rule15 (sheetForm s) (sheetSign s) 7 ours ≡ v → someCrowded (sheetForm s) (sheetSign s) ours ≡ b → Left ≡ then v (then (pick b (Broken 16 0) Fine) Fine)
-    unfolding rule16
-    left-is p q = ap₂ (λ (u v : Verdict). then u (then v Fine)) (rule15-is ∙ p) (ap (λ (rs : List Record). rule16 (sheetForm s) (sheetSign s) rs) tail-is ∙ ap (λ (b : Bool). pick b (Broken 16 0) Fine) q)
-
-    pub sound-unfit : (out : List ℕ) {m mid : List ℕ} {r : Step} → r ≡ Unfit → Built m r mid → MessageTo s out (Refused 16 0) out
-    sound-unfit out e a =
-        let z = came-unfit (rule15 (sheetForm s) (sheetSign s) 7 ours) (someCrowded (sheetForm s) (sheetSign s) ours) size (sym e ∙ a .answers) in
-        refused-first s out (past ∙ left-is (z .0) (z .1))
-
-    module _ {m mid : List ℕ} {r : Step} {n : ℕ} (e : r ≡ Put n) (a : Built m r mid) where
-      known : (rule15 (sheetForm s) (sheetSign s) 7 ours ≡ Fine) × (someCrowded (sheetForm s) (sheetSign s) ours ≡ false) × (n ≡ size)
-      known = came-put (rule15 (sheetForm s) (sheetSign s) 7 ours) (someCrowded (sheetForm s) (sheetSign s) ours) size n (sym e ∙ a .answers)
-
-      abbrev text : List ℕ
-      text = message (spread (sheetForm s) (sheetSign s) ours)
-
-      sized : n ≡ length text
-      sized = known .2 ∙ zero-add (length text)
-
-      left : {out after : List ℕ} {q : Outcome} → Gives (handRules (sheetForm s) (messageFor s) out) (messageFor s) out q after → MessageTo s out q after
-      unfolding MessageTo
-      left {out} g = gives-on (sheetRules s) (handRules (sheetForm s) (messageFor s) out) (past ∙ left-is (known .0) (known .1)) g
-
-      pub sound-put : {form : Form} {out after : List ℕ} {q : Outcome} → form ≡ sheetForm s → length m ≡ limit → n ≤ limit → Hands form (take n mid) out q after → MessageTo s out q after
-      sound-put {form} {out} {after} {q} k l o g =
-          let p : mid ≡ over text m = a .fills (known .0) (known .1) (omega (arith, sized)) ∙ sym (over-sets text m (omega (arith, sized))) in
-          let t : take n mid ≡ messageFor s = ap₂ (λ (i : ℕ) (x : List ℕ). take i x) sized p ∙ take-append-seam text (drop (length text) m) ∙ message-is in
-          left (subst (λ (j : Form). Hands j (messageFor s) out q after) k (subst (λ (x : List ℕ). Hands form x out q after) t g))
-
-      whole : n ≡ length (messageFor s)
-      whole = sized ∙ ap length message-is
-
-      pub sound-short : (out : List ℕ) → length out < n → MessageTo s out (Refused 17 n) out
-      sound-short out h =
-          subst (λ (k : ℕ). MessageTo s out (Refused 17 k) out) (sym whole) (left (hand-short (sheetForm s) (messageFor s) out (omega (arith, whole))))
-
-      pub sound-over : (out : List ℕ) → n ≤ length out → limit < n → MessageTo s out (Refused 1 0) out
-      sound-over out h o =
-          left (hand-refused (sheetForm s) (messageFor s) out (omega (arith, whole)) (long-verdict (sheetForm s) (messageFor s) type-fine (omega (arith, whole))))
-
--- ---- a sheet that is refused
-pub too-long-sheet : (s out : List ℕ) → limit < length s → MessageTo s out (Refused 1 limit) out
-too-long-sheet s out h = refused-first s out (rw (is-long limit s h))
-
-pub bad-sheet : (s out : List ℕ) {n p : ℕ} → length s ≤ limit → verdict19And18 s ≡ Broken n p → MessageTo s out (Refused n p) out
-unfolding verdict19And18
-bad-sheet s out {n} {p} l e = refused-first s out (go (rule19 s) (rule18 (sheetForm s)) refl refl e)
-  where
-    go : (v w : Verdict) → rule19 s ≡ v → rule18 (sheetForm s) ≡ w → then v (then w Fine) ≡ Broken n p → first (sheetRules s) ≡ Broken n p
-    go (Broken m q) w a b e = rw (not-long limit s l, a) e
-    go Fine (Broken m q) a b e = rw (not-long limit s l, a, b) e
-    go Fine Fine a b e = absurd (fine-broken n p e)
-
--- ---- what a judged sheet says
-module _ (s : List ℕ) {j : Judged} (e : j ≡ judged s) where
-  pub verdict-is : {v : Verdict} → j .verdict ≡ v → verdict19And18 s ≡ v
-  unfolding judged
-  verdict-is q = sym (ap (λ (x : Judged). x .verdict) e) ∙ q
-
-  pub form-is : j .form ≡ sheetForm s
-  unfolding judged
-  form-is = ap (λ (x : Judged). x .form) e
-
-  pub sign-is : j .sign ≡ sheetSign s
-  unfolding judged
-  sign-is = ap (λ (x : Judged). x .sign) e
+  pub draft-done : {out after : List ℕ} {r : Build} → Builds s out r after → n ≤ length out → DraftTo s out (Done n) after
+  unfolding DraftTo
+  draft-done {out} a h =
+      let e : first (short (messageFor s) out ∷ []) ≡ Fine = then-fine (short (messageFor s) out) ∙ not-short (messageFor s) out (omega (arith, b .size)) in
+      let d = gives-on (sheetRules s) (short (messageFor s) out ∷ []) (b .clean) (gives-done (short (messageFor s) out ∷ []) (messageFor s) out e) in
+      record { answers = ap Done (b .size) ∙ d .answers; leaves = filled a h ∙ d .leaves }

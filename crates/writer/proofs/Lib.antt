@@ -6,4 +6,6 @@ pub mod NoteLaws
 pub mod PutLaws
 pub mod HandLaws
 pub mod RuleLaws
+pub mod BuildLaws
 pub mod CallLaws
+pub mod HolderLaws

@@ -211,7 +211,7 @@ rule15-cons form s o (field t ps) rs =
     let z : o + (length t + 1) ≡ o + length t + 1 = omega arith in
     ap (λ (v : Verdict). then v (rule15 form s (nextRecord o (field t ps)) rs)) (moved-unsaid s o (length t + 1) (castParts (shapeOf form t) ps) ∙ ap (λ (j : ℕ). unsaid s j (castParts (shapeOf form t) ps)) z)
 
-crowded-cons : (form : Form) (s : Bool) (r : Record) (rs : List Record) → (recordCrowded form s r || someCrowded form s rs) ≡ someCrowded form s (r ∷ rs)
+pub crowded-cons : (form : Form) (s : Bool) (r : Record) (rs : List Record) → (recordCrowded form s r || someCrowded form s rs) ≡ someCrowded form s (r ∷ rs)
 crowded-cons form s (field t ps) rs = refl
 
 abbrev pub bodyOf : Form → Bool → List Record → List ℕ

@@ -112,3 +112,10 @@ pub record NoRefusal (s out : List ℕ) : Type 0 where
 
 unfoldable pub MessageTo : List ℕ → List ℕ → Outcome → List ℕ → Type 0
 MessageTo s out r after = Gives (writeRules s out) (messageFor s) out r after
+
+-- ---- the same message, not judged: what is known before the room is looked at, then 17
+abbrev pub draftRules : List ℕ → List ℕ → List Verdict
+draftRules s out = sheetRules s ++ short (messageFor s) out ∷ []
+
+unfoldable pub DraftTo : List ℕ → List ℕ → Outcome → List ℕ → Type 0
+DraftTo s out r after = Gives (draftRules s out) (messageFor s) out r after

@@ -6,7 +6,8 @@ use mathlib.Core.List.{List, map}
 use lib.ListN.{length}
 use lib.Seq.{sets}
 use Rattle.types.specs.declared.Form.{Form}
-use Rattle.base.specs.Calls.{Gives}
+use Rattle.base.specs.Rules.{first}
+use Rattle.base.specs.Calls.{over, Gives}
 use Rattle.base.specs.declared.Verdict.{Verdict}
 use Rattle.base.specs.declared.Verdict.the-variants.{Fine, Broken}
 use Rattle.base.specs.declared.Outcome.{Outcome}
@@ -15,10 +16,13 @@ use Rattle.roles.specs.Role.{shapeOf}
 use Rattle.roles.specs.Speech.{codeSize}
 use Rattle.records.specs.Record.{Record, recordOf, front}
 use Rattle.records.specs.Found.{piecesAt}
+use Rattle.records.specs.Rule19.{sheetForm, sheetSign}
 use Rattle.details.specs.declared.DetailsField.{DetailsField}
 use Rattle.details.specs.Layouts.{linesFor, sizeFor}
 use Rattle.writer.specs.Spread.{coded, castParts, codeAndText}
-use Rattle.writer.specs.Sheet.{isUnfit, unsaid, crowded, handRules}
+use Rattle.writer.specs.Sheet.{isUnfit, unsaid, crowded, messageFor, sheetRules, handRules}
+use Rattle.writer.specs.declared.Build.{Build}
+use Rattle.writer.specs.declared.Build.the-variants.{Stopped, Whole}
 use Rattle.writer.specs.declared.Step.{Step}
 use Rattle.writer.specs.declared.Step.the-variants.{Stuck, Unfit, Put}
 
@@ -55,6 +59,15 @@ recordCrowded form s (field t ps) = crowded s (shapeOf form t) ps
 -- the records from a place on
 abbrev pub recordsAt : List ℕ → ℕ → List Record
 recordsAt s i = map recordOf (front (piecesAt 10 s i))
+
+-- ---- the sheet built: a refusal of the sheet; or its type, its sign and the size of its message, which then stands in room that has as much
+abbrev pub builtBy : Verdict → Form → Bool → ℕ → Build
+builtBy (Broken n p) form s k = Stopped n p
+builtBy Fine form s k = Whole form s k
+
+pub record Builds (s out : List ℕ) (r : Build) (after : List ℕ) : Type 0 where
+  pub answers : r ≡ builtBy (first (sheetRules s)) (sheetForm s) (sheetSign s) (length (messageFor s))
+  pub fills : first (sheetRules s) ≡ Fine → length (messageFor s) ≤ length out → after ≡ over (messageFor s) out
 
 -- ---- the message handed over
 abbrev pub Hands : Form → List ℕ → List ℕ → Outcome → List ℕ → Type 0

@@ -12,20 +12,26 @@ ghost use Rattle.records.specs.Found.{piecesAt, badSheetLine};
 ghost use Rattle.records.specs.Rule19.{good, sound};
 ghost use Rattle.writer.specs.Spread.{castParts, contentLines, fieldFor, spread};
 ghost use Rattle.writer.specs.Sheet.{unsaid, crowded, rule15, someCrowded};
-ghost use Rattle.writer.specs.Steps.{Adds, Within, near, recordStops, recordCrowded, recordsAt};
+ghost use Rattle.writer.specs.Steps.{Adds, Within, near, recordStops, recordCrowded, recordsAt, Builds};
+use super::Build;
 use super::Step;
 use super::notes::put_note;
 use super::notes::put_rpp;
 use super::parts::put_parts;
 use super::purposes::put_purpose;
+use base::Verdict;
 use base::bytes::put;
 use base::marks::mark_at;
 use details::DetailsField;
+use records::sheets::judge_sheet;
 use records::tags::tag_number;
 use roles::Shape;
 use roles::parts::first_role;
 use roles::shapes::shape_of;
 use types::Form;
+
+// As many bytes as a sheet or a message may have.
+pub(crate) const ROOM: usize = 10000;
 
 // The content parts of a record, by the shape of its tag.
 fn put_content(shape: Shape, sign: bool, l: &[u8], i: usize, out: &mut [u8], at: usize) -> Step
@@ -52,7 +58,7 @@ fn put_tag(t: &[u8], out: &mut [u8], at: usize) -> usize
 }
 
 // A record, without its LF, as a field.
-fn put_record(form: Form, sign: bool, l: &[u8], out: &mut [u8], at: usize) -> Step
+pub(crate) fn put_record(form: Form, sign: bool, l: &[u8], out: &mut [u8], at: usize) -> Step
     requires { ⌜ (length (now l) ≤ 10000) × (at + 200000 ≤ near) × (good form sign (recordOf (now l)) ≡ true) ⌝ }
     ensures { λ r. ⌜ Adds (recordStops form sign (recordOf (now (l .entry)))) (recordCrowded form sign (recordOf (now (l .entry)))) (withCrLf (lined (fieldFor form sign (recordOf (now (l .entry)))))) (now (out .entry)) at r (now (out .exit)) × Within r (length (now (l .entry))) (at + 400 * (length (now (l .entry)) + 1)) ⌝ }
 {
@@ -64,7 +70,7 @@ fn put_record(form: Form, sign: bool, l: &[u8], out: &mut [u8], at: usize) -> St
 }
 
 // The message of a sheet that 19 lets pass: the records behind the first, which has six bytes.
-pub(crate) fn put_message(s: &[u8], form: Form, sign: bool, out: &mut [u8]) -> Step
+fn put_message(s: &[u8], form: Form, sign: bool, out: &mut [u8]) -> Step
     requires { ⌜ (length (now s) ≤ 10000) × (7 ≤ length (now s)) × (badSheetLine form sign 7 (piecesAt 10 (now s) 7) ≡ Fine) ⌝ }
     ensures { λ r. ⌜ Adds (rule15 form sign 7 (recordsAt (now (s .entry)) 7)) (someCrowded form sign (recordsAt (now (s .entry)) 7)) (message (spread form sign (recordsAt (now (s .entry)) 7))) (now (out .entry)) 0 r (now (out .exit)) ⌝ }
 {
@@ -86,4 +92,38 @@ pub(crate) fn put_message(s: &[u8], form: Form, sign: bool, out: &mut [u8]) -> S
         return Step::Unfit;
     }
     Step::Put(n + 2)
+}
+
+// A sheet judged, and its message built in the room, as far as that goes.
+pub(crate) fn build(sheet: &[u8], out: &mut [u8]) -> Build
+    ensures { λ r. ⌜ Builds (now (sheet .entry)) (now (out .entry)) r (now (out .exit)) ⌝ }
+{
+    if sheet.len() > ROOM {
+        return Build::Stopped {
+            number: 1,
+            place: ROOM,
+        };
+    }
+    let j = judge_sheet(sheet);
+    let verdict = j.verdict;
+    let form = j.form;
+    let sign = j.sign;
+    if let Verdict::Broken { number, place } = verdict {
+        return Build::Stopped { number, place };
+    }
+    match put_message(sheet, form, sign, out) {
+        Step::Stuck(k) => Build::Stopped {
+            number: 15,
+            place: k,
+        },
+        Step::Unfit => Build::Stopped {
+            number: 16,
+            place: 0,
+        },
+        Step::Put(n) => Build::Whole {
+            form,
+            sign,
+            size: n,
+        },
+    }
 }

@@ -1,5 +1,9 @@
 // A sheet written as a message.
+use types::Form;
+
 mod built;
+pub mod draft;
+pub mod holder;
 mod notes;
 mod parts;
 mod purposes;
@@ -12,4 +16,10 @@ pub(crate) enum Step {
     Stuck(usize),
     Unfit,
     Put(usize),
+}
+
+// What building a sheet's message comes to: a refusal of the sheet; or its type, its sign and the size of its message.
+pub(crate) enum Build {
+    Stopped { number: u32, place: usize },
+    Whole { form: Form, sign: bool, size: usize },
 }

@@ -1,19 +1,16 @@
-// The call: a sheet judged, its message built in room of its own, and that handed over.
+// The call: a sheet's message built in room of its own, judged, and handed over.
 ghost use Prim.Native.Nat.{_≤_};
 ghost use lib.ListN.{length};
 ghost use Rattle.writer.specs.Sheet.{MessageTo};
 ghost use Rattle.writer.specs.Steps.{Hands};
-use super::Step;
-use super::built::put_message;
+use super::Build;
+use super::built::ROOM;
+use super::built::build;
 use base::Outcome;
 use base::Verdict;
 use base::bytes::put;
 use judge::verdict::judge;
-use records::sheets::judge_sheet;
 use types::Form;
-
-// As many bytes as a sheet or a message may have.
-const ROOM: usize = 10000;
 
 // The message put into the lent room, which has room for it; or its own refusal, with place 0.
 fn hand_over(form: Form, m: &[u8], out: &mut [u8]) -> Outcome
@@ -33,42 +30,27 @@ fn hand_over(form: Form, m: &[u8], out: &mut [u8]) -> Outcome
 pub fn to_message(sheet: &[u8], out: &mut [u8]) -> Outcome
     ensures { λ r. ⌜ MessageTo (now (sheet .entry)) (now (out .entry)) r (now (out .exit)) ⌝ }
 {
-    if sheet.len() > ROOM {
-        return Outcome::Refused {
-            number: 1,
-            place: ROOM,
-        };
-    }
-    let j = judge_sheet(sheet);
-    let verdict = j.verdict;
-    let form = j.form;
-    if let Verdict::Broken { number, place } = verdict {
-        return Outcome::Refused { number, place };
-    }
     let mut m = [0u8; ROOM];
-    match put_message(sheet, form, j.sign, &mut m) {
-        Step::Stuck(k) => Outcome::Refused {
-            number: 15,
-            place: k,
-        },
-        Step::Unfit => Outcome::Refused {
-            number: 16,
-            place: 0,
-        },
-        Step::Put(n) => {
-            if out.len() < n {
+    match build(sheet, &mut m) {
+        Build::Stopped { number, place } => Outcome::Refused { number, place },
+        Build::Whole {
+            form,
+            sign: _,
+            size,
+        } => {
+            if out.len() < size {
                 return Outcome::Refused {
                     number: 17,
-                    place: n,
+                    place: size,
                 };
             }
-            if ROOM < n {
+            if ROOM < size {
                 return Outcome::Refused {
                     number: 1,
                     place: 0,
                 };
             }
-            hand_over(form, &m[..n], out)
+            hand_over(form, &m[..size], out)
         }
     }
 }

@@ -7,5 +7,7 @@ pub mod OwnLaws
 pub mod MadeLaws
 pub mod ExactLaws
 pub mod ToMessageTheorems
+pub mod DraftTheorems
+pub mod HolderTheorems
 pub mod SizeLaws
 pub mod Examples

@@ -48,7 +48,7 @@ passed [] vs c = refl
 passed (u ∷ us) vs c = ap (λ (v : Verdict). then v (first (us ++ vs))) (c .0) ∙ passed us vs (c .1)
 
 -- ---- 18: the type is neither 103 nor 202
-rule18-broken : (form : Form) (n p : ℕ) → rule18 form ≡ Broken n p → (n ≡ 18) × (p ≡ 0) × NoType form
+pub rule18-broken : (form : Form) (n p : ℕ) → rule18 form ≡ Broken n p → (n ≡ 18) × (p ≡ 0) × NoType form
 unfolding rule18 places103 places202
 rule18-broken Mt103 n p e = absurd (fine-broken n p e)
 rule18-broken Mt202 n p e = absurd (fine-broken n p e)
@@ -64,7 +64,7 @@ module _ (s out : List ℕ) where
       go true h e = (cc, cc, ltb-true limit (length s) h)
       go false h e = absurd (fine-broken n p e)
 
-  short-broken : (n p : ℕ) → short (messageFor s) out ≡ Broken n p → (n ≡ 17) × (p ≡ length (messageFor s)) × (length out < length (messageFor s))
+  pub short-broken : (n p : ℕ) → short (messageFor s) out ≡ Broken n p → (n ≡ 17) × (p ≡ length (messageFor s)) × (length out < length (messageFor s))
   unfolding short
   short-broken n p e = go (ltb (length out) (length (messageFor s))) refl e
     where

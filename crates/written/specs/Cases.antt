@@ -1,4 +1,4 @@
--- Worked examples of sheets written as messages, as one list (section S, N15-N17, O2). That they hold is proved in proofs/Examples.antt. Assumes
+-- Worked examples of sheets written as messages, and of the records that their bytes came from, as one list (section S, N15-N17, O2). That they hold is proved in proofs/Examples.antt. Assumes
 -- nothing.
 use Prim.Native.Nat.{ℕ}
 use Prim.Native.String.{String}
@@ -10,6 +10,8 @@ use Rattle.base.specs.Rules.{first}
 use Rattle.base.specs.declared.Verdict.the-variants.{Fine, Broken}
 use Rattle.frame.specs.Cases.{sample}
 use Rattle.writer.specs.Sheet.{messageFor, writeRules}
+use Rattle.writer.specs.Holder.{holderOf}
+use Rattle.writer.specs.declared.holder.Holder.the-variants as holder
 
 pub data Case : Type 0 where
   -- with room just enough, the sheet is written as this message
@@ -18,11 +20,16 @@ pub data Case : Type 0 where
   narrow : String → ℕ → ℕ → Case
   -- with room enough, the sheet is refused by this number at this place
   refused : String → ℕ → ℕ → Case
+  -- the byte at this place of the sheet's message came from the record that starts there in the sheet, or from none
+  came : String → ℕ → ℕ → Case
+  unmade : String → ℕ → Case
 
 abbrev pub Holds : Case → Type 0
 Holds (written s m) = (first (writeRules (desk s) (bytes m)) ≡ Fine) × (messageFor (desk s) ≡ bytes m)
 Holds (narrow s k n) = first (writeRules (desk s) (replicate k 0)) ≡ Broken 17 n
 Holds (refused s n p) = first (writeRules (desk s) (replicate 1000 0)) ≡ Broken n p
+Holds (came s p i) = holderOf (desk s) p ≡ holder.Record i
+Holds (unmade s p) = holderOf (desk s) p ≡ holder.Nothing
 
 abbrev pub sheet103 : String
 sheet103 =
@@ -63,4 +70,16 @@ cases =
     ∷ refused "MT\t202\n20\tB3\n21\tNONREFS\n32A\t991231RUB0,01\n53B\t/D/30111810500000100000\n58A\t/30101810400000000225\tSABRRUMM\n72\t\t10100\tPAYMENT\n" 8 0
     ∷ refused "MT\t202\n20\tB3\n21\tNONREF\n32A\t230229RUB0,01\n53B\t/D/30111810500000100000\n58A\t/30101810400000000225\tSABRRUMM\n72\t\t10100\tPAYMENT\n" 9 0
     ∷ refused "MT\t202\n20\tB3\n21\tNONREF\n32A\t991231USD0,01\n53B\t/D/30111810500000100000\n58A\t/30101810400000000225\tSABRRUMM\n72\t\t10100\tPAYMENT\n" 10 0
+    -- the record behind a byte: the field's colon, its last LF, the next colon; a name in the second line; what opens and closes the message
+    ∷ unmade sheet103 4
+    ∷ came sheet103 5 7
+    ∷ came sheet103 14 7
+    ∷ came sheet103 15 15
+    ∷ came sheet103 62 44
+    ∷ came sheet103 192 159
+    ∷ unmade sheet103 193
+    ∷ unmade sheet103 195
+    -- and in a sheet whose message is refused, or that is refused itself
+    ∷ came "MT\t103\n20\tA\n99\tA\n" 12 12
+    ∷ unmade "MT\t103\n20\t_\n" 5
     ∷ []

@@ -1,6 +1,6 @@
 -- `writer::built::put_message` meets its contract: the opening, and from each record on as from the first. Assumes nothing.
 use borrow.Author.Needs.{needs}
-use Rattle.writer.proofs.CallLaws.{message-put}
+use Rattle.writer.proofs.BuildLaws.{message-put}
 use Rattle.writer.proofs.PutLaws.{bodyOf, ended, good-here, good-on, records-stop, records-on, records-end}
 use Rattle.writer.proofs.StepLaws.{adds-unfit, adds-put, Onward, within-stuck, Goes, goes-unfit, goes-put, within-next}
 use Rattle.writer.specs.Steps.{recordsAt}
