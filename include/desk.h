@@ -44,8 +44,8 @@ extern "C" {
 
 /* The numbers of refusals, in the words of docs/NUMBERS.md, which also says what to do. */
 enum desk_refusal {
-  /* The input is longer than 10,000 bytes (a text alone: 5,000 typed, 10,000 in bank letters). Of a sheet
-   * with place 0: the message built from it would be too long. */
+  /* The input is longer than 10,000 bytes; of a sheet with place 0, the message built from it would be. (A
+   * text alone: 5,000 bytes typed, 10,000 in bank letters.) */
   DESK_REFUSED_LENGTH = 1,
   /* The message does not begin with `{4:` and a line end, or does not end with a line end and `-}`. */
   DESK_REFUSED_FRAME = 2,

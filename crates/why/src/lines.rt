@@ -1,9 +1,9 @@
 // The lines of a message or of a sheet.
 ghost use Prim.Native.Nat.{_≤_, _<_};
 ghost use lib.ListN.{length};
+use base::bytes::front;
 use base::marks::mark_at;
 use stored::line_at;
-use stored::up_to;
 
 // A line is looked for: any, or one that begins with `:`.
 fn is_wanted(colons: bool, b: u8) -> bool {
@@ -29,11 +29,51 @@ pub(crate) fn last_start(s: &[u8], place: usize, colons: bool) -> usize
     last
 }
 
-// The line from there on, up to its LF, and of a message up to its CR.
+// Which line it is, from 1 on, that starts at this place of the text.
+pub(crate) fn line_number(s: &[u8], start: usize) -> usize {
+    let mut number = 1;
+    let mut at = 0;
+    while at < s.len() {
+        if start <= at {
+            return number;
+        }
+        at = mark_at(b'\n', s, at) + 1;
+        number += 1;
+    }
+    number
+}
+
+// A line without the CR of its CR LF.
+fn without_cr(line: &[u8]) -> &[u8] {
+    if line.len() == 0 {
+        return line;
+    }
+    let last = line.len() - 1;
+    if line[last] == b'\r' {
+        return front(line, last);
+    }
+    line
+}
+
+// The line from there on, up to its LF, and of a message up to its CR LF.
 pub(crate) fn line_from(s: &[u8], start: usize, sheet: bool) -> &[u8] {
     let line = line_at(s, start);
     if sheet {
         return line;
     }
-    up_to(b'\r', line)
+    without_cr(line)
+}
+
+// Some LF has a CR right before it, or has none.
+pub(crate) fn has_end(s: &[u8], cr: bool) -> bool {
+    let mut i = 1;
+    while i < s.len() {
+        if s[i] == b'\n' {
+            if cr == (s[i - 1] == b'\r') {
+                return true;
+            }
+        }
+        i += 1;
+    }
+    false
 }

@@ -56,7 +56,7 @@ impl Error for Refusal {}
 
 /// What each number means, from 1 on: docs/NUMBERS.md, its column in English.
 const MEANINGS: [&str; 19] = [
-    "The input is longer than 10,000 bytes (a text alone: 5,000 typed, 10,000 in bank letters). Of a sheet with place 0: the message built from it would be too long.",
+    "The input is longer than 10,000 bytes; of a sheet with place 0, the message built from it would be. (A text alone: 5,000 bytes typed, 10,000 in bank letters.)",
     "The message does not begin with `{4:` and a line end, or does not end with a line end and `-}`.",
     "A byte that a message may not hold, or a broken line end.",
     "A line that is empty, begins with `-`, or has no right tag; or the first line opens no field.",
