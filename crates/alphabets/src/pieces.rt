@@ -2,9 +2,10 @@
 ghost use mathlib.Core.Path.{_≡_};
 ghost use mathlib.Core.Bool.{false};
 ghost use Rattle.alphabets.specs.Steps.{backTable};
-ghost use Rattle.alphabets.specs.Runs.{floorOf, heardOf};
 ghost use Rattle.alphabets.specs.Pieces.{pieceIn, characterFrom, charactersFrom};
 use super::backwards::BACK;
+use super::runs::floor_of;
+use super::runs::heard_of;
 use super::runs::run_of;
 use super::runs::value;
 
@@ -25,24 +26,6 @@ pub fn back_table() -> [u8; 256]
     ensures { λ r. ⌜ r ≡ backTable ⌝ }
 {
     BACK
-}
-
-fn floor_of(latin: bool) -> u8
-    ensures { λ r. ⌜ r ≡ floorOf latin ⌝ }
-{
-    if latin {
-        return 0;
-    }
-    1
-}
-
-fn heard_of(latin: bool, v: u8, b: u8) -> u8
-    ensures { λ r. ⌜ r ≡ heardOf latin v b ⌝ }
-{
-    if latin {
-        return b;
-    }
-    v
 }
 
 // A turn takes a run and the apostrophe behind it.

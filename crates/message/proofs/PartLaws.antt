@@ -29,13 +29,9 @@ use Rattle.listing.specs.Lists.{partAt}
 use Rattle.listing.specs.Numbers.{partBy}
 use Rattle.listing.proofs.SpanLaws.{part-is}
 use Rattle.frame.specs.declared.Frame.{Frame}
-use Rattle.values.specs.Answers.{kopecksOf, dateOf}
 use Rattle.judge.specs.Message.{verdictOf, judgedOf}
 use Rattle.judge.proofs.VerdictTheorems.{frame-clean, contents-right, judged-by, judged-found}
-use Rattle.message.specs.declared.Amount.the-variants as amount
-use Rattle.message.specs.declared.Day.{Day}
-use Rattle.message.specs.declared.Day.the-variants as day
-use Rattle.message.specs.Calls.{spanBy, spanOf, partOf, contentOf, paid, amountBy, amountOf, daySplit, dayBy, dayOf, Inside}
+use Rattle.message.specs.Calls.{spanBy, spanOf, partOf, contentOf, paid, Inside}
 
 -- ---- inside
 part-inside : (m : List ℕ) (ps : List Place) (q o : ℕ) (fs : List Field) → Standing m o fs → Inside m (partAt ps q o fs)
@@ -71,39 +67,16 @@ inside-span form m q = go (verdictOf form m) refl
 pub inside-is : (m : List ℕ) {s r : Span} → r ≡ s → Inside m s → Inside m r
 inside-is m e i = subst (Inside m) (sym e) i
 
--- ---- the place of 32A
--- ---- what is made of a judged message's spots
+-- ---- what is made of a judged message
 module _ (form : Form) (m : List ℕ) {f : Frame} (e : f ≡ judgedOf form m) where
-  module _ {n p : ℕ} (q : f .verdict ≡ Broken n p) where
-    pub amount-refused : amount.Refused n p ≡ amountOf form m
-    unfolding amountOf
-    amount-refused = sym (ap (λ (v : Verdict). amountBy v (kopecksOf (paid form m))) (judged-by form m e q))
+  pub part-judged : (v : Verdict) → f .verdict ≡ v → (q : ℕ) → spanBy v (partBy m (f .spots) (f .present) q) ≡ spanOf form m q
+  unfolding spanOf
+  part-judged Fine d q = part-is (judged-found form m e d) q ∙ ap (λ (v : Verdict). spanBy v (partAt (placesOf form) q 5 (fields m))) (sym (judged-by form m e d))
+  part-judged (Broken n p) d q = ap (λ (v : Verdict). spanBy v (partAt (placesOf form) q 5 (fields m))) (sym (judged-by form m e d))
 
-    pub day-refused : day.Refused n p ≡ dayOf form m
-    unfolding dayOf
-    day-refused = sym (ap (λ (v : Verdict). dayBy v (dateOf (paid form m))) (judged-by form m e q))
-
-  module _ (q : f .verdict ≡ Fine) {k : ℕ} (z : k ≡ find (placesOf form) (bytes "32A")) {s : Span} (r : s ≡ partBy m (f .spots) (f .present) k) where
-    paid-span : s ≡ spanOf form m (find (placesOf form) (bytes "32A"))
-    unfolding spanOf
-    paid-span =
-        r ∙ ap (partBy m (f .spots) (f .present)) z ∙ part-is (judged-found form m e q) (find (placesOf form) (bytes "32A"))
-        ∙ sym (ap (λ (v : Verdict). spanBy v (partAt (placesOf form) (find (placesOf form) (bytes "32A")) 5 (fields m))) (judged-by form m e q))
-
-    pub paid-inside : Inside m s
-    paid-inside = inside-is m paid-span (inside-span form m (find (placesOf form) (bytes "32A")))
-
-    paid-part : {c : List ℕ} → c ≡ partOf m s → c ≡ paid form m
-    unfolding paid contentOf
-    paid-part g = g ∙ ap (partOf m) paid-span
-
-    pub amount-is : {c : List ℕ} {n : ℕ} → c ≡ partOf m s → n ≡ kopecksOf c → amount.Is n ≡ amountOf form m
-    unfolding amountOf
-    amount-is g h = ap amount.Is (h ∙ ap kopecksOf (paid-part g)) ∙ sym (ap (λ (v : Verdict). amountBy v (kopecksOf (paid form m))) (judged-by form m e q))
-
-    pub day-is : {c : List ℕ} {n : ℕ} {d : Day} → c ≡ partOf m s → n ≡ dateOf c → d ≡ daySplit n → d ≡ dayOf form m
-    unfolding dayOf
-    day-is g h i = i ∙ ap daySplit (h ∙ ap dateOf (paid-part g)) ∙ sym (ap (λ (v : Verdict). dayBy v (dateOf (paid form m))) (judged-by form m e q))
+pub paid-part : (form : Form) (m : List ℕ) {c : List ℕ} {s : Span} {q : ℕ} → c ≡ partOf m s → s ≡ spanOf form m q → q ≡ find (placesOf form) (bytes "32A") → c ≡ paid form m
+unfolding paid contentOf
+paid-part form m g e z = g ∙ ap (partOf m) (e ∙ ap (spanOf form m) z)
 
 -- ---- the bytes of a part
 joined-some : (l : List ℕ) (ls : List (List ℕ)) → empty l ≡ false → empty (joined (l ∷ ls)) ≡ false

@@ -1,5 +1,6 @@
 // The content of a place, by itself and as where it stands.
 ghost use mathlib.Core.Path.{_≡_};
+ghost use Rattle.judge.specs.Message.{verdictOf};
 ghost use Rattle.message.specs.Calls.{spanOf, partOf, contentOf, Inside};
 use base::Verdict;
 use judge::verdict::judge;
@@ -7,21 +8,37 @@ use listing::Span;
 use listing::spots::part_of;
 use types::Form;
 
-// Where the content of a place stands.
-pub fn span(form: Form, m: &[u8], place: usize) -> Span
-    ensures { λ r. ⌜ r ≡ spanOf form (now (m .entry)) place ⌝ }
+// What a message is judged to be, and where the content of a place stands in it: nowhere where the message is refused.
+pub(crate) struct JudgedPart {
+    pub(crate) verdict: Verdict,
+    pub(crate) part: Span,
+}
+
+pub(crate) fn judged_part(form: Form, m: &[u8], place: usize) -> JudgedPart
+    ensures { λ r. ⌜ (r .verdict ≡ verdictOf form (now (m .entry))) × (r .part ≡ spanOf form (now (m .entry)) place) ⌝ }
 {
     let f = judge(form, m);
     let verdict = f.verdict;
     let word = f.present;
     let spots = f.spots;
     match verdict {
-        Verdict::Broken {
-            number: _,
-            place: _,
-        } => Span::Nothing,
-        Verdict::Fine => part_of(m, &spots, word, place),
+        Verdict::Broken { number, place } => JudgedPart {
+            verdict: Verdict::Broken { number, place },
+            part: Span::Nothing,
+        },
+        Verdict::Fine => JudgedPart {
+            verdict: Verdict::Fine,
+            part: part_of(m, &spots, word, place),
+        },
     }
+}
+
+// Where the content of a place stands.
+pub fn span(form: Form, m: &[u8], place: usize) -> Span
+    ensures { λ r. ⌜ r ≡ spanOf form (now (m .entry)) place ⌝ }
+{
+    let j = judged_part(form, m, place);
+    j.part
 }
 
 // That part of the message; empty where there is none.

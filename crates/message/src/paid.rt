@@ -7,9 +7,8 @@ ghost use Rattle.message.specs.Calls.{amountOf, dayOf, daySplit};
 use super::Amount;
 use super::Day;
 use super::content::cut;
+use super::content::judged_part;
 use base::Verdict;
-use judge::verdict::judge;
-use listing::spots::part_of;
 use types::Form;
 use values::amounts::date_of;
 use values::amounts::kopecks_of;
@@ -43,16 +42,12 @@ fn split_day(date: u32) -> Day
 pub fn kopecks(form: Form, m: &[u8]) -> Amount
     ensures { λ r. ⌜ r ≡ amountOf form (now (m .entry)) ⌝ }
 {
-    let f = judge(form, m);
-    let verdict = f.verdict;
-    let word = f.present;
-    let spots = f.spots;
+    let j = judged_part(form, m, paid_place(form));
+    let verdict = j.verdict;
+    let part = j.part;
     match verdict {
         Verdict::Broken { number, place } => Amount::Refused { number, place },
-        Verdict::Fine => {
-            let s = part_of(m, &spots, word, paid_place(form));
-            Amount::Is(kopecks_of(cut(m, s)))
-        }
+        Verdict::Fine => Amount::Is(kopecks_of(cut(m, part))),
     }
 }
 
@@ -60,15 +55,11 @@ pub fn kopecks(form: Form, m: &[u8]) -> Amount
 pub fn date(form: Form, m: &[u8]) -> Day
     ensures { λ r. ⌜ r ≡ dayOf form (now (m .entry)) ⌝ }
 {
-    let f = judge(form, m);
-    let verdict = f.verdict;
-    let word = f.present;
-    let spots = f.spots;
+    let j = judged_part(form, m, paid_place(form));
+    let verdict = j.verdict;
+    let part = j.part;
     match verdict {
         Verdict::Broken { number, place } => Day::Refused { number, place },
-        Verdict::Fine => {
-            let s = part_of(m, &spots, word, paid_place(form));
-            split_day(date_of(cut(m, s)))
-        }
+        Verdict::Fine => split_day(date_of(cut(m, part))),
     }
 }

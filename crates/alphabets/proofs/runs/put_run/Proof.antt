@@ -3,14 +3,14 @@ use borrow.Author.Needs.{needs}
 use Rattle.alphabets.proofs.runs.put_run.Statement.{statement}
 use Rattle.alphabets.proofs.runs.put_run.Tie as tie
 
-copy-latin-requires : tie.Need-copy-latin-requires
-copy-latin-requires c κs = let e = c .before in rw (e .if1 .taken) at (e .before .before .before .pre)
+put-on-requires : tie.Need-put-on-requires
+put-on-requires c κs = let e = c .before in rw (e .if1 .taken) at (e .before .before .before .pre)
 
 same-length : tie.Need-same-length
 same-length c = search needs
 
 returns : tie.Need-returns
-returns c = let p = c .before .before in rw (p .before .before .if1 .taken) (p .copy-latin .ensures)
+returns c = let p = c .before .before in rw (p .before .before .if1 .taken) (p .put-on .ensures)
 
 translate-requires : tie.Need-translate-requires
 translate-requires c κs = let e = c .before in rw (e .if1 .left) at (e .before .before .before .pre)
@@ -24,4 +24,4 @@ returns-2 c = let p = c .before .before in rw (p .before .before .if1 .left) (p 
 pub put-run-spec : {M : Type 1} → statement M
 put-run-spec =
     tie.close
-    (tie.spec copy-latin-requires same-length returns translate-requires same-length-2 returns-2)
+    (tie.spec put-on-requires same-length returns translate-requires same-length-2 returns-2)

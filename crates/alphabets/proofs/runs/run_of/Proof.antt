@@ -1,10 +1,10 @@
 -- `alphabets::runs::run_of` meets its contract. Assumes nothing.
-use Prim.Native.Nat.{_-_, _+_}
+use Prim.Native.Nat.{_-_}
 use mathlib.Core.Path.{refl, sym, _∙_}
 use native.Mathlib.Omega.{arith}
 use borrow.Author.Needs.{needs}
 use lib.ListN.{length}
-use Rattle.alphabets.proofs.RunLaws.{Going, going-on, going-stop}
+use Rattle.alphabets.proofs.RunLaws.{Going, going-by, going-part}
 use Rattle.alphabets.proofs.runs.run_of.Statement.{statement}
 use Rattle.alphabets.proofs.runs.run_of.Tie as tie
 
@@ -14,78 +14,32 @@ Inv-loop t floor s i k₀ k = Going t floor s i k
 abbrev μ-loop : tie.MeasureT-loop
 μ-loop t floor s i k₀ k = length s - k
 
--- behind each of the four bytes of a turn
-behind-1 : (c : tie.Else1 Inv-loop μ-loop) → let l = c .before .before .before .before in let a = l .before .before .args in Going (a .t .now) (a .floor) (a .s .now) (a .i) (l .loop .k + 1)
-behind-1 c = let m = c .before .before .before .loop-test .taken in going-on (c .before .before .before .before .loop .inv) (omega arith) _ (omega arith) (omega arith)
-
-behind-2 : (c : tie.Else2 Inv-loop μ-loop) → let l = c .before .before .before .before .before .before .before in let a = l .before .before .args in Going (a .t .now) (a .floor) (a .s .now) (a .i) (l .loop .k + 2)
-behind-2 c = let m = c .before .before .before .before .before .before .loop-test .taken in going-on (behind-1 (c .before .before .before)) (omega arith) _ (omega arith) (omega arith)
-
-behind-3 : (c : tie.Else3 Inv-loop μ-loop) → let l = c .before .before .before .before .before .before .before .before .before .before in let a = l .before .before .args in Going (a .t .now) (a .floor) (a .s .now) (a .i) (l .loop .k + 3)
-behind-3 c = let m = c .before .before .before .before .before .before .before .before .before .loop-test .taken in going-on (behind-2 (c .before .before .before)) (omega arith) _ (omega arith) (omega arith)
-
-behind-4 : (c : tie.Else4 Inv-loop μ-loop) → let l = c .before .before .before .before .before .before .before .before .before .before .before .before .before in let a = l .before .before .args in Going (a .t .now) (a .floor) (a .s .now) (a .i) (l .loop .k + 4)
-behind-4 c = let m = c .before .before .before .before .before .before .before .before .before .before .before .before .loop-test .taken in going-on (behind-3 (c .before .before .before)) (omega arith) _ (omega arith) (omega arith)
-
 loop-holds : tie.Need-loop-holds Inv-loop μ-loop
 loop-holds c = record { long = c .before .pre; is = refl }
 
-sub-loop : tie.Need-sub-loop Inv-loop μ-loop
-sub-loop c = omega arith
+add-loop : tie.Need-add-loop Inv-loop μ-loop
+add-loop c = omega arith
 
-shared-slice-read-value : tie.Need-shared-slice-read-value Inv-loop μ-loop
-shared-slice-read-value c = omega arith
+add-run-on : tie.Need-add-run-on Inv-loop μ-loop
+add-run-on c = omega arith
 
-value-requires : tie.Need-value-requires Inv-loop μ-loop
-value-requires c κs = search needs
+sub-run-on : tie.Need-sub-run-on Inv-loop μ-loop
+sub-run-on c = omega arith
 
-returns : tie.Need-returns Inv-loop μ-loop
-returns c = let w = c .before .before .before in going-stop (w .before .loop .inv) (omega (arith, w .loop-test .taken)) (omega arith)
+part-run-on-start : tie.Need-part-run-on-start Inv-loop μ-loop
+part-run-on-start c = omega arith
 
-add-value : tie.Need-add-value Inv-loop μ-loop
-add-value c = omega arith
+part-run-on-end : tie.Need-part-run-on-end Inv-loop μ-loop
+part-run-on-end c = omega arith
 
-shared-slice-read-value-2 : tie.Need-shared-slice-read-value-2 Inv-loop μ-loop
-shared-slice-read-value-2 c = omega arith
-
-value-requires-2 : tie.Need-value-requires-2 Inv-loop μ-loop
-value-requires-2 c κs = search needs
+run-on-requires : tie.Need-run-on-requires Inv-loop μ-loop
+run-on-requires c κs = search needs
 
 add-result : tie.Need-add-result Inv-loop μ-loop
-add-result c = omega arith
+add-result c = omega (arith, c .if1 .taken)
 
-returns-2 : tie.Need-returns-2 Inv-loop μ-loop
-returns-2 c = let m = c .before .before .before .before .before .before .loop-test .taken in going-stop (behind-1 (c .before .before .before)) (omega arith) (omega arith)
-
-add-value-2 : tie.Need-add-value-2 Inv-loop μ-loop
-add-value-2 c = omega arith
-
-shared-slice-read-value-3 : tie.Need-shared-slice-read-value-3 Inv-loop μ-loop
-shared-slice-read-value-3 c = omega arith
-
-value-requires-3 : tie.Need-value-requires-3 Inv-loop μ-loop
-value-requires-3 c κs = search needs
-
-add-result-2 : tie.Need-add-result-2 Inv-loop μ-loop
-add-result-2 c = omega arith
-
-returns-3 : tie.Need-returns-3 Inv-loop μ-loop
-returns-3 c = let m = c .before .before .before .before .before .before .before .before .before .loop-test .taken in going-stop (behind-2 (c .before .before .before)) (omega arith) (omega arith)
-
-add-value-3 : tie.Need-add-value-3 Inv-loop μ-loop
-add-value-3 c = omega arith
-
-shared-slice-read-value-4 : tie.Need-shared-slice-read-value-4 Inv-loop μ-loop
-shared-slice-read-value-4 c = omega arith
-
-value-requires-4 : tie.Need-value-requires-4 Inv-loop μ-loop
-value-requires-4 c κs = search needs
-
-add-result-3 : tie.Need-add-result-3 Inv-loop μ-loop
-add-result-3 c = omega arith
-
-returns-4 : tie.Need-returns-4 Inv-loop μ-loop
-returns-4 c = let m = c .before .before .before .before .before .before .before .before .before .before .before .before .loop-test .taken in going-stop (behind-3 (c .before .before .before)) (omega arith) (omega arith)
+returns : tie.Need-returns Inv-loop μ-loop
+returns c = going-part (c .before .before .before .before .loop .inv) 4 (c .before .run-on .ensures) (omega arith) (omega arith)
 
 add-k : tie.Need-add-k Inv-loop μ-loop
 add-k c = omega arith
@@ -94,13 +48,13 @@ loop-less : tie.Need-loop-less Inv-loop μ-loop
 loop-less c = omega arith
 
 loop-again : tie.Need-loop-again Inv-loop μ-loop
-loop-again c = behind-4 c
+loop-again c = going-by (c .before .before .before .before .loop .inv) 4 (c .before .run-on .ensures) (omega arith) (omega arith)
 
-run-on-requires : tie.Need-run-on-requires Inv-loop μ-loop
-run-on-requires c κs = search needs
+run-on-requires-2 : tie.Need-run-on-requires-2 Inv-loop μ-loop
+run-on-requires-2 c κs = search needs
 
-returns-5 : tie.Need-returns-5 Inv-loop μ-loop
-returns-5 c = c .run-on .ensures ∙ sym (c .before .before .loop .inv .is)
+returns-2 : tie.Need-returns-2 Inv-loop μ-loop
+returns-2 c = c .run-on2 .ensures ∙ sym (c .before .before .loop .inv .is)
 
 pub run-of-spec : {M : Type 1} → statement M
 run-of-spec =
@@ -109,27 +63,16 @@ run-of-spec =
     Inv-loop
     μ-loop
     loop-holds
-    sub-loop
-    shared-slice-read-value
-    value-requires
-    returns
-    add-value
-    shared-slice-read-value-2
-    value-requires-2
+    add-loop
+    add-run-on
+    sub-run-on
+    part-run-on-start
+    part-run-on-end
+    run-on-requires
     add-result
-    returns-2
-    add-value-2
-    shared-slice-read-value-3
-    value-requires-3
-    add-result-2
-    returns-3
-    add-value-3
-    shared-slice-read-value-4
-    value-requires-4
-    add-result-3
-    returns-4
+    returns
     add-k
     loop-less
     loop-again
-    run-on-requires
-    returns-5)
+    run-on-requires-2
+    returns-2)

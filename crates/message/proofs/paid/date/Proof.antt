@@ -1,11 +1,18 @@
 -- `message::paid::date` meets its contract. Assumes nothing.
-use Rattle.message.proofs.PartLaws.{day-refused, paid-inside, day-is}
+use mathlib.Core.Path.{sym, ap, ap₂, _∙_}
+use Rattle.base.specs.declared.Verdict.{Verdict}
+use Rattle.values.specs.Answers.{dateOf}
+use Rattle.message.specs.Calls.{paid, dayBy, dayOf}
+use Rattle.message.proofs.PartLaws.{inside-span, inside-is, paid-part}
 use borrow.Author.Needs.{needs}
 use Rattle.message.proofs.paid.date.Statement.{statement}
 use Rattle.message.proofs.paid.date.Tie as tie
 
-judge-requires : tie.Need-judge-requires
-judge-requires c κs = search needs
+paid-place-requires : tie.Need-paid-place-requires
+paid-place-requires c κs = search needs
+
+judged-part-requires : tie.Need-judged-part-requires
+judged-part-requires c κs = search needs
 
 enum-known-verdict : tie.Need-enum-known-verdict
 enum-known-verdict c = search needs
@@ -13,14 +20,8 @@ enum-known-verdict c = search needs
 enum-told : tie.Need-enum-told
 enum-told c = search needs
 
-paid-place-requires : tie.Need-paid-place-requires
-paid-place-requires c κs = search needs
-
-part-of-requires : tie.Need-part-of-requires
-part-of-requires c κs = search needs
-
 cut-requires : tie.Need-cut-requires
-cut-requires c κs = let a = (c .before .before .before .before .before .before .before .before .args) in paid-inside (a .form) (a .m .now) (c .before .before .before .before .before .before .judge .ensures) (c .before .before .before .enum-told .given .1) (c .before .paid-place .ensures) (c .part-of .ensures)
+cut-requires c κs = let j = c .before .before in let a = j .before .before .before .args in inside-is (a .m .now) (j .judged-part .ensures .1) (inside-span (a .form) (a .m .now) (j .before .paid-place .result))
 
 date-of-requires : tie.Need-date-of-requires
 date-of-requires c κs = search needs
@@ -29,20 +30,21 @@ split-day-requires : tie.Need-split-day-requires
 split-day-requires c κs = search needs
 
 returns : tie.Need-returns
-returns c = let a = (c .before .before .before .before .before .before .args) in day-refused (a .form) (a .m .now) (c .before .before .before .before .judge .ensures) (c .before .verdict .given .1)
+unfolding dayOf
+returns c = let j = c .before .before .before in let a = j .before .before .before .args in ap (λ (v : Verdict). dayBy v (dateOf (paid (a .form) (a .m .now)))) (sym (c .before .verdict .given .1) ∙ j .judged-part .ensures .0)
 
 returns-2 : tie.Need-returns-2
-returns-2 c = let a = (c .before .before .before .before .before .before .before .before .before .before .before .args) in day-is (a .form) (a .m .now) (c .before .before .before .before .before .before .before .before .before .judge .ensures) (c .before .before .before .before .before .before .enum-told .given .1) (c .before .before .before .before .paid-place .ensures) (c .before .before .before .part-of .ensures) (c .before .before .cut .ensures) (c .before .date-of .ensures) (c .split-day .ensures)
+unfolding dayOf
+returns-2 c = let t = c .before .before .before in let j = t .before .before in let a = j .before .before .before .args in c .split-day .ensures ∙ ap₂ dayBy (sym (t .enum-told .given .1) ∙ j .judged-part .ensures .0) (c .before .date-of .ensures ∙ ap dateOf (paid-part (a .form) (a .m .now) (c .before .before .cut .ensures) (j .judged-part .ensures .1) (j .before .paid-place .ensures)))
 
 pub date-spec : {M : Type 1} → statement M
 date-spec =
     tie.close
     (tie.spec
-    judge-requires
+    paid-place-requires
+    judged-part-requires
     enum-known-verdict
     enum-told
-    paid-place-requires
-    part-of-requires
     cut-requires
     date-of-requires
     split-day-requires
