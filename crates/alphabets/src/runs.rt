@@ -81,20 +81,20 @@ fn put_on(t: &[u8; 256], latin: bool, s: &[u8], i: usize, out: &mut [u8], n: usi
     k
 }
 
-// The Russian run, four bytes a turn.
+// The Russian run, eight bytes a turn.
 pub(crate) fn translate(t: &[u8; 256], s: &[u8], i: usize, out: &mut [u8], n: usize) -> usize
     requires { ⌜ (i ≤ length (now s)) × (n + length (through (now t) false (drop i (now s))) ≤ length (now out)) ⌝ }
     ensures { λ r. ⌜ (r ≡ i + run (now (t .entry)) 1 (drop i (now (s .entry)))) × (now (out .exit) ≡ sets (now (out .entry)) n (through (now (t .entry)) false (drop i (now (s .entry))))) ⌝ }
 {
     let mut k = i;
     let mut o = n;
-    while k + 4 <= s.len() {
-        let r = put_on(t, false, &s[k..k + 4], 0, out, o);
-        if r < 4 {
+    while k + 8 <= s.len() {
+        let r = put_on(t, false, &s[k..k + 8], 0, out, o);
+        if r < 8 {
             return k + r;
         }
-        o += 4;
-        k += 4;
+        o += 8;
+        k += 8;
     }
     put_on(t, false, s, k, out, o)
 }

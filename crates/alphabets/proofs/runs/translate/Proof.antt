@@ -36,19 +36,19 @@ part-put-on-end : tie.Need-part-put-on-end Inv-loop μ-loop
 part-put-on-end c = omega arith
 
 put-on-requires : tie.Need-put-on-requires Inv-loop μ-loop
-put-on-requires c κs = (omega arith, moving-room (c .before .before .before .loop .inv) 4)
+put-on-requires c κs = (omega arith, moving-room (c .before .before .before .loop .inv) 8)
 
 add-result : tie.Need-add-result Inv-loop μ-loop
 add-result c = omega (arith, c .if1 .taken)
 
 same-length : tie.Need-same-length Inv-loop μ-loop
-same-length c = moving-kept (c .before .before .before .before .before .before .before .loop .inv) 4 (c .before .before .before .put-on .ensures)
+same-length c = moving-kept (c .before .before .before .before .before .before .before .loop .inv) 8 (c .before .before .before .put-on .ensures)
 
 returns : tie.Need-returns Inv-loop μ-loop
-returns c = moving-part (c .before .before .before .before .before .before .before .loop .inv) 4 (c .before .before .before .put-on .ensures) (omega arith) (omega arith)
+returns c = moving-part (c .before .before .before .before .before .before .before .loop .inv) 8 (c .before .before .before .put-on .ensures) (omega arith) (omega arith)
 
 add-o : tie.Need-add-o Inv-loop μ-loop
-add-o c = let v = moving-by (c .before .before .before .before .before .before .before .loop .inv) 4 (c .before .before .before .put-on .ensures) (omega arith) (omega arith) .is in omega (arith, v .room)
+add-o c = let v = moving-by (c .before .before .before .before .before .before .before .loop .inv) 8 (c .before .before .before .put-on .ensures) (omega arith) (omega arith) .is in omega (arith, v .room)
 
 add-k : tie.Need-add-k Inv-loop μ-loop
 add-k c = omega arith
@@ -57,7 +57,7 @@ loop-less : tie.Need-loop-less Inv-loop μ-loop
 loop-less c = omega arith
 
 loop-again : tie.Need-loop-again Inv-loop μ-loop
-loop-again c = moving-by (c .before .before .before .before .before .before .before .loop .inv) 4 (c .before .before .before .put-on .ensures) (omega arith) (omega arith)
+loop-again c = moving-by (c .before .before .before .before .before .before .before .loop .inv) 8 (c .before .before .before .put-on .ensures) (omega arith) (omega arith)
 
 put-on-requires-2 : tie.Need-put-on-requires-2 Inv-loop μ-loop
 put-on-requires-2 c κs = (c .before .before .loop .inv .long, c .before .before .loop .inv .is .room)
