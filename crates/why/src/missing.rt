@@ -18,6 +18,11 @@ use types::forms::musts_of;
 use types::forms::tags_of;
 use types::steps::step_of;
 
+// A tag as one number: its bytes one behind the other, 0 for the third where it has two.
+const FIRST: u32 = 65536;
+
+const SECOND: u32 = 256;
+
 // The tag of the field whose colon stands at the front, as one number.
 fn front_tag(m: &[u8]) -> u32 {
     tag_number(up_to(b':', past(m, 1)))
@@ -54,9 +59,9 @@ fn is_must(musts: &[bool; PLACES], q: usize) -> bool {
 
 fn add_tag(tag: u32, out: &mut [u8], at: usize) -> usize {
     let bytes = [
-        (tag / 65536 % 256) as u8,
-        (tag / 256 % 256) as u8,
-        (tag % 256) as u8,
+        (tag / FIRST % SECOND) as u8,
+        (tag / SECOND % SECOND) as u8,
+        (tag % SECOND) as u8,
     ];
     if bytes[2] == 0 {
         return add(out, at, &bytes[..2]);
@@ -95,6 +100,7 @@ fn put_place(
     put_tags(russian, tags[q + q], tags[q + q + 1], out, at)
 }
 
+// The same of a place that is mandatory, and nothing of another.
 fn put_must(
     russian: bool,
     must: bool,

@@ -76,12 +76,22 @@ fn put_own(
     put_holder(russian, place, sheet, out, at)
 }
 
-// The message has more bytes than there was room for.
-fn put_length(russian: bool, number: u32, size: usize, out: &mut [u8], at: usize) -> usize {
-    if number == 17 {
-        return put_count(russian, LENGTH, size, out, at);
+// How long the message would be, where 1 was asked about and 17 says that there was not room enough.
+fn put_length(
+    russian: bool,
+    number: usize,
+    stop: u32,
+    size: usize,
+    out: &mut [u8],
+    at: usize,
+) -> usize {
+    if number != 1 {
+        return at;
     }
-    at
+    if stop != 17 {
+        return at;
+    }
+    put_count(russian, LENGTH, size, out, at)
 }
 
 // The message drafted, in as much room as a message may have.
@@ -89,7 +99,10 @@ fn put_built(russian: bool, number: usize, sheet: &[u8], out: &mut [u8], at: usi
     let mut m = [0u8; 10000];
     match draft(sheet, &mut m) {
         Outcome::Done(n) => put_own(russian, number, front(&m, n), sheet, out, at),
-        Outcome::Refused { number, place } => put_length(russian, number, place, out, at),
+        Outcome::Refused {
+            number: stop,
+            place,
+        } => put_length(russian, number, stop, place, out, at),
     }
 }
 

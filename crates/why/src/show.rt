@@ -13,12 +13,15 @@ use base::bytes::front;
 use base::bytes::past;
 use stored::up_to;
 
+// The one control byte above the space.
+const DELETE: u8 = 127;
+
 // A byte that goes to the screen as it is: no control byte but the tab of a sheet.
 fn is_shown(sheet: bool, b: u8) -> bool {
     if b == b'\t' {
         return sheet;
     }
-    if b == 127 {
+    if b == DELETE {
         return false;
     }
     b' ' <= b
