@@ -7,6 +7,7 @@ use Rattle.base.specs.Choice.{pick}
 use Rattle.base.specs.Bytes.{xset}
 use Rattle.base.specs.Calls.{Answer, said, stuck}
 use Rattle.alphabets.specs.Grid.{character}
+use Rattle.base.specs.Quoted.{ascii}
 
 -- one byte more in front that stands for nothing
 abbrev pub past : Answer → Answer
@@ -23,7 +24,7 @@ after (suc y) (stuck k) = stuck (suc k)
 unfoldable pub reads : Bool → List ℕ → Answer
 reads false [] = said []
 reads true [] = stuck 0
-reads s (x ∷ xs) = pick (eqb x 39) (past (reads (not s) xs)) (after (character s x) (reads s xs))
+reads s (x ∷ xs) = pick (eqb x (ascii "'")) (past (reads (not s) xs)) (after (character s x) (reads s xs))
 
 -- without the sign a text is its own bytes of the x set
 unfoldable pub plainly : List ℕ → Answer
@@ -42,7 +43,7 @@ onSide false n = n
 
 unfoldable pub inner : Bool → List ℕ → ℕ
 inner s [] = 0
-inner s (x ∷ xs) = pick (eqb x 39) (inner (not s) xs) (onSide s (inner s xs))
+inner s (x ∷ xs) = pick (eqb x (ascii "'")) (inner (not s) xs) (onSide s (inner s xs))
 
 -- of a whole text, which starts on the Russian side
 abbrev pub quoted : List ℕ → ℕ

@@ -6,6 +6,7 @@ use mathlib.Core.Bool.{Bool, true, false}
 use Rattle.base.specs.Calls.{Answer, said, stuck}
 use Rattle.alphabets.specs.Grid.{Kind, unwritable, russian, latin, common, kind, spell}
 use Rattle.alphabets.specs.Bank.{plainly}
+use Rattle.base.specs.Quoted.{ascii}
 
 -- the next character that is not shared is Latin
 abbrev pub latinFirst : Kind → Bool → Bool
@@ -30,8 +31,8 @@ sideFor common true n = n
 abbrev pub cross : Bool → Bool → List ℕ → List ℕ
 cross false false t = t
 cross true true t = t
-cross false true t = 39 ∷ t
-cross true false t = 39 ∷ t
+cross false true t = ascii "'" ∷ t
+cross true false t = ascii "'" ∷ t
 
 -- from a side
 unfoldable pub best : Bool → List ℕ → List ℕ

@@ -15,6 +15,7 @@ use Rattle.alphabets.specs.declared.pieces.Piece.{Piece}
 use Rattle.alphabets.specs.declared.pieces.Piece.the-variants.{Read, Stops}
 use Rattle.alphabets.specs.declared.parts.Extent.{Extent}
 use Rattle.alphabets.specs.declared.parts.Extent.the-variants.{Takes, Halts, Long}
+use Rattle.base.specs.Quoted.{ascii}
 
 -- how long a text is, or where it stops
 abbrev pub extentOf : Answer → Extent
@@ -50,7 +51,7 @@ unfoldable pub spoken : List ℕ → Bool → List ℕ → List ℕ
 spoken t s [] = []
 spoken t s (x ∷ xs) =
     pick (ltb (floorOf s) (getD t x 0)) (heardOf s (getD t x 0) x ∷ spoken t s xs)
-    (pick (eqb x 39) (spoken t (not s) xs) [])
+    (pick (eqb x (ascii "'")) (spoken t (not s) xs) [])
 
 -- what is put for a piece: none where it stops
 abbrev pub unlessStops : Piece → List ℕ → List ℕ

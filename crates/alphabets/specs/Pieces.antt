@@ -10,6 +10,7 @@ use Rattle.alphabets.specs.Runs.{floorOf, heardOf}
 use Rattle.alphabets.specs.declared.pieces.Piece.{Piece}
 use Rattle.alphabets.specs.declared.pieces.Piece.the-variants.{Read, Stops}
 use Rattle.alphabets.specs.declared.pieces.Character.{Character}
+use Rattle.base.specs.Quoted.{ascii}
 
 -- a piece behind i bytes with n characters
 abbrev pub pieceAfter : ℕ → ℕ → Piece → Piece
@@ -20,7 +21,7 @@ unfoldable pub pieceIn : List ℕ → Bool → List ℕ → Piece
 pieceIn t s [] = Read 0 s
 pieceIn t s (x ∷ xs) =
     pick (ltb (floorOf s) (getD t x 0)) (pieceAfter 1 1 (pieceIn t s xs))
-    (pick (eqb x 39) (pieceAfter 1 0 (pieceIn t (not s) xs)) (Stops 0))
+    (pick (eqb x (ascii "'")) (pieceAfter 1 0 (pieceIn t (not s) xs)) (Stops 0))
 
 -- a piece behind any piece of n bytes
 abbrev pub pieceOn : ℕ → Piece → (Bool → Piece) → Piece
@@ -41,7 +42,7 @@ unfoldable pub characterIn : List ℕ → Bool → List ℕ → Character
 characterIn t s [] = record { value = 0; next = 0; latin = s }
 characterIn t s (x ∷ xs) =
     pick (ltb (floorOf s) (getD t x 0)) (record { value = heardOf s (getD t x 0) x; next = 1; latin = s })
-    (pick (eqb x 39) (characterAfter 1 (characterIn t (not s) xs)) (record { value = 0; next = 0; latin = s }))
+    (pick (eqb x (ascii "'")) (characterAfter 1 (characterIn t (not s) xs)) (record { value = 0; next = 0; latin = s }))
 
 -- the same from place i on
 unfoldable pub characterFrom : List ℕ → Bool → List ℕ → ℕ → Character

@@ -14,6 +14,7 @@ use Rattle.base.specs.declared.Outcome.the-variants.{Done, Refused}
 use Rattle.alphabets.specs.Grid.{Kind, unwritable, russian, latin, common, kind, character}
 use Rattle.alphabets.specs.Bank.{reading, quoted}
 use Rattle.alphabets.specs.Text.{bankLimit, deskLimit}
+use Rattle.base.specs.Quoted.{ascii}
 
 -- s is true with the sign and false without it; d is a desk text, b and t are bank texts
 
@@ -56,11 +57,11 @@ Unreadable s b = (d : List ℕ) → reading s b ≡ said d → ⊥
 -- the side behind a text that starts on side z: each apostrophe changes it
 abbrev pub sideBehind : Bool → List ℕ → Bool
 sideBehind z [] = z
-sideBehind z (x ∷ xs) = sideBehind (pick (eqb x 39) (not z) z) xs
+sideBehind z (x ∷ xs) = sideBehind (pick (eqb x (ascii "'")) (not z) z) xs
 
 -- a byte has a reading on side z: it is an apostrophe, or it stands for something there
 abbrev pub heardOn : Bool → ℕ → Bool
-heardOn z x = eqb x 39 || not (eqb (character z x) 0)
+heardOn z x = eqb x (ascii "'") || not (eqb (character z x) 0)
 
 -- the byte at k has one on its side, in a text that starts on side z
 abbrev pub heardAt : Bool → List ℕ → ℕ → Bool

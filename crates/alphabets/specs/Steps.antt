@@ -12,10 +12,11 @@ use Rattle.alphabets.specs.Best.{latinNext, best, bad, orStuck}
 use Rattle.alphabets.specs.Parts.{extentOf}
 use Rattle.alphabets.specs.declared.parts.Extent.{Extent}
 use Rattle.alphabets.specs.declared.parts.Extent.the-variants.{Takes, Halts, Long}
+use Rattle.base.specs.Quoted.{ascii}
 
 -- ---- a bank text: 0 for the apostrophe and outside the x set, 1 for a letter that only the Latin side reads, else what the Russian side reads
 unfoldable pub backValue : ℕ → ℕ
-backValue y = pick (eqb y 39) 0 (pick (letter y && eqb (character false y) 0) 1 (character false y))
+backValue y = pick (eqb y (ascii "'")) 0 (pick (letter y && eqb (character false y) 0) 1 (character false y))
 
 unfoldable pub backTable : List ℕ
 backTable = values backValue 0 256

@@ -14,10 +14,11 @@ use Rattle.trips.specs.Again.{Crowded70}
 use Rattle.trips.specs.Back.{typeIn}
 use Rattle.answers.specs.Line.{refusalLine, NoLine}
 use Rattle.answers.specs.Programs.{SheetAnswered, messageIn, formFor}
+use Rattle.base.specs.Quoted.{ascii}
 
 -- the type that the sheet names, LF and a message
 abbrev pub inputOf : List ℕ → List ℕ → List ℕ
-inputOf s m = typeIn s ++ 10 ∷ m
+inputOf s m = typeIn s ++ ascii "\n" ∷ m
 
 -- with 10,000 bytes of room `tosheet` writes just t for the input i, and leaves the room behind it as it was
 abbrev pub WritesSheet : List ℕ → List ℕ → Type 0

@@ -5,7 +5,7 @@ use mathlib.Core.Path.{_≡_}
 use mathlib.Core.List.{List, [], _∷_, _++_}
 use lib.Dec.{ltb}
 use Rattle.base.specs.Choice.{pick}
-use Rattle.base.specs.Quoted.{bytes}
+use Rattle.base.specs.Quoted.{bytes, ascii}
 use Rattle.base.specs.Calls.{short, Gives}
 use Rattle.base.specs.declared.Verdict.{Verdict}
 use Rattle.base.specs.declared.Verdict.the-variants.{Fine, Broken}
@@ -14,14 +14,14 @@ use Rattle.base.specs.declared.Outcome.{Outcome}
 -- the last digits of n, at most k of them and no 0 in front
 unfoldable pub digitsIn : ℕ → ℕ → List ℕ
 digitsIn zero n = []
-digitsIn (suc k) n = pick (ltb n 10) [] (digitsIn k (n / 10)) ++ (48 + n % 10) ∷ []
+digitsIn (suc k) n = pick (ltb n 10) [] (digitsIn k (n / 10)) ++ (ascii "0" + n % 10) ∷ []
 
 -- all of them: n has no more than n + 1
 unfoldable pub decimal : ℕ → List ℕ
 decimal n = digitsIn (suc n) n
 
 unfoldable pub refusalLine : ℕ → ℕ → List ℕ
-refusalLine number place = bytes "refused" ++ 9 ∷ (decimal number ++ 9 ∷ (decimal place ++ 10 ∷ []))
+refusalLine number place = bytes "refused" ++ ascii "\t" ∷ (decimal number ++ ascii "\t" ∷ (decimal place ++ ascii "\n" ∷ []))
 
 -- a text that is no refusal's line
 abbrev pub NoLine : List ℕ → Type 0

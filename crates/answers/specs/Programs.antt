@@ -19,6 +19,7 @@ use Rattle.records.specs.Rule19.{typeNumber}
 use Rattle.writer.specs.Sheet.{sheetRules, messageFor, ownRule}
 use Rattle.sheets.specs.Gather.{sheetOf}
 use Rattle.answers.specs.Line.{shown, Shows}
+use Rattle.base.specs.Quoted.{ascii}
 
 -- the order of writing without 17: a program has room enough
 abbrev pub messageVerdict : List ℕ → Verdict
@@ -33,7 +34,7 @@ MessageAnswered s out r after = Shows (messageAnswer s) out r after
 
 -- `tosheet`: three digits and LF, then a message of that type
 unfoldable pub namesType : List ℕ → Bool
-namesType i = digit (byte i 0) && (digit (byte i 1) && (digit (byte i 2) && eqb (byte i 3) 10))
+namesType i = digit (byte i 0) && (digit (byte i 1) && (digit (byte i 2) && eqb (byte i 3) (ascii "\n")))
 
 abbrev pub messageIn : List ℕ → List ℕ
 messageIn i = drop 4 i

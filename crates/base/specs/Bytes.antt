@@ -5,6 +5,7 @@ use mathlib.Core.List.{List, [], _∷_}
 use lib.ListN.{getD}
 use lib.Dec.{eqb, leb}
 use Rattle.base.specs.Choice.{pick, all}
+use Rattle.base.specs.Quoted.{bytes, ascii}
 
 -- the byte at i, and 0 past the end
 abbrev pub byte : List ℕ → ℕ → ℕ
@@ -18,18 +19,18 @@ isIn x [] = false
 isIn x (y ∷ ys) = eqb x y || isIn x ys
 
 unfoldable pub digit : ℕ → Bool
-digit x = between 48 x 57
+digit x = between (ascii "0") x (ascii "9")
 
 unfoldable pub capital : ℕ → Bool
-capital x = between 65 x 90
+capital x = between (ascii "A") x (ascii "Z")
 
 -- A-Z a-z
 unfoldable pub letter : ℕ → Bool
-letter x = capital x || between 97 x 122
+letter x = capital x || between (ascii "a") x (ascii "z")
 
 -- space / - ? : ( ) . , +
 unfoldable pub marks : List ℕ
-marks = 32 ∷ 47 ∷ 45 ∷ 63 ∷ 58 ∷ 40 ∷ 41 ∷ 46 ∷ 44 ∷ 43 ∷ []
+marks = bytes " /-?:().,+"
 
 -- digits and marks: the characters that both alphabets share
 unfoldable pub shared : ℕ → Bool
@@ -37,7 +38,7 @@ shared x = digit x || isIn x marks
 
 -- SWIFT's x set: letters, digits, marks and the apostrophe
 unfoldable pub xset : ℕ → Bool
-xset x = letter x || (shared x || eqb x 39)
+xset x = letter x || (shared x || eqb x (ascii "'"))
 
 -- a table of classes: how many bytes at the front of a text have class 0
 unfoldable pub lead : List ℕ → List ℕ → ℕ

@@ -1,6 +1,6 @@
 -- A quoted text as bytes, so that examples can be read. Assumes nothing.
 use Prim.Native.Nat.{ℕ, _-_}
-use Prim.Native.Char.{code}
+use Prim.Native.Char.{Char, code}
 use Prim.Native.String.{String, [], _∷_}
 use mathlib.Core.Bool.{_&&_}
 use mathlib.Core.List as list
@@ -10,6 +10,10 @@ use Rattle.base.specs.Choice.{pick}
 abbrev pub bytes : String → list.List ℕ
 bytes [] = list.[]
 bytes (c ∷ s) = list._∷_ (code c) (bytes s)
+
+-- a character's byte
+abbrev pub ascii : Char → ℕ
+ascii c = code c
 
 -- a letter's byte in windows-1251: А to я stand in a row, Ё, ё and № elsewhere
 abbrev pub byteOf : ℕ → ℕ

@@ -7,7 +7,7 @@ use mathlib.Core.List.{List, [], _∷_, _++_}
 use lib.ListN.{length, take, drop}
 use Rattle.base.specs.Choice.{all}
 use Rattle.base.specs.Bytes.{byte, digit}
-use Rattle.base.specs.Quoted.{bytes}
+use Rattle.base.specs.Quoted.{bytes, ascii}
 use Rattle.contents.specs.Words.{Text, Line, Digits, Size, join, BeginsWith}
 use Rattle.contents.specs.Lines.{Reference, PartyByBik, PartyByAccount, TaxLine, Payment, RppLine, Way, codeOpening, codeClosing, Name}
 use Rattle.contents.specs.Fields.{Is, IsPurpose, IsPayment, IsOwnAccount, IsRpp, In72, RppAndDetails, IsParty, IsBic, BankByBic, BankByName, One, IsAccount, LooksTax, Then, Any, Names, Beside, Customer, Payer}
@@ -53,11 +53,11 @@ pub record InnBy (twelve : Bool) (size r : ℕ) : Type 0 where
 
 -- ---- what stands behind the number of an RPP line
 pub record RppBody (i : ℕ) (l : Line) : Type 0 where
-  pub point : byte l i ≡ 46
+  pub point : byte l i ≡ ascii "."
   pub day : Digits 6 (cut (1 + i) 6 l)
-  pub point2 : byte l (7 + i) ≡ 46
+  pub point2 : byte l (7 + i) ≡ ascii "."
   pub order : Digits 1 (cut (8 + i) 1 l)
-  pub point3 : byte l (9 + i) ≡ 46
+  pub point3 : byte l (9 + i) ≡ ascii "."
   pub kind : Way (cut (10 + i) 4 l)
 
 -- ---- lines with their parts, of these sizes

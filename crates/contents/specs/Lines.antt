@@ -6,7 +6,7 @@ use mathlib.Core.Bool.{Bool, true, false}
 use mathlib.Core.List.{[], _∷_, _++_}
 use lib.ListN.{length, take}
 use Rattle.base.specs.Bytes.{digit}
-use Rattle.base.specs.Quoted.{bytes}
+use Rattle.base.specs.Quoted.{bytes, ascii}
 use Rattle.base.specs.Says.{Not, _or_}
 use Rattle.contents.specs.Words.{Text, Line, Size, Run, Some, Digits, Capitals, CapitalsOrDigits, Perhaps, join, withMark, BeginsWith}
 
@@ -20,7 +20,7 @@ pub record Reference (l : Line) : Type 0 where
 
 -- C26T: S and 01 to 26 but not 15
 abbrev pub twoDigits : ℕ → Text
-twoDigits n = (48 + n / 10) ∷ (48 + n % 10) ∷ []
+twoDigits n = (ascii "0" + n / 10) ∷ (ascii "0" + n % 10) ∷ []
 
 pub record Purpose (n : ℕ) (l : Line) : Type 0 where
   pub least : 1 ≤ n

@@ -8,7 +8,7 @@ use lib.Dec.{eqb, leb}
 use lib.ListN.{length, take, drop, getD}
 use Rattle.base.specs.Choice.{pick, all}
 use Rattle.base.specs.Bytes.{byte, digit, capital, between, begins, empty, same}
-use Rattle.base.specs.Quoted.{bytes}
+use Rattle.base.specs.Quoted.{bytes, ascii}
 use Rattle.contents.specs.declared.Content.{Content}
 use Rattle.contents.specs.declared.Content.the-variants as holds
 use Rattle.contents.specs.Words.{Text, Line, capitalOrDigit}
@@ -60,11 +60,11 @@ hasPair c [] = false
 hasPair c (x ∷ s) = (eqb x c && begins c s) || hasPair c s
 
 unfoldable pub isReference : Line → Bool
-isReference l = sizes 1 16 l && (not (begins 47 l) && (not (ends 47 l) && (not (hasPair 47 l) && not (same l (bytes "+")))))
+isReference l = sizes 1 16 l && (not (begins (ascii "/") l) && (not (ends (ascii "/") l) && (not (hasPair (ascii "/") l) && not (same l (bytes "+")))))
 
 -- the number behind S
 abbrev pub numberIn : Line → ℕ
-numberIn l = (byte l 1 - 48) * 10 + (byte l 2 - 48)
+numberIn l = (byte l 1 - ascii "0") * 10 + (byte l 2 - ascii "0")
 
 unfoldable pub isPurpose : Line → Bool
 isPurpose l = between 1 (numberIn l) 26 && (not (eqb (numberIn l) 15) && same l (bytes "S" ++ twoDigits (numberIn l)))
@@ -108,7 +108,7 @@ unfoldable pub isBic : Line → Bool
 isBic l = bicTest (bicParts l)
 
 unfoldable pub isAccount : Line → Bool
-isAccount l = starts (bytes "/") l && (sizes 1 34 (drop 1 l) && not (begins 47 (drop 1 l)))
+isAccount l = starts (bytes "/") l && (sizes 1 34 (drop 1 l) && not (begins (ascii "/") (drop 1 l)))
 
 abbrev pub isInn : Bool → Text → Bool
 isInn true s = just digit 10 s || just digit 12 s
@@ -166,7 +166,7 @@ abbrev pub customer : Bool → List Line → Bool
 customer twelve ls = firstThen isAccount (beside twelve) ls
 
 abbrev pub payer : List Line → Bool
-payer ls = customer true ls || (not (firstThen (begins 47) any ls) && beside true ls)
+payer ls = customer true ls || (not (firstThen (begins (ascii "/")) any ls) && beside true ls)
 
 -- the mark, what opens the VO code, its digits, what closes it, the text on its line
 abbrev pub codeParts : Text → Bool → Line → List Text
@@ -208,4 +208,4 @@ right holds.Details sign ls = isDetails [] [] 35 35 4 sign ls
 right holds.Charges sign ls = one (λ l. same l (bytes "OUR")) ls
 right holds.Document sign ls = one isRpp ls
 right holds.DocumentAndDetails sign ls = in72 sign 6 ls || firstThen isRpp (in72 sign 5) ls
-right holds.Regulatory sign ls = firstThen (begins 47) any ls && several isName 3 ls
+right holds.Regulatory sign ls = firstThen (begins (ascii "/")) any ls && several isName 3 ls

@@ -5,7 +5,7 @@ use mathlib.Core.List.{List, [], _∷_, _++_, map}
 use lib.Dec.{leb}
 use lib.ListN.{length, drop, replicate}
 use Rattle.base.specs.Choice.{pick}
-use Rattle.base.specs.Quoted.{bytes}
+use Rattle.base.specs.Quoted.{bytes, ascii}
 use Rattle.base.specs.Calls.{placed}
 use Rattle.details.specs.Lines.{Division}
 use Rattle.details.specs.Breaking.{Fit, fits, unfit, opens, broken}
@@ -42,7 +42,7 @@ marked v (l ∷ ls) = (v .mark ++ l) ∷ map (λ (k : List ℕ). v .next ++ k) l
 -- the bytes of the lines in a field: each later one stands behind CR LF and its mark
 abbrev pub laterBytes : List ℕ → List (List ℕ) → List ℕ
 laterBytes next [] = []
-laterBytes next (l ∷ ls) = (13 ∷ 10 ∷ next) ++ (l ++ laterBytes next ls)
+laterBytes next (l ∷ ls) = (ascii "\r" ∷ ascii "\n" ∷ next) ++ (l ++ laterBytes next ls)
 
 abbrev pub laid : Layout → List (List ℕ) → List ℕ
 laid v [] = []

@@ -11,6 +11,7 @@ use Rattle.details.specs.declared.DetailsField.the-variants.{In70, In72,
 use Rattle.details.specs.declared.LayoutNumbers.{LayoutNumbers}
 use Rattle.details.specs.declared.Size.{Size}
 use Rattle.details.specs.declared.Size.the-variants.{Bytes, Unfit}
+use Rattle.base.specs.Quoted.{bytes}
 
 -- a layout's numbers; `next` counts CR LF too
 abbrev pub layoutNumbers : DetailsField → LayoutNumbers
@@ -27,7 +28,7 @@ pub record Small (s : LayoutNumbers) : Type 0 where
   pub few-next : s .next ≤ 1000
 
 abbrev pub barredBy : Bool → List ℕ
-barredBy true = 58 ∷ 45 ∷ []
+barredBy true = bytes ":-"
 barredBy false = []
 
 -- the last place behind low, up to high, before which a line may open; low if there is none

@@ -10,11 +10,12 @@ use Rattle.base.specs.Bytes.{byte, begins}
 use Rattle.fields.specs.Field.{Field, closing, withCrLf, linesOf, tagOf, upto}
 use Rattle.fields.specs.Places.{linesSize, nextOf}
 use Rattle.fields.specs.Shapes.{shapedTag, lineable}
+use Rattle.base.specs.Quoted.{ascii}
 
 -- the colons that open a field, in lines that stand from o on
 unfoldable pub colonsAt : ℕ → List (List ℕ) → List ℕ
 colonsAt o [] = []
-colonsAt o (l ∷ ls) = pick (begins 58 l) (o ∷ colonsAt (o + length l + 2) ls) (colonsAt (o + length l + 2) ls)
+colonsAt o (l ∷ ls) = pick (begins (ascii ":") l) (o ∷ colonsAt (o + length l + 2) ls) (colonsAt (o + length l + 2) ls)
 
 -- ---- any walk: a field's step is given the state, its colon and its tag, and what the rest comes to from a state on; the end, the state
 -- and the place behind the last line
@@ -26,22 +27,22 @@ module _ {S R : Type 0} (end : S → ℕ → R) (step : S → ℕ → List ℕ �
   -- over the lines, past those that open no field
   unfoldable pub byLines : S → ℕ → List (List ℕ) → R
   byLines s o [] = end s o
-  byLines s o (l ∷ ls) = pick (begins 58 l) (step s o (upto 58 (tail l)) (λ q. byLines q (o + length l + 2) ls)) (byLines s (o + length l + 2) ls)
+  byLines s o (l ∷ ls) = pick (begins (ascii ":") l) (step s o (upto (ascii ":") (tail l)) (λ q. byLines q (o + length l + 2) ls)) (byLines s (o + length l + 2) ls)
 
 -- ---- the bytes of a content: its lines, with CR LF between them
 abbrev pub joined : List (List ℕ) → List ℕ
 joined [] = []
 joined (l ∷ []) = l
-joined (l ∷ k ∷ ls) = l ++ 13 ∷ 10 ∷ joined (k ∷ ls)
+joined (l ∷ k ∷ ls) = l ++ ascii "\r" ∷ ascii "\n" ∷ joined (k ∷ ls)
 
 -- ---- the list by its colons
 -- the content starts behind the tag's second colon
 unfoldable pub startAt : List ℕ → ℕ → ℕ
-startAt m o = pick (eqb (byte m (o + 3)) 58) (o + 4) (o + 5)
+startAt m o = pick (eqb (byte m (o + 3)) (ascii ":")) (o + 4) (o + 5)
 
 -- the tag stands between two colons; as one number, where there are so many bytes
 unfoldable pub tagAt : List ℕ → ℕ → ℕ
-tagAt m o = pick (ltb (o + 3) (length m)) (byte m (o + 1) * 65536 + byte m (o + 2) * 256 + pick (eqb (byte m (o + 3)) 58) 0 (byte m (o + 3))) 0
+tagAt m o = pick (ltb (o + 3) (length m)) (byte m (o + 1) * 65536 + byte m (o + 2) * 256 + pick (eqb (byte m (o + 3)) (ascii ":")) 0 (byte m (o + 3))) 0
 
 abbrev pub firstOr : ℕ → List ℕ → ℕ
 firstOr e [] = e

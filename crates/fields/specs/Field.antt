@@ -6,6 +6,7 @@ use lib.Dec.{eqb}
 use lib.ListN.{length, take, drop}
 use Rattle.base.specs.Choice.{pick}
 use Rattle.base.specs.Bytes.{begins}
+use Rattle.base.specs.Quoted.{ascii, bytes}
 
 pub data Field : Type 0 where
   field : List ℕ → List (List ℕ) → Field
@@ -16,20 +17,20 @@ tagOf (field t ls) = t
 -- ---- from fields to bytes
 -- {4: CR LF, and -}
 abbrev pub opening : List ℕ
-opening = 123 ∷ 52 ∷ 58 ∷ 13 ∷ 10 ∷ []
+opening = bytes "{4:\r\n"
 
 abbrev pub closing : List ℕ
-closing = 45 ∷ 125 ∷ []
+closing = bytes "-}"
 
 -- lines that each end in CR LF
 abbrev pub withCrLf : List (List ℕ) → List ℕ
 withCrLf [] = []
-withCrLf (l ∷ ls) = l ++ 13 ∷ 10 ∷ withCrLf ls
+withCrLf (l ∷ ls) = l ++ ascii "\r" ∷ ascii "\n" ∷ withCrLf ls
 
 -- the lines of a field: its first begins with colon, tag, colon
 abbrev pub lined : Field → List (List ℕ)
 lined (field t []) = []
-lined (field t (l ∷ ls)) = (58 ∷ t ++ 58 ∷ l) ∷ ls
+lined (field t (l ∷ ls)) = (ascii ":" ∷ t ++ ascii ":" ∷ l) ∷ ls
 
 abbrev pub linesOf : List Field → List (List ℕ)
 linesOf [] = []
@@ -51,7 +52,7 @@ onto x (l ∷ ls) = (x ∷ l) ∷ ls
 unfoldable pub cutLines : Bool → List ℕ → List (List ℕ)
 cutLines lf [] = []
 cutLines true (x ∷ xs) = cutLines false xs
-cutLines false (x ∷ xs) = pick (eqb x 13) ([] ∷ cutLines true xs) (onto x (cutLines false xs))
+cutLines false (x ∷ xs) = pick (eqb x (ascii "\r")) ([] ∷ cutLines true xs) (onto x (cutLines false xs))
 
 abbrev pub lines : List ℕ → List (List ℕ)
 lines b = cutLines false b
@@ -74,7 +75,7 @@ opened (group w fs) = fs
 
 -- a line that begins with a colon opens a field
 abbrev pub add : List ℕ → Group → Group
-add l (group w fs) = pick (begins 58 l) (group [] (field (upto 58 (tail l)) (past 58 (tail l) ∷ w) ∷ fs)) (group (l ∷ w) fs)
+add l (group w fs) = pick (begins (ascii ":") l) (group [] (field (upto (ascii ":") (tail l)) (past (ascii ":") (tail l) ∷ w) ∷ fs)) (group (l ∷ w) fs)
 
 unfoldable pub grouped : List (List ℕ) → Group
 grouped [] = group [] []

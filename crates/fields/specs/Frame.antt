@@ -10,6 +10,7 @@ use Rattle.base.specs.Calls.{long}
 use Rattle.base.specs.declared.Verdict.{Verdict}
 use Rattle.base.specs.declared.Verdict.the-variants.{Fine, Broken}
 use Rattle.fields.specs.Field.{opening, closing, body, lines}
+use Rattle.base.specs.Quoted.{ascii}
 
 -- the bytes that a message, and a sheet, may have: no place of a message's refusal is greater
 abbrev pub limit : ℕ
@@ -20,7 +21,7 @@ rule1 m = long limit m
 
 -- {4: CR LF at the start and CR LF -} at the end, where the two CR LF may be one
 unfoldable pub framed : List ℕ → Bool
-framed m = same (take 5 m) opening && same (drop (length m - 4) m) (13 ∷ 10 ∷ closing)
+framed m = same (take 5 m) opening && same (drop (length m - 4) m) (ascii "\r" ∷ ascii "\n" ∷ closing)
 
 unfoldable pub rule2 : List ℕ → Verdict
 rule2 m = pick (framed m) Fine (Broken 2 0)
@@ -30,18 +31,18 @@ unfoldable pub scan : Bool → ℕ → List ℕ → Verdict
 scan lf o [] = Fine
 scan true o (x ∷ xs) = scan false (suc o) xs
 scan false o (x ∷ xs) =
-    pick (eqb x 13) (pick (begins 10 xs) (scan true (suc o) xs) (Broken 3 o)) (pick (xset x) (scan false (suc o) xs) (Broken 3 o))
+    pick (eqb x (ascii "\r")) (pick (begins (ascii "\n") xs) (scan true (suc o) xs) (Broken 3 o)) (pick (xset x) (scan false (suc o) xs) (Broken 3 o))
 
 unfoldable pub rule3 : List ℕ → Verdict
 rule3 m = scan false 5 (body m)
 
 -- colon, two digits, at most one capital, colon
 unfoldable pub tagged : List ℕ → Bool
-tagged l = eqb (byte l 0) 58 && (digit (byte l 1) && (digit (byte l 2) && (eqb (byte l 3) 58 || (capital (byte l 3) && eqb (byte l 4) 58))))
+tagged l = eqb (byte l 0) (ascii ":") && (digit (byte l 1) && (digit (byte l 2) && (eqb (byte l 3) (ascii ":") || (capital (byte l 3) && eqb (byte l 4) (ascii ":")))))
 
 -- no line is empty or begins with -, one that begins with : has a tag, and the first begins with :
 unfoldable pub lineBad : Bool → List ℕ → Bool
-lineBad isFirst l = empty l || (begins 45 l || pick (begins 58 l) (not (tagged l)) isFirst)
+lineBad isFirst l = empty l || (begins (ascii "-") l || pick (begins (ascii ":") l) (not (tagged l)) isFirst)
 
 -- the first bad line, by its first byte; the lines from o on
 unfoldable pub badLine : Bool → ℕ → List (List ℕ) → Verdict

@@ -10,13 +10,14 @@ use Rattle.fields.specs.Field.{Field, opening, closing, linesOf, message
 use Rattle.fields.specs.Frame.{lineBad}
 use Rattle.fields.specs.Places.{linesSize}
 use Rattle.fields.specs.Shapes.{proper}
+use Rattle.base.specs.Quoted.{ascii}
 
 -- ---- 2: {4: CR LF stands at the start, and CR LF -} at the end
 pub record Framed (m : List ℕ) : Type 0 where
   pub rest : List ℕ
   pub starts : m ≡ opening ++ rest
   pub front : List ℕ
-  pub ends : m ≡ front ++ 13 ∷ 10 ∷ closing
+  pub ends : m ≡ front ++ ascii "\r" ∷ ascii "\n" ∷ closing
 
 -- ---- 2, 3 and 4 together: the message is {4: CR LF, the lines of these fields, and -}; a line's bytes are of the set
 pub record Written (m : List ℕ) : Type 0 where
@@ -29,12 +30,12 @@ pub record Written (m : List ℕ) : Type 0 where
 -- the byte before k is a CR; at 0 there is none
 abbrev pub behindCr : List ℕ → ℕ → Bool
 behindCr b zero = false
-behindCr b (suc k) = eqb (byte b k) 13
+behindCr b (suc k) = eqb (byte b k) (ascii "\r")
 
 -- a CR whose next byte is no LF, an LF whose byte before is no CR, any other byte outside the set
 unfoldable pub byteBad : List ℕ → ℕ → Bool
 byteBad b k =
-    pick (eqb (byte b k) 13) (not (eqb (byte b (suc k)) 10)) (pick (eqb (byte b k) 10) (not (behindCr b k)) (not (xset (byte b k))))
+    pick (eqb (byte b k) (ascii "\r")) (not (eqb (byte b (suc k)) (ascii "\n"))) (pick (eqb (byte b k) (ascii "\n")) (not (behindCr b k)) (not (xset (byte b k))))
 
 -- the test holds at no place below n
 abbrev pub Nowhere : (ℕ → Bool) → ℕ → Type 0

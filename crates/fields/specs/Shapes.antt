@@ -8,12 +8,13 @@ use Rattle.base.specs.Choice.{pick, all}
 use Rattle.base.specs.Bytes.{byte, digit, capital, begins, empty, without}
 use Rattle.fields.specs.Field.{Field, field, tagOf, upto}
 use Rattle.fields.specs.Frame.{tagged}
+use Rattle.base.specs.Quoted.{ascii}
 
 -- ---- bytes
 -- nothing, or a text whose last byte is LF
 abbrev pub ended : List ℕ → Bool
 ended [] = true
-ended (x ∷ []) = eqb x 10
+ended (x ∷ []) = eqb x (ascii "\n")
 ended (x ∷ y ∷ r) = ended (y ∷ r)
 
 -- ---- tags
@@ -38,26 +39,26 @@ unpack n = (n / 65536) ∷ (n / 256 % 256) ∷ pick (eqb (n % 256) 0) [] (n % 25
 
 -- the tag at the front of a line as one number, 0 where there is none
 unfoldable pub packed : List ℕ → ℕ
-packed l = pick (tagged l) (pack (upto 58 (tail l))) 0
+packed l = pick (tagged l) (pack (upto (ascii ":") (tail l))) 0
 
 -- ---- lines
 -- bad by its first byte: none, a -, or in the first line no colon
 unfoldable pub badStart : Bool → List ℕ → Bool
-badStart isFirst l = empty l || (begins 45 l || (not (begins 58 l) && isFirst))
+badStart isFirst l = empty l || (begins (ascii "-") l || (not (begins (ascii ":") l) && isFirst))
 
 -- ---- fields
 -- a line that opens no field
 abbrev pub follows : List ℕ → Bool
-follows l = not (begins 58 l)
+follows l = not (begins (ascii ":") l)
 
 -- there is a content, no colon in the tag, no CR, and no later line opens a field
 abbrev pub lineable : Field → Bool
 lineable (field t []) = false
-lineable (field t (l ∷ ls)) = without 58 t && (without 13 t && (all (without 13) (l ∷ ls) && all follows ls))
+lineable (field t (l ∷ ls)) = without (ascii ":") t && (without (ascii "\r") t && (all (without (ascii "\r")) (l ∷ ls) && all follows ls))
 
 -- a line that goes on in a field as 4 wants it
 abbrev pub goesOn : List ℕ → Bool
-goesOn l = not (empty l) && (not (begins 45 l) && follows l)
+goesOn l = not (empty l) && (not (begins (ascii "-") l) && follows l)
 
 -- a field that 4 lets pass: a content, a tag of the right shape, and lines that go on
 abbrev pub proper : Field → Bool

@@ -13,6 +13,7 @@ use Rattle.base.specs.declared.Verdict.the-variants.{Broken}
 use Rattle.fields.specs.Field.{lines}
 use Rattle.fields.specs.Frame.{scan, badLine}
 use Rattle.fields.specs.Shapes.{ended}
+use Rattle.base.specs.Quoted.{ascii}
 
 -- the bytes from a place up to the -
 abbrev pub bodyFrom : List ℕ → ℕ → List ℕ
@@ -25,7 +26,7 @@ pub record Tail (m : List ℕ) (at : ℕ) : Type 0 where
 
 -- a line from a place on: bytes of the set, its CR LF, and what is left
 pub record LineAt (m : List ℕ) (at end : ℕ) (l : List ℕ) : Type 0 where
-  pub is : bodyFrom m at ≡ l ++ 13 ∷ 10 ∷ bodyFrom m (end + 2)
+  pub is : bodyFrom m at ≡ l ++ ascii "\r" ∷ ascii "\n" ∷ bodyFrom m (end + 2)
   pub size : end ≡ at + length l
   pub inside : all xset l ≡ true
   pub behind : Tail m (end + 2)
@@ -33,8 +34,8 @@ pub record LineAt (m : List ℕ) (at end : ℕ) (l : List ℕ) : Type 0 where
 -- where the bytes of the set stop: a line ends there, or 3 is broken there
 pub record Stop (m : List ℕ) (at end : ℕ) : Type 0 where
   pub short : end < length m - 2
-  pub line : (eqb (byte m end) 13 && eqb (byte m (end + 1)) 10) ≡ true → LineAt m at end (take (end - at) (drop at m))
-  pub broken : (eqb (byte m end) 13 && eqb (byte m (end + 1)) 10) ≡ false → scan false at (bodyFrom m at) ≡ Broken 3 end
+  pub line : (eqb (byte m end) (ascii "\r") && eqb (byte m (end + 1)) (ascii "\n")) ≡ true → LineAt m at end (take (end - at) (drop at m))
+  pub broken : (eqb (byte m end) (ascii "\r") && eqb (byte m (end + 1)) (ascii "\n")) ≡ false → scan false at (bodyFrom m at) ≡ Broken 3 end
 
 -- a refusal that waits for 3, and one that waits for 3 and 4, in lines from a place on
 unfoldable pub after3 : List ℕ → ℕ → Verdict → Verdict

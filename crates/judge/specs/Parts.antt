@@ -14,6 +14,7 @@ use Rattle.fields.specs.Shapes.{unpack}
 use Rattle.fields.specs.ByLines.{joined, Standing}
 use Rattle.types.specs.Tables.{most}
 use Rattle.judge.specs.declared.parts.Part.{Part}
+use Rattle.base.specs.Quoted.{ascii}
 
 -- the spots are those of the fields: from each on stand the fields that are left
 pub record Settled (m spots : List ℕ) : Type 0 where
@@ -33,7 +34,7 @@ pub record Here (m spots : List ℕ) (k : ℕ) (p : Part) : Type 0 where
   pub tag-is : unpack (p .tag) ≡ tag
   pub start-is : p .start ≡ startOf (p .colon) (field tag (line ∷ more))
   pub content-is : take (p .end - p .start) (drop (p .start) m) ≡ joined (line ∷ more)
-  pub no-cr : all (without 13) (line ∷ more) ≡ true
-  pub sign-is : eqb (byte m (p .start)) 43 ≡ begins 43 line
+  pub no-cr : all (without (ascii "\r")) (line ∷ more) ≡ true
+  pub sign-is : eqb (byte m (p .start)) (ascii "+") ≡ begins (ascii "+") line
   pub low : p .start ≤ p .end
   pub high : p .end + 2 ≤ length m

@@ -6,6 +6,7 @@ use lib.Dec.{eqb}
 use Rattle.base.specs.Choice.{pick, all}
 use Rattle.base.specs.Bytes.{without}
 use Rattle.fields.specs.Field.{Field, field, onto}
+use Rattle.base.specs.Quoted.{ascii}
 
 abbrev pub Record : Type 0
 Record = Field
@@ -14,7 +15,7 @@ Record = Field
 -- each part behind a tab
 abbrev pub tabbed : List (List ℕ) → List ℕ
 tabbed [] = []
-tabbed (p ∷ ps) = 9 ∷ (p ++ tabbed ps)
+tabbed (p ∷ ps) = ascii "\t" ∷ (p ++ tabbed ps)
 
 abbrev pub line : Record → List ℕ
 line (field t ps) = t ++ tabbed ps
@@ -22,7 +23,7 @@ line (field t ps) = t ++ tabbed ps
 -- each record ended by LF
 abbrev pub sheet : List Record → List ℕ
 sheet [] = []
-sheet (r ∷ rs) = line r ++ 10 ∷ sheet rs
+sheet (r ∷ rs) = line r ++ ascii "\n" ∷ sheet rs
 
 -- ---- from bytes to records
 -- what stands before, between and behind the bytes c: one piece at least
@@ -47,22 +48,22 @@ parted [] = field [] []
 parted (t ∷ ps) = field t ps
 
 unfoldable pub recordOf : List ℕ → Record
-recordOf l = parted (pieces 9 l)
+recordOf l = parted (pieces (ascii "\t") l)
 
 -- the records that an LF ends, and what stands behind the last LF
 unfoldable pub records : List ℕ → List Record
-records s = map recordOf (front (pieces 10 s))
+records s = map recordOf (front (pieces (ascii "\n") s))
 
 unfoldable pub rest : List ℕ → List ℕ
-rest s = final (pieces 10 s)
+rest s = final (pieces (ascii "\n") s)
 
 -- every record, the last one too where no LF ends it
 unfoldable pub begun : List ℕ → List Record
-begun s = map recordOf (pieces 10 s)
+begun s = map recordOf (pieces (ascii "\n") s)
 
 -- ---- records that are read again as they were written: no tab and no LF in a tag or a part
 abbrev pub plainText : List ℕ → Bool
-plainText p = without 9 p && without 10 p
+plainText p = without (ascii "\t") p && without (ascii "\n") p
 
 abbrev pub writable : Record → Bool
 writable (field t ps) = plainText t && all plainText ps

@@ -4,7 +4,7 @@ use mathlib.Core.Bool.{Bool, false, not, _&&_}
 use mathlib.Core.List.{List, [], _∷_}
 use Rattle.base.specs.Choice.{pick, all}
 use Rattle.base.specs.Bytes.{byte, digit, begins, empty, same}
-use Rattle.base.specs.Quoted.{bytes}
+use Rattle.base.specs.Quoted.{bytes, ascii}
 use Rattle.base.specs.Rules.{first}
 use Rattle.base.specs.declared.Verdict.{Verdict}
 use Rattle.base.specs.declared.Verdict.the-variants.{Fine, Broken}
@@ -53,7 +53,7 @@ rppAndDetailed (r ∷ ps) = detailed ps
 -- S6: the part in the tax place, empty where there is none
 abbrev pub taxPart : Shape → List (List ℕ) → List ℕ
 taxPart Payer [] = []
-taxPart Payer (p ∷ ps) = pick (begins 47 p) (firstLine ps) p
+taxPart Payer (p ∷ ps) = pick (begins (ascii "/") p) (firstLine ps) p
 taxPart Payee [] = []
 taxPart Payee (p ∷ ps) = firstLine ps
 taxPart Plain ps = []
@@ -92,7 +92,7 @@ typed (field t ps) = same t (bytes "MT") && isTypePart ps
 
 -- the form of the type that the first record names, if it names one
 abbrev pub typeNumber : List ℕ → ℕ
-typeNumber p = (byte p 0 - 48) * 100 + (byte p 1 - 48) * 10 + (byte p 2 - 48)
+typeNumber p = (byte p 0 - ascii "0") * 100 + (byte p 1 - ascii "0") * 10 + (byte p 2 - ascii "0")
 
 abbrev pub formIn : Record → Form
 formIn (field t ps) = pick (typed (field t ps)) (formOf (typeNumber (firstLine ps))) Other

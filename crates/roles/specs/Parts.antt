@@ -11,6 +11,7 @@ use Rattle.roles.specs.declared.Shape.{Shape}
 use Rattle.roles.specs.declared.Shape.the-variants.{Plain, Payer, Payee, Agent, Details, Note103, Note202}
 use Rattle.roles.specs.declared.Role.{Role}
 use Rattle.roles.specs.declared.Role.the-variants.{Copies, OfPayer, OfPayee, OfAgent, Taxed, Names}
+use Rattle.base.specs.Quoted.{ascii}
 
 -- parts from one on, cast
 abbrev pub castBy : Role → List (List ℕ) → List Part
@@ -24,8 +25,8 @@ castBy Names ps = map name ps
 -- the first part is a name
 abbrev pub isNameBy : Role → List ℕ → Bool
 isNameBy Copies p = false
-isNameBy OfPayer p = not (begins 47 p) && not (looksTax p)
-isNameBy OfPayee p = not (begins 47 p)
+isNameBy OfPayer p = not (begins (ascii "/") p) && not (looksTax p)
+isNameBy OfPayee p = not (begins (ascii "/") p)
 isNameBy OfAgent p = false
 isNameBy Taxed p = not (looksTax p)
 isNameBy Names p = true
@@ -33,7 +34,7 @@ isNameBy Names p = true
 -- what the parts behind it are
 abbrev pub nextRole : Role → List ℕ → Role
 nextRole Copies p = Copies
-nextRole OfPayer p = pick (begins 47 p) Taxed Names
+nextRole OfPayer p = pick (begins (ascii "/") p) Taxed Names
 nextRole OfPayee p = Taxed
 nextRole OfAgent p = Names
 nextRole Taxed p = Names

@@ -11,6 +11,7 @@ use Rattle.contents.specs.Tags.{heldBy}
 use Rattle.contents.specs.Tests.{looksTax}
 use Rattle.roles.specs.declared.Shape.{Shape}
 use Rattle.roles.specs.declared.Shape.the-variants.{Plain, Payer, Payee, Agent, Details, Note103, Note202}
+use Rattle.base.specs.Quoted.{ascii}
 
 -- ---- what a field's lines are, by what it holds
 abbrev pub shapeFor : Content → Shape
@@ -55,9 +56,9 @@ taxed (p ∷ ps) = pick (looksTax p) (copy p) (taxName p) ∷ map name ps
 unfoldable pub cast : Shape → List (List ℕ) → List Part
 cast Plain ps = map copy ps
 cast Payer [] = []
-cast Payer (p ∷ ps) = pick (begins 47 p) (copy p ∷ taxed ps) (taxed (p ∷ ps))
+cast Payer (p ∷ ps) = pick (begins (ascii "/") p) (copy p ∷ taxed ps) (taxed (p ∷ ps))
 cast Payee [] = []
-cast Payee (p ∷ ps) = pick (begins 47 p) (copy p) (name p) ∷ taxed ps
+cast Payee (p ∷ ps) = pick (begins (ascii "/") p) (copy p) (name p) ∷ taxed ps
 cast Agent [] = []
 cast Agent (p ∷ ps) = copy p ∷ map name ps
 cast Details ps = map copy ps

@@ -15,6 +15,7 @@ use Rattle.types.specs.Sign.{signOf}
 use Rattle.contents.specs.Tests.{wordAndDigit, looksTax}
 use Rattle.roles.specs.Role.{shapeOf}
 use Rattle.roles.specs.Speech.{Manner, asName, asTaxName, asDetails, Speech, speech, speeches}
+use Rattle.base.specs.Quoted.{ascii, bytes}
 
 -- ---- the clauses: b a text, d its reading
 -- N14a: no reading, or an empty one
@@ -24,7 +25,7 @@ mute (stuck k) = true
 
 -- N14b: the text begins with an apostrophe, and its reading with / : or -
 unfoldable pub hidden : List ℕ → List ℕ → Bool
-hidden b d = begins 39 b && isIn (byte d 0) (47 ∷ 58 ∷ 45 ∷ [])
+hidden b d = begins (ascii "'") b && isIn (byte d 0) (bytes "/:-")
 
 -- N14c: the reading begins with INN, or with the same in Cyrillic, and a digit
 unfoldable pub isCyrillicInn : List ℕ → Bool

@@ -30,6 +30,7 @@ use Rattle.judge.specs.Message.{verdictOf}
 use Rattle.judge.specs.Parts.{Settled}
 use Rattle.records.specs.Record.{Record, line, sheet}
 use Rattle.sheets.specs.Gather.{codeDigits}
+use Rattle.base.specs.Quoted.{ascii}
 
 -- ---- a text or a piece of one, from a side on: its bytes, or with the table what they stand for
 abbrev pub saidBy : List ℕ → Bool → Bool → List ℕ → List ℕ
@@ -79,7 +80,7 @@ contentBy t s Note202 ls = noteBy t s ls
 
 -- ---- a field as a part of the message: colon, tag, colon, content
 unfoldable pub tagEnd : List ℕ → ℕ
-tagEnd f = pick (eqb (byte f 3) 58) 3 4
+tagEnd f = pick (eqb (byte f 3) (ascii ":")) 3 4
 
 abbrev pub fieldIn : List ℕ → Field
 fieldIn f = field (take (tagEnd f - 1) (drop 1 f)) (linesIn (drop (tagEnd f + 1) f))
@@ -95,7 +96,7 @@ abbrev pub recordBy : List ℕ → Form → Bool → Field → Record
 recordBy t form s (field g ls) = field g (contentBy t s (shapeOf form g) ls)
 
 abbrev pub recordLine : List ℕ → Form → Bool → Field → List ℕ
-recordLine t form s f = line (recordBy t form s f) ++ 10 ∷ []
+recordLine t form s f = line (recordBy t form s f) ++ ascii "\n" ∷ []
 
 abbrev pub sheetBy : List ℕ → Form → Bool → List Field → List ℕ
 sheetBy t form s fs = sheet (map (recordBy t form s) fs)

@@ -5,6 +5,7 @@ use lib.Dec.{ltb}
 use lib.ListN.{take, drop}
 use Rattle.base.specs.Choice.{pick}
 use Rattle.base.specs.Bytes.{digit, countUpTo, empty}
+use Rattle.base.specs.Quoted.{ascii}
 
 -- the text before the first mark
 unfoldable pub before : ℕ → List ℕ → List ℕ
@@ -20,7 +21,7 @@ wordOf mark k s = before mark (restOf mark k s)
 
 -- 10 for a byte that is no digit
 unfoldable pub digitOf : ℕ → ℕ
-digitOf x = pick (digit x) (x - 48) 10
+digitOf x = pick (digit x) (x - ascii "0") 10
 
 -- what stands for a text that is no number
 abbrev pub none : ℕ

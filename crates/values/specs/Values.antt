@@ -14,6 +14,7 @@ use Rattle.contents.specs.Words.{Text, Line}
 use Rattle.contents.specs.Tests.{isPartyByBik, looksTax}
 use Rattle.contents.specs.Parts.{paidDate, paidCurrency, currencyAt, partyBik, partyAccount, taxInn, taxKpp, opensRpp, rppDate, rppDateAt, rppValue, rppValueAt}
 use Rattle.contents.specs.Tags.{heldBy}
+use Rattle.base.specs.Quoted.{ascii}
 
 pub data ValueKind : Type 0 where
   -- a field, by its tag: it stands at its colon
@@ -81,7 +82,7 @@ customerTaxes t (l ∷ ls) = taxes t (linesSize (l ∷ [])) ls
 -- 50K: there is an account exactly if the first line begins with /
 unfoldable pub payerTaxes : Text → List Line → List Value
 payerTaxes t [] = []
-payerTaxes t (l ∷ ls) = pick (begins 47 l) (customerTaxes t (l ∷ ls)) (taxes t 0 (l ∷ ls))
+payerTaxes t (l ∷ ls) = pick (begins (ascii "/") l) (customerTaxes t (l ∷ ls)) (taxes t 0 (l ∷ ls))
 
 -- 72 in 202: where there is an RPP line, it comes first
 abbrev pub noteDates : Line → List Value

@@ -25,6 +25,7 @@ use Rattle.writer.specs.declared.Build.{Build}
 use Rattle.writer.specs.declared.Build.the-variants.{Stopped, Whole}
 use Rattle.writer.specs.declared.Step.{Step}
 use Rattle.writer.specs.declared.Step.the-variants.{Stuck, Unfit, Put}
+use Rattle.base.specs.Quoted.{ascii}
 
 -- ---- a step: t is put into the room from `at` on, as far as it is there, unless a rule stops it or details are crowded
 abbrev pub came : Verdict → Bool → ℕ → Step
@@ -58,7 +59,7 @@ recordCrowded form s (field t ps) = crowded s (shapeOf form t) ps
 
 -- the records from a place on
 abbrev pub recordsAt : List ℕ → ℕ → List Record
-recordsAt s i = map recordOf (front (piecesAt 10 s i))
+recordsAt s i = map recordOf (front (piecesAt (ascii "\n") s i))
 
 -- ---- the sheet built: a refusal of the sheet; or its type, its sign and the size of its message, which then stands in room that has as much
 abbrev pub builtBy : Verdict → Form → Bool → ℕ → Build
