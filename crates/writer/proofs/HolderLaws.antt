@@ -25,7 +25,7 @@ use Rattle.records.specs.Rule19.{sheetForm, sheetSign, verdict19And18}
 use Rattle.records.proofs.PlaceLaws.{next-at, front-at, front-end}
 use Rattle.writer.specs.Spread.{fieldFor}
 use Rattle.writer.specs.Sheet.{rule15, someCrowded, sheetRules}
-use Rattle.writer.specs.Holder.{between, holderIn, behindFirst, unlessRefused, holderOf}
+use Rattle.writer.specs.Holder.{liesIn, holderIn, behindFirst, unlessRefused, holderOf}
 use Rattle.writer.specs.declared.holder.Holder.the-variants as holder
 use Rattle.writer.specs.declared.Step.{Step}
 use Rattle.writer.specs.declared.Step.the-variants.{Put}
@@ -82,17 +82,17 @@ module _ (form : Form) (g : Bool) (s : List ℕ) (i e : ℕ) (h : i ≤ length s
           let z = came-put (recordStops form g this) (recordCrowded form g this) (o + length (withCrLf (lined (fieldFor form g this)))) m (sym k ∙ a .answers) .2 in
           omega (arith, z, crlf-size (lined (fieldFor form g this)))
 
-      by-test : (p : ℕ) (c : Bool) → between p o m ≡ c → holderIn form g p o i (recordsAt s i) ≡ pick c (holder.Record i) (holderIn form g p m (e + 1) behind)
+      by-test : (p : ℕ) (c : Bool) → liesIn p o m ≡ c → holderIn form g p o i (recordsAt s i) ≡ pick c (holder.Record i) (holderIn form g p m (e + 1) behind)
       unfolding holderIn
       by-test p c t =
           ap (holderIn form g p o i) list
-          ∙ ap₂ (λ (x y : ℕ). pick (between p o x) (holder.Record i) (holderIn form g p x y behind)) (sym next-is) (next-at s i e h q)
+          ∙ ap₂ (λ (x y : ℕ). pick (liesIn p o x) (holder.Record i) (holderIn form g p x y behind)) (sym next-is) (next-at s i e h q)
           ∙ ap (λ (x : Bool). pick x (holder.Record i) (holderIn form g p m (e + 1) behind)) t
 
-      pub holder-hit : (p : ℕ) → between p o m ≡ true → holder.Record i ≡ holderIn form g p o i (recordsAt s i)
+      pub holder-hit : (p : ℕ) → liesIn p o m ≡ true → holder.Record i ≡ holderIn form g p o i (recordsAt s i)
       holder-hit p t = sym (by-test p true t)
 
-      pub holder-miss : (p : ℕ) → between p o m ≡ false → holderIn form g p o i (recordsAt s i) ≡ holderIn form g p m (e + 1) behind
+      pub holder-miss : (p : ℕ) → liesIn p o m ≡ false → holderIn form g p o i (recordsAt s i) ≡ holderIn form g p m (e + 1) behind
       holder-miss p t = by-test p false t
 
 -- no record is left

@@ -20,15 +20,15 @@ use Rattle.writer.specs.declared.holder.Holder.{Holder}
 use Rattle.writer.specs.declared.holder.Holder.the-variants as holder
 
 -- a place in what goes from one place up to another
-unfoldable pub between : ℕ → ℕ → ℕ → Bool
-between p from to = leb from p && ltb p to
+unfoldable pub liesIn : ℕ → ℕ → ℕ → Bool
+liesIn p from to = leb from p && ltb p to
 
 -- records one behind another, the first at i, and their fields, the first colon at o: the record whose field holds the byte at p, up to the
 -- next colon or the - of -}
 unfoldable pub holderIn : Form → Bool → ℕ → ℕ → ℕ → List Record → Holder
 holderIn form s p o i [] = holder.Nothing
 holderIn form s p o i (r ∷ rs) =
-    pick (between p o (fields.nextOf o (fieldFor form s r))) (holder.Record i) (holderIn form s p (fields.nextOf o (fieldFor form s r)) (nextRecord i r) rs)
+    pick (liesIn p o (fields.nextOf o (fieldFor form s r))) (holder.Record i) (holderIn form s p (fields.nextOf o (fieldFor form s r)) (nextRecord i r) rs)
 
 -- the first record makes no field
 abbrev pub behindFirst : Form → Bool → ℕ → List Record → Holder

@@ -7,7 +7,7 @@ ghost use Rattle.base.specs.declared.Verdict.the-variants.{Fine};
 ghost use Rattle.records.specs.Found.{piecesAt, badSheetLine};
 ghost use Rattle.writer.specs.Sheet.{rule15, someCrowded};
 ghost use Rattle.writer.specs.Steps.{recordsAt};
-ghost use Rattle.writer.specs.Holder.{between, holderIn, holderOf};
+ghost use Rattle.writer.specs.Holder.{liesIn, holderIn, holderOf};
 use super::Build;
 use super::Step;
 use super::built::build;
@@ -23,7 +23,7 @@ pub enum Holder {
 
 // The place stands in what goes from one place up to another.
 fn is_between(place: usize, from: usize, to: usize) -> bool
-    ensures { λ r. ⌜ r ≡ between place from to ⌝ }
+    ensures { λ r. ⌜ r ≡ liesIn place from to ⌝ }
 {
     if place < from {
         return false;

@@ -33,11 +33,11 @@ use Rattle.details.specs.Breaking as breaking
 use Rattle.details.specs.Layouts.{linesFor, sizeFor}
 use Rattle.writer.specs.Spread.{contentLines, spread}
 use Rattle.writer.specs.Sheet.{unsaid, rule15, crowded, rule16, fieldsOf, messageFor}
-use Rattle.writer.specs.Holder.{between, holderIn, holderOf}
+use Rattle.writer.specs.Holder.{liesIn, holderIn, holderOf}
 use Rattle.written.specs.Cases.{Holds, cases}
 
 pub worked : AllHold Holds cases
-unfolding cases long short isIn digit capital letter marks shared xset same message body cutLines upto past grouped fields rule1 framed rule2 scan rule3 tagged lineBad badLine rule4 shaped places103 places202 find wrong walk rule18 walked signOf verdictOf firstWrong rightField rule8 onward leap daysIn isDay yearOf realDay dated payment parties tests.looksTax taxes valuesOf firstBad rule9 rule10 rule11 rule12 rule13 tags103 tags202 heldBy shapeOf cast nameSpeeches detailsSpeech noteSpeeches speeches speech.laterText hidden isCyrillicInn taxLike breaks14 unheard speechesOf rule14 grid kind signs.character reads plainly latinNext best bad writes pieces recordOf records rest begun isDigits general untaxed sound badFrom judge sheetSign sheetForm rule19 opens last broken breaking.breaks linesFor sizeFor contentLines spread unsaid rule15 crowded rule16 fieldsOf messageFor between holderIn holderOf capitalOrDigit tests.leadDigits tests.ends tests.hasPair tests.isReference tests.isPurpose tests.isPayment tests.isOwnAccount tests.isPartyByBik tests.isParty tests.isBic tests.isAccount tests.isTax tests.isRpp tests.isDetails tests.right rppDates customerTaxes payerTaxes
+unfolding cases long short isIn digit capital letter marks shared xset same message body cutLines upto past grouped fields rule1 framed rule2 scan rule3 tagged lineBad badLine rule4 shaped places103 places202 find wrong walk rule18 walked signOf verdictOf firstWrong rightField rule8 onward leap daysIn isDay yearOf realDay dated payment parties tests.looksTax taxes valuesOf firstBad rule9 rule10 rule11 rule12 rule13 tags103 tags202 heldBy shapeOf cast nameSpeeches detailsSpeech noteSpeeches speeches speech.laterText hidden isCyrillicInn taxLike breaks14 unheard speechesOf rule14 grid kind signs.character reads plainly latinNext best bad writes pieces recordOf records rest begun isDigits general untaxed sound badFrom judge sheetSign sheetForm rule19 opens last broken breaking.breaks linesFor sizeFor contentLines spread unsaid rule15 crowded rule16 fieldsOf messageFor liesIn holderIn holderOf capitalOrDigit tests.leadDigits tests.ends tests.hasPair tests.isReference tests.isPurpose tests.isPayment tests.isOwnAccount tests.isPartyByBik tests.isParty tests.isBic tests.isAccount tests.isTax tests.isRpp tests.isDetails tests.right rppDates customerTaxes payerTaxes
 worked =
     (refl, refl) also (refl, refl) also (refl, refl) also refl also refl also refl also refl also refl also refl also refl also refl also refl
     also refl also refl also refl also refl also refl also refl also refl also refl also refl also refl also refl

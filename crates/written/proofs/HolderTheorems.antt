@@ -28,7 +28,7 @@ use Rattle.records.proofs.PlaceLaws.{size-sheet}
 use Rattle.records.proofs.RuleLaws.{fine-sound}
 use Rattle.writer.specs.Spread.{fieldFor, spread}
 use Rattle.writer.specs.Sheet.{fieldsOf, messageFor, sheetRules}
-use Rattle.writer.specs.Holder.{between, holderIn, behindFirst, unlessRefused, holderOf}
+use Rattle.writer.specs.Holder.{liesIn, holderIn, behindFirst, unlessRefused, holderOf}
 use Rattle.writer.specs.declared.holder.Holder.{Holder}
 use Rattle.writer.specs.declared.holder.Holder.the-variants as holder
 use Rattle.writer.proofs.RuleLaws.{sheet-rules}
@@ -41,11 +41,11 @@ holder-one s p e f = one-answer e f
 
 -- ---- a place inside or outside
 data Where (p from to : ℕ) : Type 0 where
-  inside : from ≤ p → p < to → between p from to ≡ true → Where p from to
-  outside : (p < from) ⊎ (to ≤ p) → between p from to ≡ false → Where p from to
+  inside : from ≤ p → p < to → liesIn p from to ≡ true → Where p from to
+  outside : (p < from) ⊎ (to ≤ p) → liesIn p from to ≡ false → Where p from to
 
 where-is : (p from to : ℕ) → Where p from to
-unfolding between
+unfolding liesIn
 where-is p from to = go (decLt p from) (decLt p to)
   where
     go : Dec (p < from) → Dec (p < to) → Where p from to
@@ -124,7 +124,7 @@ module _ (form : Form) (g : Bool) where
     unfolding holderIn
     hit [] this behind o i h l = go (where-is p o (fields.nextOf o (fieldFor form g this)))
       where
-        go : Where p o (fields.nextOf o (fieldFor form g this)) → at (between p o (fields.nextOf o (fieldFor form g this))) o i this behind ≡ holder.Record (i + 0)
+        go : Where p o (fields.nextOf o (fieldFor form g this)) → at (liesIn p o (fields.nextOf o (fieldFor form g this))) o i this behind ≡ holder.Record (i + 0)
         go (inside a b t) = let z : i ≡ i + 0 = omega arith in ap (λ (b : Bool). at b o i this behind) t ∙ ap holder.Record z
         go (outside (inl a) t) = absurd (omega (arith, width-none))
         go (outside (inr a) t) = absurd (omega (arith, width-none))
@@ -133,7 +133,7 @@ module _ (form : Form) (g : Bool) where
         go (where-is p o (fields.nextOf o (fieldFor form g r))) (hit before this behind (fields.nextOf o (fieldFor form g r)) (nextRecord i r) (omega (arith, c)) (omega (arith, c)))
       where
         go : Where p o (fields.nextOf o (fieldFor form g r)) → holderIn form g p (fields.nextOf o (fieldFor form g r)) (nextRecord i r) (before ++ this ∷ behind) ≡ holder.Record (nextRecord i r + recordsSize before)
-            → at (between p o (fields.nextOf o (fieldFor form g r))) o i r (before ++ this ∷ behind) ≡ holder.Record (i + recordsSize (r ∷ before))
+            → at (liesIn p o (fields.nextOf o (fieldFor form g r))) o i r (before ++ this ∷ behind) ≡ holder.Record (i + recordsSize (r ∷ before))
         go (inside a b t) f = absurd (omega (arith, width-cons r before))
         go (outside w t) f = let z : nextRecord i r + recordsSize before ≡ i + recordsSize (r ∷ before) = omega arith in ap (λ (b : Bool). at b o i r (before ++ this ∷ behind)) t ∙ f ∙ ap holder.Record z
 
@@ -166,7 +166,7 @@ module _ (form : Form) (g : Bool) where
     miss (r ∷ rs) o i w = go (where-is p o (fields.nextOf o (fieldFor form g r))) w (miss rs (fields.nextOf o (fieldFor form g r)) (nextRecord i r))
       where
         go : Where p o (fields.nextOf o (fieldFor form g r)) → (p < o) ⊎ (o + width form g (r ∷ rs) ≤ p) → ((p < fields.nextOf o (fieldFor form g r)) ⊎ (fields.nextOf o (fieldFor form g r) + width form g rs ≤ p) → holderIn form g p (fields.nextOf o (fieldFor form g r)) (nextRecord i r) rs ≡ holder.Nothing)
-            → at (between p o (fields.nextOf o (fieldFor form g r))) o i r rs ≡ holder.Nothing
+            → at (liesIn p o (fields.nextOf o (fieldFor form g r))) o i r rs ≡ holder.Nothing
         go (inside h l t) (inl a) f = absurd (omega arith)
         go (inside h l t) (inr a) f = absurd (omega (arith, width-cons r rs))
         go (outside w t) (inl a) f = ap (λ (b : Bool). at b o i r rs) t ∙ f (inl (omega arith))
