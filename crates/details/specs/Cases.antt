@@ -29,8 +29,8 @@ Holds (stays p c t) = sizeFor p (length (bytes c)) (bytes c ++ t) ≡ Unfit
 Holds (short p least t) = sizeFor p least (bytes t) ≡ Unfit
 Holds (leaves p i m n) = roomFrom p i ≡ record { mark = m; bytes = n }
 
-abbrev code : String
-code = "(VO10100)"
+abbrev unsigned : String
+unsigned = "(VO10100)"
 
 abbrev signed : String
 signed = "'(VO10100)'"
@@ -43,24 +43,24 @@ dashes n = replicate n 45
 
 unfoldable pub cases : List Case
 cases =
-    gives In70 code "ABCDEFGHIJKLMNOPQRSTUVWXYZ-" ("(VO10100)ABCDEFGHIJKLMNOPQRSTUVWXY" ∷ "Z-" ∷ [])
-    ∷ gives In72 code "ABCDEFGHIJKLMNOPQRSTU-VWXYZ" ("/NZP/(VO10100)ABCDEFGHIJKLMNOPQRSTU" ∷ "//-VWXYZ" ∷ [])
+    gives In70 unsigned "ABCDEFGHIJKLMNOPQRSTUVWXYZ-" ("(VO10100)ABCDEFGHIJKLMNOPQRSTUVWXY" ∷ "Z-" ∷ [])
+    ∷ gives In72 unsigned "ABCDEFGHIJKLMNOPQRSTU-VWXYZ" ("/NZP/(VO10100)ABCDEFGHIJKLMNOPQRSTU" ∷ "//-VWXYZ" ∷ [])
     -- the limits of 70, without the sign and with it
-    ∷ goes In70 code (letters 131) (replicate 4 35) 146
-    ∷ stays In70 code (letters 132)
+    ∷ goes In70 unsigned (letters 131) (replicate 4 35) 146
+    ∷ stays In70 unsigned (letters 132)
     ∷ goes In70 signed (letters 129) (replicate 4 35) 146
     ∷ stays In70 signed (letters 130)
     -- what may open no line takes a letter along, or the whole text behind the code
-    ∷ goes In70 code (letters 26 ++ dashes 1) (34 ∷ 2 ∷ []) 38
-    ∷ goes In70 code (letters 1 ++ dashes 34) (9 ∷ 35 ∷ []) 46
-    ∷ goes In70 code (letters 26 ++ dashes 34) (34 ∷ 35 ∷ []) 71
-    ∷ stays In70 code (letters 26 ++ dashes 35)
-    ∷ stays In70 code (letters 26 ++ dashes 36)
+    ∷ goes In70 unsigned (letters 26 ++ dashes 1) (34 ∷ 2 ∷ []) 38
+    ∷ goes In70 unsigned (letters 1 ++ dashes 34) (9 ∷ 35 ∷ []) 46
+    ∷ goes In70 unsigned (letters 26 ++ dashes 34) (34 ∷ 35 ∷ []) 71
+    ∷ stays In70 unsigned (letters 26 ++ dashes 35)
+    ∷ stays In70 unsigned (letters 26 ++ dashes 36)
     -- the limits of 72: 30 and five times 33, or four times behind an RPP line
-    ∷ goes In72 code (letters 186) (replicate 6 35) 220
-    ∷ stays In72 code (letters 187)
-    ∷ goes BehindRpp code (letters 153) (replicate 5 35) 183
-    ∷ stays BehindRpp code (letters 154)
+    ∷ goes In72 unsigned (letters 186) (replicate 6 35) 220
+    ∷ stays In72 unsigned (letters 187)
+    ∷ goes BehindRpp unsigned (letters 153) (replicate 5 35) 183
+    ∷ stays BehindRpp unsigned (letters 154)
     -- no byte, and a code longer than the text or than its line
     ∷ short In70 0 ""
     ∷ short In70 10 "(VO10100)"

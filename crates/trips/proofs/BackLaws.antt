@@ -46,7 +46,8 @@ use Rattle.details.specs.Lines.{together}
 use Rattle.details.specs.Layouts.{layout, linesFor, sizeFor}
 use Rattle.details.specs.declared.DetailsField.{DetailsField}
 use Rattle.details.specs.declared.DetailsField.the-variants.{In70, In72, BehindRpp}
-use Rattle.writer.specs.Spread.{castParts, lineFor, code, codeAndText, noteField, noteLines, contentLines, spread}
+use Rattle.details.specs.Front.{code, noteField}
+use Rattle.writer.specs.Spread.{castParts, lineFor, codeAndText, noteLines, contentLines, spread}
 use Rattle.writer.specs.Sheet.{isUnfit, crowded, fieldsOf, messageFor, sheetRules, MessageTo}
 use Rattle.writer.proofs.RuleLaws.{sheet-rules}
 use Rattle.written.proofs.SpeltLaws.{said-is}

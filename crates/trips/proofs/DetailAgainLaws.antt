@@ -24,7 +24,8 @@ use Rattle.details.specs.declared.DetailsField.the-variants.{In70}
 use Rattle.details.specs.declared.Size.{Size}
 use Rattle.details.specs.declared.Size.the-variants.{Bytes, Unfit}
 use Rattle.details.proofs.DivisionTheorems.{Fitted, fitted}
-use Rattle.writer.specs.Spread.{castParts, code, codeAndText, rppLine, noteField, contentLines}
+use Rattle.details.specs.Front.{code, rppLine, noteField}
+use Rattle.writer.specs.Spread.{castParts, codeAndText, contentLines}
 use Rattle.writer.specs.Sheet.{isUnfit, crowded}
 use Rattle.written.proofs.SpeltLaws.{said-is, spelt-empty}
 use Rattle.written.proofs.ReadyLaws.{speaks, Ready}

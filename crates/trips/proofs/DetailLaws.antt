@@ -30,7 +30,7 @@ use Rattle.details.specs.Breaking.{opens}
 use Rattle.details.specs.Layouts.{layout, marked}
 use Rattle.details.specs.declared.DetailsField.{DetailsField}
 use Rattle.details.specs.declared.DetailsField.the-variants.{In70, In72, BehindRpp}
-use Rattle.writer.specs.Spread.{code, rppLine}
+use Rattle.details.specs.Front.{code, rppLine}
 use Rattle.written.proofs.CastLaws.{code-size}
 
 -- ---- details by their place: in 70; in 72 of a 202; there behind an RPP line

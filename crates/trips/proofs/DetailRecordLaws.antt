@@ -40,7 +40,8 @@ use Rattle.details.specs.declared.DetailsField.the-variants.{In70, In72, Behind
 use Rattle.details.specs.declared.Size.{Size}
 use Rattle.details.specs.declared.Size.the-variants.{Bytes, Unfit}
 use Rattle.details.proofs.DivisionTheorems.{less-divided, unfit-none}
-use Rattle.writer.specs.Spread.{castParts, coded, code, codeAndText, rppLine, noteField}
+use Rattle.details.specs.Front.{code, rppLine, noteField}
+use Rattle.writer.specs.Spread.{castParts, coded, codeAndText}
 use Rattle.writer.specs.Sheet.{isUnfit, crowded}
 use Rattle.written.proofs.SpeltLaws.{said-is}
 use Rattle.written.proofs.ReadyLaws.{speaks}

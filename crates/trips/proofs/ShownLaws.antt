@@ -17,7 +17,7 @@ use Rattle.details.specs.Lines.{together}
 use Rattle.details.specs.Layouts.{Layout, layout, marked}
 use Rattle.details.specs.declared.DetailsField.{DetailsField}
 use Rattle.details.specs.declared.DetailsField.the-variants.{In72}
-use Rattle.writer.specs.Spread.{code, rppLine}
+use Rattle.details.specs.Front.{code, rppLine}
 use Rattle.written.specs.Sentences.{OneByOne}
 use Rattle.sheets.specs.Gather.{codeDigits}
 use Rattle.trips.specs.Shown.{LineByLine, plain, payer, payee, agent, ReadPart, ShownDetails, Shows, each, details, note103, note202, behindRpp}

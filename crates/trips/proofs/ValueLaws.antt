@@ -31,7 +31,8 @@ use Rattle.roles.specs.Speech.{codeSize}
 use Rattle.roles.specs.declared.Shape.{Shape}
 use Rattle.roles.specs.declared.Shape.the-variants.{Plain, Payer, Payee, Agent, Details, Note103, Note202}
 use Rattle.details.specs.declared.DetailsField.the-variants.{In72}
-use Rattle.writer.specs.Spread.{codeAndText, rppLine, noteLines, contentLines}
+use Rattle.details.specs.Front.{rppLine}
+use Rattle.writer.specs.Spread.{codeAndText, noteLines, contentLines}
 use Rattle.writer.specs.Sheet.{crowded}
 use Rattle.written.proofs.ReadyLaws.{Ready, Laid, laid}
 use Rattle.sheets.specs.Gather.{detailsParts, noteParts, contentParts}

@@ -18,7 +18,7 @@ use Rattle.details.specs.Lines.{together}
 use Rattle.details.specs.Layouts.{layout, marked}
 use Rattle.details.specs.declared.DetailsField.{DetailsField}
 use Rattle.details.specs.declared.DetailsField.the-variants.{In70, In72, BehindRpp}
-use Rattle.writer.specs.Spread.{code, rppLine}
+use Rattle.details.specs.Front.{code, rppLine}
 use Rattle.written.specs.Sentences.{OneByOne}
 
 -- shapes of which each line is a part of its own

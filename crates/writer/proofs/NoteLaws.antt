@@ -22,7 +22,8 @@ use Rattle.records.proofs.PieceLaws.{pieces-at, end-within, piece-length}
 use Rattle.details.specs.Layouts.{linesFor, sizeFor}
 use Rattle.details.specs.declared.DetailsField.{DetailsField}
 use Rattle.details.specs.declared.DetailsField.the-variants.{In72, BehindRpp}
-use Rattle.writer.specs.Spread.{coded, castParts, codeAndText, rppLine, noteLines}
+use Rattle.details.specs.Front.{rppLine}
+use Rattle.writer.specs.Spread.{coded, castParts, codeAndText, noteLines}
 use Rattle.writer.specs.Sheet.{stoppedAt, unsaid, isUnfit, crowdedNote}
 use Rattle.writer.specs.Steps.{Adds, AddsDetails}
 use Rattle.writer.specs.declared.Step.{Step}

@@ -37,7 +37,8 @@ use Rattle.details.specs.declared.DetailsField.the-variants.{In70, In72, Behind
 use Rattle.details.specs.declared.Size.the-variants as size
 use Rattle.details.proofs.LayoutLaws.{bytes-not}
 use Rattle.details.proofs.DivisionTheorems.{Fitted, fitted, none-unfit, laid-lines}
-use Rattle.writer.specs.Spread.{coded, code, codeAndText}
+use Rattle.details.specs.Front.{code}
+use Rattle.writer.specs.Spread.{coded, codeAndText}
 use Rattle.writer.specs.Sheet.{stoppedAt, unsaid, isUnfit}
 use Rattle.writer.specs.declared.Step.{Step}
 use Rattle.writer.specs.declared.Step.the-variants.{Unfit, Put}

@@ -49,7 +49,8 @@ use Rattle.details.specs.declared.DetailsField.the-variants.{In70}
 use Rattle.details.specs.declared.Size.{Size}
 use Rattle.details.specs.declared.Size.the-variants as size
 use Rattle.details.proofs.DivisionTheorems.{fitted}
-use Rattle.writer.specs.Spread.{saidPart, castParts, lineFor, codeAndText, rppLine, noteField, noteLines, contentLines, fieldFor, spread}
+use Rattle.details.specs.Front.{rppLine, noteField}
+use Rattle.writer.specs.Spread.{saidPart, castParts, lineFor, codeAndText, noteLines, contentLines, fieldFor, spread}
 use Rattle.writer.specs.Sheet.{stoppedAt, unsaid, rule15, isUnfit, crowdedNote, crowded, someCrowded}
 use Rattle.writer.specs.declared.Step.{Step}
 use Rattle.writer.specs.declared.Step.the-variants.{Stuck, Unfit}

@@ -26,7 +26,8 @@ use Rattle.details.specs.declared.DetailsField.the-variants.{In70}
 use Rattle.details.specs.declared.Size.{Size}
 use Rattle.details.specs.declared.Size.the-variants as size
 use Rattle.details.specs.Layouts.{sizeFor}
-use Rattle.writer.specs.Spread.{saidPart, castParts, codeAndText, noteField, spread}
+use Rattle.details.specs.Front.{noteField}
+use Rattle.writer.specs.Spread.{saidPart, castParts, codeAndText, spread}
 
 -- ---- 15: the first byte of the sheet that can't be written
 -- a text whose first byte is at o stops

@@ -1,11 +1,10 @@
 -- What a record becomes: its parts as they are written, and the field that they make (S2, S7, T7, T12, B1). Assumes nothing.
 use Prim.Native.Nat.{ℕ}
-use mathlib.Core.Bool.{Bool, true, false}
+use mathlib.Core.Bool.{Bool}
 use mathlib.Core.List.{List, [], _∷_, _++_, map}
 use Rattle.types.specs.declared.Form.{Form}
 use Rattle.base.specs.Choice.{pick}
 use Rattle.base.specs.Bytes.{empty}
-use Rattle.base.specs.Quoted.{bytes}
 use Rattle.base.specs.Calls.{Answer, textOf}
 use Rattle.alphabets.specs.Bank.{plainly}
 use Rattle.alphabets.specs.Best.{writing}
@@ -15,8 +14,8 @@ use Rattle.roles.specs.Speech.{codeSize}
 use Rattle.roles.specs.declared.Shape.{Shape}
 use Rattle.roles.specs.declared.Shape.the-variants.{Plain, Payer, Payee, Agent, Details, Note103, Note202}
 use Rattle.records.specs.Record.{Record}
-use Rattle.details.specs.declared.DetailsField.{DetailsField}
-use Rattle.details.specs.declared.DetailsField.the-variants.{In70, In72, BehindRpp}
+use Rattle.details.specs.declared.DetailsField.the-variants.{In70}
+use Rattle.details.specs.Front.{code, rppLine, noteField}
 use Rattle.details.specs.Layouts.{linesFor}
 
 -- ---- the parts: what is written for each, or where that stops
@@ -47,23 +46,13 @@ lineFor s (copy p) = p
 lineFor s (name p) = textOf (writing s p)
 lineFor s (taxName p) = textOf (writing s p)
 
--- the code, with the sign and without, and details behind it
-abbrev pub code : Bool → List ℕ → List ℕ
-code true vo = bytes "'(VO" ++ (vo ++ bytes ")'")
-code false vo = bytes "(VO" ++ (vo ++ bytes ")")
-
+-- the code, and details behind it
 abbrev pub codeAndText : Bool → List (List ℕ) → List ℕ
 codeAndText s [] = []
 codeAndText s (vo ∷ []) = code s vo
 codeAndText s (vo ∷ t ∷ ps) = code s vo ++ textOf (writing s t)
 
-abbrev pub rppLine : List ℕ → List ℕ
-rppLine r = bytes "/RPP/" ++ r
-
 -- 72 of a 202: perhaps an RPP line, and details in what room is left
-abbrev pub noteField : List ℕ → DetailsField
-noteField r = pick (empty r) In72 BehindRpp
-
 abbrev pub noteLines : Bool → List (List ℕ) → List (List ℕ)
 noteLines s [] = []
 noteLines s (r ∷ ps) = pick (empty r) [] (rppLine r ∷ []) ++ linesFor (noteField r) (codeSize s) (codeAndText s ps)

@@ -10,7 +10,7 @@ ghost use Rattle.roles.specs.Speech.{codeSize};
 ghost use Rattle.records.specs.Found.{piecesAt};
 ghost use Rattle.records.specs.Rule19.{detailed};
 ghost use Rattle.details.specs.Layouts.{sizeFor, linesFor};
-ghost use Rattle.writer.specs.Spread.{code};
+ghost use Rattle.details.specs.Front.{code};
 ghost use Rattle.writer.specs.Sheet.{isUnfit};
 ghost use Rattle.writer.specs.Steps.{Adds, Within, near, AddsDetails};
 use super::Step;

@@ -28,7 +28,8 @@ use Rattle.details.specs.Lines.{together}
 use Rattle.details.specs.Layouts.{layout, linesFor}
 use Rattle.details.specs.declared.DetailsField.{DetailsField}
 use Rattle.details.specs.declared.DetailsField.the-variants.{In70, In72, BehindRpp}
-use Rattle.writer.specs.Spread.{lineFor, code}
+use Rattle.details.specs.Front.{code}
+use Rattle.writer.specs.Spread.{lineFor}
 use Rattle.written.proofs.SpeltLaws.{said-is, plain-same, slash, spelt-head, spelt-tax}
 use Rattle.written.proofs.ReadyLaws.{speaks, Laid}
 

@@ -28,7 +28,8 @@ use Rattle.details.specs.declared.Size.{Size}
 use Rattle.details.specs.declared.Size.the-variants.{Bytes, Unfit}
 use Rattle.details.proofs.DivisionTheorems.{Fitted, fitted}
 use Rattle.alphabets.proofs.Theorems.{shortest-iff}
-use Rattle.writer.specs.Spread.{castParts, lineFor, codeAndText, rppLine, contentLines, fieldFor, spread}
+use Rattle.details.specs.Front.{rppLine}
+use Rattle.writer.specs.Spread.{castParts, lineFor, codeAndText, contentLines, fieldFor, spread}
 use Rattle.writer.specs.Sheet.{isUnfit, crowded, fieldsOf, messageFor, sheetRules}
 use Rattle.written.specs.Sentences.{OneByOne, PartLine, WrittenDetails, Content, plain, payer, payee, agent, details, note103, note202, behindRpp, Made}
 use Rattle.written.proofs.SpeltLaws.{said-is}

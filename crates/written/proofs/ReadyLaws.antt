@@ -37,7 +37,8 @@ use Rattle.details.specs.declared.DetailsField.the-variants.{In70, In72, Behind
 use Rattle.details.specs.declared.Size.{Size}
 use Rattle.details.specs.declared.Size.the-variants.{Bytes, Unfit}
 use Rattle.details.proofs.DivisionTheorems.{Fitted, fitted}
-use Rattle.writer.specs.Spread.{saidPart, castParts, lineFor, code, codeAndText, rppLine, contentLines}
+use Rattle.details.specs.Front.{code, rppLine}
+use Rattle.writer.specs.Spread.{saidPart, castParts, lineFor, codeAndText, contentLines}
 use Rattle.writer.specs.Sheet.{stoppedAt, unsaid, rule15, isUnfit, crowded, someCrowded, rule16}
 use Rattle.written.proofs.SpeltLaws.{isSaid, said-is, plain-set, spelt-set, spelt-on}
 

@@ -40,7 +40,8 @@ use Rattle.details.specs.declared.DetailsField.{DetailsField}
 use Rattle.details.specs.declared.DetailsField.the-variants.{In70, In72, BehindRpp}
 use Rattle.details.specs.declared.Size.{Size}
 use Rattle.details.specs.declared.Size.the-variants.{Bytes, Unfit}
-use Rattle.writer.specs.Spread.{coded, castParts, lineFor, codeAndText, rppLine, noteLines, contentLines, fieldFor, spread}
+use Rattle.details.specs.Front.{rppLine}
+use Rattle.writer.specs.Spread.{coded, castParts, lineFor, codeAndText, noteLines, contentLines, fieldFor, spread}
 use Rattle.writer.specs.Sheet.{fieldsOf, messageFor, writeRules, MessageTo}
 use Rattle.writer.proofs.RuleLaws.{sheet-rules}
 use Rattle.written.specs.Sentences as why

@@ -35,7 +35,8 @@ use Rattle.records.proofs.SoundLaws.{calm, cast-calm}
 use Rattle.details.specs.Layouts.{linesFor, sizeFor}
 use Rattle.details.specs.declared.DetailsField.{DetailsField}
 use Rattle.details.specs.declared.DetailsField.the-variants.{In70, In72, BehindRpp}
-use Rattle.writer.specs.Spread.{castParts, lineFor, code, rppLine, contentLines, fieldFor, spread}
+use Rattle.details.specs.Front.{code, rppLine}
+use Rattle.writer.specs.Spread.{castParts, lineFor, contentLines, fieldFor, spread}
 use Rattle.writer.specs.Spread as spread
 use Rattle.writer.specs.Sheet.{isUnfit, crowded, fieldsOf, sheetRules}
 use Rattle.written.proofs.SpeltLaws.{said-is, spelt-open}

@@ -32,7 +32,8 @@ use Rattle.details.specs.Breaking.{opens}
 use Rattle.details.specs.Layouts.{layout, DivisionIn, marked}
 use Rattle.details.specs.declared.DetailsField.{DetailsField}
 use Rattle.details.specs.declared.DetailsField.the-variants.{In70, In72, BehindRpp}
-use Rattle.writer.specs.Spread.{castParts, code, codeAndText, rppLine}
+use Rattle.details.specs.Front.{code, rppLine}
+use Rattle.writer.specs.Spread.{castParts, codeAndText}
 use Rattle.writer.specs.Sheet.{messageFor}
 
 -- ---- lists
