@@ -18,7 +18,7 @@ use Rattle.base.specs.declared.Outcome.the-variants.{Done, Refused}
 use Rattle.base.proofs.RuleLaws.{then-clean, first-clean}
 use Rattle.base.proofs.CallLaws.{gives-one, within-limit}
 use Rattle.fields.specs.Frame.{limit, rule1}
-use Rattle.judge.proofs.RuleLaws.{accepted-rules}
+use Rattle.message.proofs.RuleLaws.{accepted-rules}
 use Rattle.records.specs.Rule19.{sheetForm}
 use Rattle.writer.specs.Sheet.{sheetRules, messageFor, ownRule, writeRules, MessageTo}
 use Rattle.written.proofs.OwnLaws.{own-fine}

@@ -19,8 +19,8 @@ use Rattle.types.specs.declared.Form.{Form}
 use Rattle.types.specs.declared.Form.the-variants.{Other, Mt103, Mt202}
 use Rattle.types.specs.Walk.{rule18}
 use Rattle.types.specs.Sign.{signOf}
-use Rattle.judge.specs.Message.{messageRules, verdictOf}
-use Rattle.judge.proofs.RuleLaws.{accepted-rules}
+use Rattle.message.specs.Message.{messageRules, verdictOf}
+use Rattle.message.proofs.RuleLaws.{accepted-rules}
 use Rattle.records.specs.Rule19.{sheetForm}
 use Rattle.writer.specs.Sheet.{messageFor, sheetRules, ownRule}
 use Rattle.written.proofs.OwnLaws.{own-fine}

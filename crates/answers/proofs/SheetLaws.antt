@@ -23,8 +23,8 @@ use Rattle.fields.specs.Frame.{limit, rule1}
 use Rattle.types.specs.Form.{formOf}
 use Rattle.types.specs.declared.Form.{Form}
 use Rattle.types.specs.Walk.{rule18}
-use Rattle.judge.specs.Message.{messageRules, verdictOf}
-use Rattle.judge.proofs.SmallLaws.{verdict-small}
+use Rattle.message.specs.Message.{messageRules, verdictOf}
+use Rattle.message.proofs.SmallLaws.{verdict-small}
 use Rattle.frame.proofs.SmallLaws as verdicts
 use Rattle.records.specs.Rule19.{typeNumber}
 use Rattle.sheets.specs.Calls.{readRules, SheetTo}

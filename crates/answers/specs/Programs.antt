@@ -14,7 +14,7 @@ use Rattle.base.specs.declared.Outcome.the-variants.{Refused}
 use Rattle.fields.specs.Frame.{limit}
 use Rattle.types.specs.declared.Form.{Form}
 use Rattle.types.specs.Form.{formOf}
-use Rattle.judge.specs.Message.{messageRules}
+use Rattle.message.specs.Message.{messageRules}
 use Rattle.records.specs.Rule19.{typeNumber}
 use Rattle.writer.specs.Sheet.{sheetRules, messageFor, ownRule}
 use Rattle.sheets.specs.Gather.{sheetOf}

@@ -11,7 +11,7 @@ use Rattle.base.specs.declared.Outcome.the-variants.{Done}
 use Rattle.fields.specs.Frame.{limit}
 use Rattle.types.specs.declared.Form.{Form}
 use Rattle.types.specs.Form.{formOf}
-use Rattle.judge.specs.Message.{verdictOf}
+use Rattle.message.specs.Message.{verdictOf}
 use Rattle.writer.specs.Sheet.{MessageTo}
 use Rattle.sheets.specs.Gather.{sheetOf}
 use Rattle.sheets.specs.Calls.{SheetTo}

@@ -31,18 +31,18 @@ use Rattle.types.specs.Walk.{find}
 use Rattle.frame.specs.Frame.{wordOf}
 use Rattle.frame.proofs.CallLaws.{taken}
 use Rattle.frame.proofs.SmallLaws as verdicts
-use Rattle.listing.specs.Lists.{partAt}
-use Rattle.listing.specs.declared.Span.{Span}
-use Rattle.listing.specs.declared.Span.the-variants.{Part, Nothing}
+use Rattle.message.specs.Lists.{partAt}
+use Rattle.message.specs.declared.Span.{Span}
+use Rattle.message.specs.declared.Span.the-variants.{Part, Nothing}
 use Rattle.values.specs.Number.{onward, number}
 use Rattle.values.specs.Day.{yearOf, dated}
 use Rattle.contents.specs.Tests.{isPayment}
 use Rattle.contents.specs.Parts.{paidDate}
 use Rattle.values.specs.Answers.{kopecksOf, dateOf}
 use Rattle.values.proofs.MoneyLaws.{kopecks-of-small}
-use Rattle.judge.specs.Message.{messageRules, verdictOf}
-use Rattle.judge.proofs.VerdictTheorems.{frame-clean}
-use Rattle.judge.proofs.SmallLaws.{verdict-small}
+use Rattle.message.specs.Message.{messageRules, verdictOf}
+use Rattle.message.proofs.VerdictTheorems.{frame-clean}
+use Rattle.message.proofs.SmallLaws.{verdict-small}
 use Rattle.message.specs.declared.Checked.{Checked}
 use Rattle.message.specs.Calls.{checkedBy, Checks, spanBy, spanOf, partOf, contentOf, paid, amountBy, amountOf, dayBy, dayOf, Inside}
 use Rattle.message.proofs.PartLaws.{inside-clean}

@@ -17,7 +17,7 @@ use Rattle.base.specs.declared.Verdict.the-variants.{Fine, Broken}
 use Rattle.base.proofs.ByteLaws.{Bytes}
 use Rattle.base.proofs.RuleLaws.{fine-broken}
 use Rattle.values.specs.Answers.{kopecksOf, dateOf}
-use Rattle.judge.specs.Message.{verdictOf}
+use Rattle.message.specs.Message.{verdictOf}
 use Rattle.message.specs.declared.Checked.{Checked}
 use Rattle.message.specs.declared.Checked.the-variants as checked
 use Rattle.message.specs.Calls.{paid, amountBy, amountOf, daySplit, dayBy, dayOf}

@@ -9,8 +9,8 @@ use Rattle.message.specs.declared.Amount as amounts
 use Rattle.message.specs.declared.Amount.the-variants as amount
 use Rattle.message.specs.declared.Day as days
 use Rattle.message.specs.declared.Day.the-variants as day
-use Rattle.listing.specs.declared.Span as spans
-use Rattle.listing.specs.declared.Span.the-variants as span
+use Rattle.message.specs.declared.Span as spans
+use Rattle.message.specs.declared.Span.the-variants as span
 
 -- refused: 2^63 + number · 2^32 + place
 abbrev pub refusedWord : ℕ → ℕ → ℕ

@@ -4,8 +4,8 @@ use Rattle.base.specs.Rules.{lastNumber}
 use Rattle.base.specs.declared.Outcome.{Outcome}
 use Rattle.base.specs.declared.Outcome.the-variants as outcome
 use Rattle.fields.specs.Frame.{limit}
-use Rattle.listing.specs.declared.Span.{Span}
-use Rattle.listing.specs.declared.Span.the-variants.{Part, Nothing}
+use Rattle.message.specs.declared.Span.{Span}
+use Rattle.message.specs.declared.Span.the-variants.{Part, Nothing}
 use Rattle.message.specs.declared.Checked.{Checked}
 use Rattle.message.specs.declared.Checked.the-variants as checked
 use Rattle.message.specs.declared.Amount.{Amount}

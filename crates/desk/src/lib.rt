@@ -6,10 +6,10 @@ ghost use Rattle.desk.specs.Answer.{refusedWord, word, checkedWord, span
 ghost use Rattle.desk.specs.Exports.{ReadWord, WrittenWord, CheckWord, MessageWord, SheetWord};
 ghost use Rattle.desk.specs.Sizes.{Fits, SmallOutcome, SmallCheck, SmallSpan, SmallAmount, SmallDay};
 use base::Outcome;
-use listing::Span;
 use message::Amount;
 use message::Checked;
 use message::Day;
+use message::Span;
 use types::forms::form_of;
 
 fn is_on(sign: u32) -> bool

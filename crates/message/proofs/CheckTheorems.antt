@@ -25,19 +25,19 @@ use Rattle.types.specs.Walk.{present}
 use Rattle.types.proofs.WordLaws.{present-iff, ones-before}
 use Rattle.message.specs.declared.Checked.{Checked}
 use Rattle.message.specs.declared.Checked.the-variants.{Accepted, Refused}
-use Rattle.listing.specs.declared.Span.{Span}
-use Rattle.listing.specs.declared.Span.the-variants.{Part, Nothing}
+use Rattle.message.specs.declared.Span.{Span}
+use Rattle.message.specs.declared.Span.the-variants.{Part, Nothing}
 use Rattle.frame.specs.Frame.{wordOf}
-use Rattle.judge.specs.Message.{messageRules, verdictOf}
-use Rattle.listing.specs.Lists.{partAt}
+use Rattle.message.specs.Message.{messageRules, verdictOf}
+use Rattle.message.specs.Lists.{partAt}
 use Rattle.message.specs.declared.Amount.{Amount}
 use Rattle.message.specs.declared.Day.{Day}
 use Rattle.message.specs.Calls.{checkRules, checkedBy, Checks, Listed, spanBy, spanOf, partOf, contentOf, amountOf, dayOf}
 use Rattle.message.proofs.PartLaws.{content-some}
 use Rattle.frame.proofs.CallLaws.{taken}
-use Rattle.judge.proofs.VerdictTheorems.{frame-clean}
-use Rattle.listing.proofs.SpanLaws.{part-absent, part-listed}
-use Rattle.listing.proofs.SpanLaws as spans
+use Rattle.message.proofs.VerdictTheorems.{frame-clean}
+use Rattle.message.proofs.SpanLaws.{part-absent, part-listed}
+use Rattle.message.proofs.SpanLaws as spans
 use Rattle.types.specs.Sentences.{placeOfField, Present}
 
 -- ---- any two outcomes are equal, lent units counted

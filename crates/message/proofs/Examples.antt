@@ -21,10 +21,10 @@ use Rattle.types.specs.Walk.{find, wrong, walk, rule18, walked, word}
 use Rattle.frame.specs.Frame.{wordOf}
 use Rattle.frame.specs.Cases.{sample}
 use Rattle.types.specs.Sign.{signOf}
-use Rattle.listing.specs.declared.Span.{Span}
-use Rattle.listing.specs.Lists.{partAt}
-use Rattle.judge.specs.Message.{NoneBroken, verdictOf}
-use Rattle.judge.proofs.RuleLaws.{rules-accepted}
+use Rattle.message.specs.declared.Span.{Span}
+use Rattle.message.specs.Lists.{partAt}
+use Rattle.message.specs.Message.{NoneBroken, verdictOf}
+use Rattle.message.proofs.RuleLaws.{rules-accepted}
 use Rattle.contents.specs.Words.{capitalOrDigit}
 use Rattle.contents.specs.Tests as tests
 use Rattle.contents.specs.Rule8.{firstWrong, rightField, rule8}
@@ -51,7 +51,7 @@ use Rattle.message.specs.declared.Amount.the-variants as amount
 use Rattle.message.specs.declared.Day.the-variants as day
 use Rattle.message.specs.Calls.{checkedBy, answerOf, leftOf, spanBy, spanOf, partOf, contentOf, paid, amountBy, amountOf, daySplit, dayBy, dayOf}
 use Rattle.message.specs.Cases.{Case, accepts, refuses, narrow, spans, shows, lent, Holds, signed202, cases}
-use Rattle.message.proofs.CallLaws.{last-17}
+use Rattle.message.proofs.CheckLaws.{last-17}
 
 -- ---- what is computed of a case: its message's verdict, once, and what the calls make of a message with that verdict
 abbrev place-32A : Form → ℕ

@@ -1,4 +1,14 @@
-pub mod CallLaws
+pub mod SpotLaws
+pub mod FillLaws
+pub mod SpanLaws
+pub mod FieldLaws
+pub mod FactLaws
+pub mod LoopLaws
+pub mod JudgeLaws
+pub mod RuleLaws
+pub mod VerdictTheorems
+pub mod SmallLaws
+pub mod CheckLaws
 pub mod PartLaws
 pub mod CheckTheorems
 pub mod PaidLaws

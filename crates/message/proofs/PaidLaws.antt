@@ -45,17 +45,17 @@ use Rattle.values.specs.Sentences.{OfCalendar}
 use Rattle.values.proofs.DayLaws.{day-iff}
 use Rattle.values.proofs.GrammarLaws.{paid-values, paid-kopecks, paid-date}
 use Rattle.values.proofs.StepLaws.{first-field}
-use Rattle.listing.specs.declared.Span.the-variants.{Part, Nothing}
-use Rattle.listing.specs.Lists.{partAt}
+use Rattle.message.specs.declared.Span.the-variants.{Part, Nothing}
+use Rattle.message.specs.Lists.{partAt}
 use Rattle.message.specs.Paid.{PaidIn}
 use Rattle.message.specs.Calls.{spanBy, spanOf, partOf, contentOf, paid, amountBy, amountOf, daySplit, dayBy, dayOf}
 use Rattle.message.specs.declared.Amount.the-variants as amounts
 use Rattle.message.specs.declared.Day.the-variants as dayAnswer
-use Rattle.listing.proofs.SpanLaws.{part-listed}
+use Rattle.message.proofs.SpanLaws.{part-listed}
 use Rattle.frame.proofs.CallLaws.{taken}
-use Rattle.judge.specs.Message.{verdictOf}
-use Rattle.judge.proofs.RuleLaws.{accepted-rules}
-use Rattle.judge.proofs.VerdictTheorems.{frame-clean, contents-right, days-right, roubles-only}
+use Rattle.message.specs.Message.{verdictOf}
+use Rattle.message.proofs.RuleLaws.{accepted-rules}
+use Rattle.message.proofs.VerdictTheorems.{frame-clean, contents-right, days-right, roubles-only}
 
 -- ---- a mandatory place is present
 must-present : (ps : List Place) (next : ℕ) (fs : List Field) (i : ℕ) → Accepted ps next fs → next ≤ i → i < length ps → isOptional (placeAt ps i) ≡ false → Present ps fs i

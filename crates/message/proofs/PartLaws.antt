@@ -23,14 +23,14 @@ use Rattle.types.specs.Sign.{signOf}
 use Rattle.frame.proofs.CallLaws.{taken}
 use Rattle.contents.specs.Rule8.{rightField}
 use Rattle.contents.proofs.SizeLaws.{right-nonempty}
-use Rattle.listing.specs.declared.Span.{Span}
-use Rattle.listing.specs.declared.Span.the-variants.{Part, Nothing}
-use Rattle.listing.specs.Lists.{partAt}
-use Rattle.listing.specs.Numbers.{partBy}
-use Rattle.listing.proofs.SpanLaws.{part-is}
+use Rattle.message.specs.declared.Span.{Span}
+use Rattle.message.specs.declared.Span.the-variants.{Part, Nothing}
+use Rattle.message.specs.Lists.{partAt}
+use Rattle.message.specs.Numbers.{partBy}
+use Rattle.message.proofs.SpanLaws.{part-is}
 use Rattle.frame.specs.declared.Frame.{Frame}
-use Rattle.judge.specs.Message.{verdictOf, judgedOf}
-use Rattle.judge.proofs.VerdictTheorems.{frame-clean, contents-right, judged-by, judged-found}
+use Rattle.message.specs.Message.{verdictOf, judgedOf}
+use Rattle.message.proofs.VerdictTheorems.{frame-clean, contents-right, judged-by, judged-found}
 use Rattle.message.specs.Calls.{spanBy, spanOf, partOf, contentOf, paid, Inside}
 
 -- ---- inside

@@ -18,10 +18,10 @@ use Rattle.types.specs.Form.{placesOf}
 use Rattle.types.specs.Walk.{find}
 use Rattle.types.specs.Sentences.{Present}
 use Rattle.frame.specs.Frame.{wordOf}
-use Rattle.listing.specs.declared.Span.{Span}
-use Rattle.listing.specs.declared.Span.the-variants.{Part, Nothing}
-use Rattle.listing.specs.Lists.{partAt}
-use Rattle.judge.specs.Message.{messageRules, verdictOf}
+use Rattle.message.specs.declared.Span.{Span}
+use Rattle.message.specs.declared.Span.the-variants.{Part, Nothing}
+use Rattle.message.specs.Lists.{partAt}
+use Rattle.message.specs.Message.{messageRules, verdictOf}
 use Rattle.values.specs.Answers.{kopecksOf, dateOf}
 use Rattle.message.specs.declared.Checked.{Checked}
 use Rattle.message.specs.declared.Checked.the-variants as checked

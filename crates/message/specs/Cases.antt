@@ -9,8 +9,8 @@ use Rattle.base.specs.Quoted.{bytes}
 use Rattle.fields.specs.Field.{Field, message, fields}
 use Rattle.fields.specs.Cases.{of}
 use Rattle.frame.specs.Cases.{sample}
-use Rattle.listing.specs.declared.Span.{Span}
-use Rattle.listing.specs.declared.Span.the-variants.{Part, Nothing}
+use Rattle.message.specs.declared.Span.{Span}
+use Rattle.message.specs.declared.Span.the-variants.{Part, Nothing}
 use Rattle.message.specs.declared.Checked.the-variants as checked
 use Rattle.message.specs.declared.Amount.the-variants as amount
 use Rattle.message.specs.declared.Day.the-variants as day

@@ -1,9 +1,9 @@
 // The check of a message.
 ghost use Rattle.message.specs.Calls.{Checks};
 use super::Checked;
+use super::spots::fill;
+use super::verdict::judge;
 use base::Verdict;
-use judge::verdict::judge;
-use listing::spots::fill;
 use types::Form;
 
 // Colon, content start and content end of each field, put into the list where it has room for all. The word has as many ones as there are

@@ -1,11 +1,11 @@
 // The content of a place, by itself and as where it stands.
 ghost use mathlib.Core.Path.{_≡_};
-ghost use Rattle.judge.specs.Message.{verdictOf};
+ghost use Rattle.message.specs.Message.{verdictOf};
 ghost use Rattle.message.specs.Calls.{spanOf, partOf, contentOf, Inside};
+use super::Span;
+use super::spots::part_of;
+use super::verdict::judge;
 use base::Verdict;
-use judge::verdict::judge;
-use listing::Span;
-use listing::spots::part_of;
 use types::Form;
 
 // What a message is judged to be, and where the content of a place stands in it: nowhere where the message is refused.

@@ -1,7 +1,21 @@
-// The calls on a message: its check, the part of one place, the kopecks and the date of 32A.
+// A message judged whole: the quick pass, then 8 and what 9 to 13 need, in one turn a field, then 14 over the texts. The calls on it: its
+// check, the part of one place, the kopecks and the date of 32A.
 pub mod check;
 pub mod content;
+mod facts;
 pub mod paid;
+mod parts;
+mod rules;
+pub mod sign;
+mod speeches;
+mod spots;
+pub mod verdict;
+
+// Where the content of a place stands in the message.
+pub enum Span {
+    Part { start: usize, end: usize },
+    Nothing,
+}
 
 // The answer of the check.
 pub enum Checked {

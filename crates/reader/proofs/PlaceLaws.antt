@@ -20,8 +20,8 @@ use Rattle.types.specs.Sentences.{Present}
 use Rattle.frame.specs.declared.Frame.{Frame}
 use Rattle.frame.specs.Frame.{wordOf, frameBy}
 use Rattle.frame.proofs.CallLaws.{taken}
-use Rattle.judge.specs.Message.{verdictOf, judgedOf}
-use Rattle.judge.proofs.VerdictTheorems.{frame-clean}
+use Rattle.message.specs.Message.{verdictOf, judgedOf}
+use Rattle.message.proofs.VerdictTheorems.{frame-clean}
 use Rattle.message.specs.Calls.{contentOf}
 use Rattle.message.proofs.CheckTheorems.{Without, refused, absent, content-empty}
 use Rattle.reader.specs.Reading.{firstFrom, filled, placeBehind, isSet, nextBit}

@@ -20,10 +20,10 @@ use Rattle.types.specs.Sentences.{placeAt, placeOfField, Present, SoundWalk}
 use Rattle.types.proofs.WordLaws.{placed}
 use Rattle.types.proofs.TableLaws.{few-places, each-form, no-places}
 use Rattle.frame.proofs.CallLaws.{taken}
-use Rattle.listing.proofs.SpanLaws as spans
-use Rattle.judge.specs.Message.{verdictOf}
-use Rattle.judge.proofs.RuleLaws.{accepted-rules}
-use Rattle.judge.proofs.VerdictTheorems.{frame-clean}
+use Rattle.message.proofs.SpanLaws as spans
+use Rattle.message.specs.Message.{verdictOf}
+use Rattle.message.proofs.RuleLaws.{accepted-rules}
+use Rattle.message.proofs.VerdictTheorems.{frame-clean}
 use Rattle.message.specs.Calls.{partOf, contentOf}
 use Rattle.message.proofs.CheckTheorems.{Without, refused, absent, content-empty, span-listed}
 use Rattle.reader.specs.declared.Reader.{Reader}

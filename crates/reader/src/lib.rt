@@ -4,8 +4,8 @@ ghost use Rattle.types.specs.Form.{formOf};
 ghost use Rattle.message.specs.Calls.{contentOf};
 ghost use Rattle.reader.specs.Reading.{nextBit, placeBehind, Opened, MovedOn, atHand};
 use base::bits::bit_at;
-use judge::verdict::judge;
 use message::content::content;
+use message::verdict::judge;
 use types::forms::form_of;
 
 pub struct Reader<'a> {

@@ -23,11 +23,11 @@ use Rattle.frame.specs.declared.Frame.{Frame}
 use Rattle.frame.specs.Frame.{frameBy}
 use Rattle.frame.proofs.CallLaws.{taken}
 use Rattle.contents.proofs.RuleLaws.{firstOf}
-use Rattle.judge.specs.Message.{messageRules, verdictOf, judgedOf}
-use Rattle.judge.proofs.CallLaws.{sign-is}
-use Rattle.judge.proofs.PartLaws.{settled}
-use Rattle.judge.proofs.RuleLaws.{accepted-rules}
-use Rattle.judge.proofs.VerdictTheorems.{frame-clean, judged-by, judged-found}
+use Rattle.message.specs.Message.{messageRules, verdictOf, judgedOf}
+use Rattle.message.proofs.JudgeLaws.{sign-is}
+use Rattle.message.proofs.FieldLaws.{settled}
+use Rattle.message.proofs.RuleLaws.{accepted-rules}
+use Rattle.message.proofs.VerdictTheorems.{frame-clean, judged-by, judged-found}
 use Rattle.records.specs.Record.{line}
 use Rattle.sheets.specs.Gather.{typeRecord, sheetOf}
 use Rattle.sheets.specs.Calls.{readRules, SheetTo}

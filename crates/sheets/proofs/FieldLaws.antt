@@ -32,8 +32,8 @@ use Rattle.fields.proofs.ContentLaws.{lines-joined}
 use Rattle.fields.proofs.PlaceLaws.{joined-length}
 use Rattle.roles.specs.Role.{shapeOf}
 use Rattle.roles.specs.declared.Shape as roles
-use Rattle.judge.specs.Parts.{Settled}
-use Rattle.judge.proofs.PartLaws.{Stands, stands}
+use Rattle.message.specs.Parts.{Settled}
+use Rattle.message.proofs.FieldLaws.{Stands, stands}
 use Rattle.records.specs.Record.{tabbed, line}
 use Rattle.sheets.specs.Gather.{typeRecord}
 use Rattle.sheets.specs.Steps.{contentBy, tagEnd, fieldIn, Part, recordBy, recordLine, sheetBy}

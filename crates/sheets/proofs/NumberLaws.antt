@@ -26,8 +26,8 @@ use Rattle.contents.proofs.RuleLaws.{own-number}
 use Rattle.values.proofs.RuleLaws.{broken9, broken10, broken11, broken12, broken13}
 use Rattle.roles.specs.Rule14.{unheard, speechesOf, rule14}
 use Rattle.roles.proofs.BreachLaws.{unheard-number}
-use Rattle.judge.specs.Message.{verdictOf}
-use Rattle.judge.proofs.RuleLaws.{verdict-holds}
+use Rattle.message.specs.Message.{verdictOf}
+use Rattle.message.proofs.RuleLaws.{verdict-holds}
 
 abbrev Never : Verdict → Type 0
 Never v = (p : ℕ) → v ≡ Broken 17 p → ⊥

@@ -41,9 +41,9 @@ use Rattle.roles.specs.declared.Role.{Role}
 use Rattle.roles.specs.declared.Role.the-variants.{Copies, OfPayer, OfPayee, OfAgent, Taxed, Names}
 use Rattle.roles.proofs.PartLaws.{firstPart, cast-none, cast-cons}
 use Rattle.roles.proofs.BreachLaws.{first-clause, same-lines, rule14-fine}
-use Rattle.judge.specs.Message.{verdictOf}
-use Rattle.judge.proofs.RuleLaws.{accepted-rules}
-use Rattle.judge.proofs.VerdictTheorems.{frame-clean}
+use Rattle.message.specs.Message.{verdictOf}
+use Rattle.message.proofs.RuleLaws.{accepted-rules}
+use Rattle.message.proofs.VerdictTheorems.{frame-clean}
 use Rattle.records.specs.Record.{Record, line, sheet}
 use Rattle.sheets.specs.Gather.{partFor, codeDigits, detailsParts, noteParts, contentParts, recordFor, gather, typeRecord, recordsOf, sheetOf}
 use Rattle.sheets.specs.Steps.{saidBy, sideOf, sideBy, partsBy, textPieces, overBy, detailsBy, noteBy, contentBy, recordBy, sheetBy}

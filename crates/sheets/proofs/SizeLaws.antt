@@ -30,8 +30,8 @@ use Rattle.roles.specs.Speech.{codeSize, laterText}
 use Rattle.roles.specs.declared.Shape.{Shape}
 use Rattle.roles.specs.declared.Shape.the-variants.{Plain, Payer, Payee, Agent, Details, Note103, Note202}
 use Rattle.roles.proofs.BreachLaws.{same-lines}
-use Rattle.judge.specs.Message.{verdictOf}
-use Rattle.judge.proofs.VerdictTheorems.{frame-clean}
+use Rattle.message.specs.Message.{verdictOf}
+use Rattle.message.proofs.VerdictTheorems.{frame-clean}
 use Rattle.records.specs.Record.{tabbed, line}
 use Rattle.records.specs.Places as records
 use Rattle.records.proofs.PlaceLaws.{size-sheet}

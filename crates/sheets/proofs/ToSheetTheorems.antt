@@ -18,7 +18,7 @@ use Rattle.base.proofs.CallLaws.{gives-one, accepted, refused, is-short, not-sh
 use Rattle.fields.specs.Field.{fields}
 use Rattle.types.specs.declared.Form.{Form}
 use Rattle.types.specs.Sign.{signOf}
-use Rattle.judge.specs.Message.{verdictOf}
+use Rattle.message.specs.Message.{verdictOf}
 use Rattle.sheets.specs.Gather.{sheetOf}
 use Rattle.sheets.specs.Calls.{readRules, SheetTo}
 use Rattle.sheets.proofs.ReadLaws.{AllReadable, readable}

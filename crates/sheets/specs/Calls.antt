@@ -5,7 +5,7 @@ use Rattle.types.specs.declared.Form.{Form}
 use Rattle.base.specs.Calls.{short, Gives}
 use Rattle.base.specs.declared.Verdict.{Verdict}
 use Rattle.base.specs.declared.Outcome.{Outcome}
-use Rattle.judge.specs.Message.{messageRules}
+use Rattle.message.specs.Message.{messageRules}
 use Rattle.sheets.specs.Gather.{sheetOf}
 
 abbrev pub readRules : Form → List ℕ → List ℕ → List Verdict

@@ -26,8 +26,8 @@ use Rattle.roles.specs.declared.Shape.{Shape}
 use Rattle.roles.specs.declared.Shape.the-variants.{Plain, Payer, Payee, Agent, Details, Note103, Note202}
 use Rattle.roles.specs.declared.Role.{Role}
 use Rattle.roles.specs.declared.Role.the-variants.{Copies, OfPayer, OfPayee, OfAgent}
-use Rattle.judge.specs.Message.{verdictOf}
-use Rattle.judge.specs.Parts.{Settled}
+use Rattle.message.specs.Message.{verdictOf}
+use Rattle.message.specs.Parts.{Settled}
 use Rattle.records.specs.Record.{Record, line, sheet}
 use Rattle.sheets.specs.Gather.{codeDigits}
 use Rattle.base.specs.Quoted.{ascii}

@@ -7,7 +7,7 @@ ghost use Rattle.base.specs.Calls.{placed, Puts};
 ghost use Rattle.base.specs.declared.Verdict.the-variants.{Fine};
 ghost use Rattle.fields.specs.Field.{fields};
 ghost use Rattle.types.specs.Walk.{rule18};
-ghost use Rattle.judge.specs.Parts.{Settled};
+ghost use Rattle.message.specs.Parts.{Settled};
 ghost use Rattle.records.specs.Record.{line};
 ghost use Rattle.sheets.specs.Gather.{typeRecord, sheetOf};
 ghost use Rattle.sheets.specs.Steps.{tagEnd, fieldIn, Part, recordLine, sheetBy, Sound};
@@ -16,7 +16,7 @@ use alphabets::pieces::back_table;
 use base::bytes::put;
 use fields::line_tag;
 use frame::SPOTS;
-use judge::sign::is_signed;
+use message::sign::is_signed;
 use roles::shapes::shape_of;
 use types::Form;
 

@@ -1,6 +1,6 @@
 // The call: a message judged, and its sheet put into the lent room, measured first where that may be too short.
 ghost use mathlib.Core.Path.{_≡_};
-ghost use Rattle.judge.specs.Message.{judgedOf};
+ghost use Rattle.message.specs.Message.{judgedOf};
 ghost use Rattle.sheets.specs.Calls.{SheetTo};
 ghost use Rattle.sheets.specs.Steps.{Sound};
 use super::built::put_sheet;
@@ -8,7 +8,7 @@ use base::Outcome;
 use base::Verdict;
 use frame::Frame;
 use frame::SPOTS;
-use judge::verdict::judge;
+use message::verdict::judge;
 use types::Form;
 
 // The room is tested before it is filled.

@@ -28,8 +28,8 @@ use Rattle.roles.specs.Role.{shapeOf}
 use Rattle.roles.specs.declared.Shape.{Shape}
 use Rattle.roles.specs.declared.Shape.the-variants.{Plain, Payer, Payee, Agent, Details, Note103, Note202}
 use Rattle.frame.proofs.CallLaws.{taken}
-use Rattle.judge.specs.Message.{messageRules, verdictOf}
-use Rattle.judge.proofs.VerdictTheorems.{frame-clean}
+use Rattle.message.specs.Message.{messageRules, verdictOf}
+use Rattle.message.proofs.VerdictTheorems.{frame-clean}
 use Rattle.writer.specs.Sheet.{messageFor, sheetRules, atStart, ownRule, writeRules, MessageTo}
 use Rattle.writer.proofs.RuleLaws.{sheet-rules, rules-write}
 use Rattle.written.specs.Sentences.{OneByOne}

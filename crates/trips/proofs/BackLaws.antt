@@ -36,7 +36,7 @@ use Rattle.roles.specs.Speech.{Speech, speech, codeSize}
 use Rattle.roles.specs.declared.Shape.{Shape}
 use Rattle.roles.specs.declared.Shape.the-variants.{Plain, Payer, Payee, Agent}
 use Rattle.roles.proofs.BreachLaws.{same-lines}
-use Rattle.judge.specs.Message.{verdictOf}
+use Rattle.message.specs.Message.{verdictOf}
 use Rattle.records.specs.Record.{Record, sheet, records}
 use Rattle.records.specs.Rule19.{isDigits, typeNumber, sheetForm, sheetSign}
 use Rattle.records.specs.Sentences.{RightParts, plain, agent, payer, payee, details, note103, note202, SoundSheet}

@@ -24,8 +24,8 @@ use Rattle.types.specs.declared.Form.the-variants.{Mt103, Mt202}
 use Rattle.types.specs.Form.{places103, places202}
 use Rattle.types.specs.Walk.{find, wrong, walk, rule18, walked}
 use Rattle.types.specs.Sign.{signOf}
-use Rattle.judge.specs.Message.{messageRules, NoneBroken, verdictOf}
-use Rattle.judge.proofs.RuleLaws.{rules-accepted}
+use Rattle.message.specs.Message.{messageRules, NoneBroken, verdictOf}
+use Rattle.message.proofs.RuleLaws.{rules-accepted}
 use Rattle.contents.specs.Words.{capitalOrDigit}
 use Rattle.contents.specs.Tests as tests
 use Rattle.contents.specs.Rule8.{firstWrong, rightField, rule8}

@@ -25,8 +25,8 @@ use Rattle.roles.specs.Sentences.{Heard}
 use Rattle.roles.specs.declared.Shape.{Shape}
 use Rattle.roles.proofs.BreachLaws.{rule14-fine}
 use Rattle.roles.proofs.BackTableLaws.{speeches-moved}
-use Rattle.judge.specs.Message.{verdictOf}
-use Rattle.judge.proofs.RuleLaws.{accepted-rules}
+use Rattle.message.specs.Message.{verdictOf}
+use Rattle.message.proofs.RuleLaws.{accepted-rules}
 use Rattle.written.proofs.ReadyLaws.{Fair}
 use Rattle.trips.proofs.Held.{HeldField}
 

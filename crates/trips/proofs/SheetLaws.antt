@@ -33,8 +33,8 @@ use Rattle.roles.specs.Role.{shapeOf, copy, cast}
 use Rattle.roles.specs.declared.Shape.{Shape}
 use Rattle.roles.specs.declared.Shape.the-variants.{Plain, Details}
 use Rattle.frame.specs.Frame.{EachFrameRule}
-use Rattle.judge.specs.Message.{verdictOf}
-use Rattle.judge.proofs.RuleLaws.{accepted-rules}
+use Rattle.message.specs.Message.{verdictOf}
+use Rattle.message.proofs.RuleLaws.{accepted-rules}
 use Rattle.records.specs.Record.{Record, sheet, pieces, front, final, recordOf, records, rest, begun, plainText, writable}
 use Rattle.records.specs.Rule19.{isDigits, good, typed, formIn, namedForm, sheetForm, sheetSign, rule19}
 use Rattle.records.specs.Sentences.{SoundSheet}

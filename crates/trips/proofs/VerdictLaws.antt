@@ -27,9 +27,9 @@ use Rattle.contents.proofs.RuleLaws.{rule8-fine}
 use Rattle.values.specs.Values.{kindOf, valuesIn}
 use Rattle.roles.specs.Role.{shapeOf}
 use Rattle.roles.specs.Rule14.{rule14}
-use Rattle.judge.specs.Message.{NoneBroken, verdictOf}
-use Rattle.judge.proofs.RuleLaws.{accepted-rules, rules-accepted}
-use Rattle.judge.proofs.VerdictTheorems.{frame-clean}
+use Rattle.message.specs.Message.{NoneBroken, verdictOf}
+use Rattle.message.proofs.RuleLaws.{accepted-rules, rules-accepted}
+use Rattle.message.proofs.VerdictTheorems.{frame-clean}
 use Rattle.records.specs.Record.{records}
 use Rattle.records.specs.Rule19.{sheetForm, sheetSign}
 use Rattle.writer.specs.Spread.{contentLines, fieldFor, spread}

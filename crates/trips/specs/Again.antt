@@ -18,7 +18,7 @@ use Rattle.fields.specs.Field.{Field, field, fields}
 use Rattle.types.specs.Sign.{signOf}
 use Rattle.roles.specs.Role.{shapeOf, Part, copy, name, taxName}
 use Rattle.roles.specs.declared.Shape.the-variants.{Details}
-use Rattle.judge.specs.Message.{verdictOf}
+use Rattle.message.specs.Message.{verdictOf}
 use Rattle.writer.specs.Spread.{contentLines}
 use Rattle.written.specs.Sentences.{NoWay}
 use Rattle.sheets.specs.Gather.{contentParts, sheetOf}

@@ -10,7 +10,7 @@ use Rattle.base.specs.Quoted.{bytes, desk}
 use Rattle.base.specs.Rules.{first}
 use Rattle.base.specs.declared.Verdict.the-variants.{Fine, Broken}
 use Rattle.frame.specs.Cases.{sample}
-use Rattle.judge.specs.Message.{verdictOf}
+use Rattle.message.specs.Message.{verdictOf}
 use Rattle.writer.specs.Sheet.{messageFor, sheetRules, writeRules}
 use Rattle.written.specs.Cases.{sheet103}
 use Rattle.sheets.specs.Gather.{sheetOf}

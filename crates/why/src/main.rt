@@ -3,7 +3,7 @@
 // stand. What comes out is what the number means, what to do and, where it can be told, the field and the line that are at fault.
 mod english;
 mod lines;
-mod message;
+mod messages;
 mod missing;
 mod question;
 mod room;
@@ -14,7 +14,7 @@ mod texts;
 mod words;
 
 use base::bytes::front;
-use message::put_message;
+use messages::put_message;
 use question::Asked;
 use question::Question;
 use question::question_at;

@@ -15,7 +15,7 @@ use crate::words::put_remark;
 use base::Outcome;
 use base::Verdict;
 use base::bytes::front;
-use judge::verdict::judge;
+use message::verdict::judge;
 use records::sheets::judge_sheet;
 use types::Form;
 use writer::draft::draft;

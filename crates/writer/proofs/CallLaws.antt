@@ -17,7 +17,7 @@ use Rattle.base.proofs.CallLaws.{is-long, is-short, not-short, gives-refused, g
 use Rattle.fields.specs.Frame.{limit, rule1}
 use Rattle.types.specs.declared.Form.{Form}
 use Rattle.types.specs.Walk.{rule18}
-use Rattle.judge.specs.Message.{verdictOf}
+use Rattle.message.specs.Message.{verdictOf}
 use Rattle.records.specs.Rule19.{sheetForm}
 use Rattle.writer.specs.Sheet.{messageFor, sheetRules, handRules, MessageTo, DraftTo}
 use Rattle.writer.specs.declared.Build.{Build}

@@ -13,7 +13,7 @@ use Rattle.base.specs.declared.Verdict.the-variants.{Fine, Broken}
 use Rattle.base.specs.declared.Outcome.the-variants.{Done, Refused}
 use Rattle.base.proofs.Room.{over-sets, placed-fits}
 use Rattle.base.proofs.CallLaws.{gives-refused, gives-done, gives-past, is-short, not-short}
-use Rattle.judge.specs.Message.{verdictOf}
+use Rattle.message.specs.Message.{verdictOf}
 use Rattle.writer.specs.Sheet.{atStart, handRules}
 use Rattle.writer.specs.Steps.{Hands}
 

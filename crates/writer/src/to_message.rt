@@ -9,7 +9,7 @@ use super::built::build;
 use base::Outcome;
 use base::Verdict;
 use base::bytes::put;
-use judge::verdict::judge;
+use message::verdict::judge;
 use types::Form;
 
 // The message put into the lent room, which has room for it; or its own refusal, with place 0.

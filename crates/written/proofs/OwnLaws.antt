@@ -24,8 +24,8 @@ use Rattle.contents.specs.Rule8.{rightField, rule8}
 use Rattle.contents.proofs.RuleLaws.{own-number}
 use Rattle.values.proofs.RuleLaws.{broken9, broken10, broken11, broken12, broken13}
 use Rattle.roles.specs.Rule14.{rule14}
-use Rattle.judge.specs.Message.{EachRule, verdictOf}
-use Rattle.judge.proofs.RuleLaws.{verdict-holds}
+use Rattle.message.specs.Message.{EachRule, verdictOf}
+use Rattle.message.proofs.RuleLaws.{verdict-holds}
 use Rattle.records.specs.Rule19.{sheetForm}
 use Rattle.written.specs.Sentences.{Own}
 use Rattle.writer.specs.Sheet.{messageFor, sheetRules, atStart, ownRule}

@@ -24,7 +24,7 @@ use Rattle.types.specs.declared.Form.{Form}
 use Rattle.types.specs.declared.Form.the-variants.{Other, Mt103, Mt202}
 use Rattle.types.specs.Form.{places103, places202}
 use Rattle.types.specs.Walk.{rule18}
-use Rattle.judge.specs.Message.{verdictOf}
+use Rattle.message.specs.Message.{verdictOf}
 use Rattle.records.specs.Record.{records}
 use Rattle.records.specs.Rule19.{sheetForm, sheetSign, rule19}
 use Rattle.records.specs.Sentences.{BadSheetAt}

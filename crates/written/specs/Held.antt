@@ -9,7 +9,7 @@ use Rattle.base.specs.declared.Verdict.the-variants.{Broken}
 use Rattle.base.specs.declared.Outcome.{Outcome}
 use Rattle.base.specs.declared.Outcome.the-variants.{Done}
 use Rattle.fields.specs.Field.{opening, closing, withCrLf, linesOf}
-use Rattle.judge.specs.Message.{verdictOf}
+use Rattle.message.specs.Message.{verdictOf}
 use Rattle.records.specs.Record.{Record, sheet, records}
 use Rattle.records.specs.Rule19.{sheetForm, sheetSign}
 use Rattle.writer.specs.Spread.{spread}

@@ -2,7 +2,7 @@
 use mathlib.Core.Path.{refl, ap, _∙_}
 use Rattle.types.specs.declared.Form.{Form}
 use Rattle.types.specs.Form.{formOf}
-use Rattle.judge.specs.Message.{judgedOf}
+use Rattle.message.specs.Message.{judgedOf}
 use Rattle.reader.proofs.PlaceLaws.{place-far, place-is}
 use borrow.Author.Needs.{needs}
 use Rattle.reader.proofs.place_behind.Statement.{statement}

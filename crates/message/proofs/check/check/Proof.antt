@@ -8,12 +8,12 @@ use Rattle.base.specs.Calls.{placed}
 use Rattle.fields.specs.Field.{fields}
 use Rattle.frame.proofs.CallLaws.{taken, Found}
 use Rattle.base.specs.declared.Verdict.the-variants.{Fine}
-use Rattle.judge.specs.Message.{verdictOf}
-use Rattle.judge.proofs.VerdictTheorems.{judged-by, judged-found}
+use Rattle.message.specs.Message.{verdictOf}
+use Rattle.message.proofs.VerdictTheorems.{judged-by, judged-found}
 use Rattle.message.specs.declared.Checked.the-variants.{Accepted, Refused}
 use Rattle.message.specs.Calls.{Checks}
-use Rattle.listing.proofs.SpotLaws.{numbers-listed}
-use Rattle.message.proofs.CallLaws.{gives-refused, gives-short, gives-full}
+use Rattle.message.proofs.SpotLaws.{numbers-listed}
+use Rattle.message.proofs.CheckLaws.{gives-refused, gives-short, gives-full}
 use borrow.Author.Needs.{needs}
 use Rattle.message.proofs.check.check.Statement.{statement}
 use Rattle.message.proofs.check.check.Tie as tie

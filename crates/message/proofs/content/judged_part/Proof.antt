@@ -1,6 +1,6 @@
 -- `message::content::judged_part` meets its contract: nothing where the message is refused, else the part of the place. Assumes nothing.
 use mathlib.Core.Path.{sym, _∙_}
-use Rattle.judge.proofs.VerdictTheorems.{judged-by}
+use Rattle.message.proofs.VerdictTheorems.{judged-by}
 use Rattle.message.proofs.PartLaws.{part-judged}
 use borrow.Author.Needs.{needs}
 use Rattle.message.proofs.content.judged_part.Statement.{statement}

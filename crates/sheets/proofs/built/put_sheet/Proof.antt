@@ -4,7 +4,7 @@ use mathlib.Core.Path.{_∙_}
 use borrow.Author.Needs.{needs}
 use Rattle.sheets.proofs.built.put_sheet.Statement.{statement}
 use Rattle.sheets.proofs.built.put_sheet.Tie as tie
-use Rattle.judge.proofs.PartLaws.{signed-is}
+use Rattle.message.proofs.FieldLaws.{signed-is}
 
 back-table-requires : tie.Need-back-table-requires
 back-table-requires c κs = search needs

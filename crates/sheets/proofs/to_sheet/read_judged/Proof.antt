@@ -1,5 +1,5 @@
 -- `sheets::to_sheet::read_judged` meets its contract. Assumes nothing.
-use Rattle.judge.proofs.VerdictTheorems.{judged-by}
+use Rattle.message.proofs.VerdictTheorems.{judged-by}
 use Rattle.sheets.proofs.CallLaws.{own-refused, judged-sound}
 use borrow.Author.Needs.{needs}
 use Rattle.sheets.proofs.to_sheet.read_judged.Statement.{statement}

@@ -1,7 +1,7 @@
 -- `writer::to_message::hand_over` meets its contract: the message's own refusal, or the message put. Assumes nothing.
 use mathlib.Core.Path.{refl, _∙_}
 use borrow.Author.Needs.{needs}
-use Rattle.judge.proofs.VerdictTheorems.{judged-by}
+use Rattle.message.proofs.VerdictTheorems.{judged-by}
 use Rattle.writer.proofs.HandLaws.{hand-refused, hand-done}
 use Rattle.writer.proofs.to_message.hand_over.Statement.{statement}
 use Rattle.writer.proofs.to_message.hand_over.Tie as tie
