@@ -1,7 +1,7 @@
--- Where the fields stand in the bytes of a message: their contents are parts of it, and the list is given by the colons. Assumes nothing.
-use Prim.Native.Nat.{ℕ, zero, suc, _+_, _*_, _-_, _≤_, _<_}
+-- Where the fields stand in the bytes of a message: their contents are parts of it, and the list has three numbers for each. Assumes nothing.
+use Prim.Native.Nat.{ℕ, _+_, _*_, _-_, _≤_, _<_}
 use mathlib.Core.Path.{_≡_, refl, sym, ap, ap₂, _∙_}
-use mathlib.Core.Bool.{Bool, true, false≢true}
+use mathlib.Core.Bool.{Bool, true}
 use mathlib.Core.List.{List, [], _∷_, _++_, append-assoc}
 use native.Mathlib.Omega.{arith}
 use lib.Dec.{eqb}
@@ -12,14 +12,13 @@ use lib.Seq.{take-at, drop-at, drop-drop, getD-drop}
 use Rattle.base.specs.Choice.{pick, all}
 use Rattle.base.specs.Bytes.{byte}
 use Rattle.base.specs.declared.Verdict.the-variants.{Fine}
-use Rattle.fields.specs.Field.{Field, field, closing, withCrLf, lined, linesOf, message, body, lines, fields}
+use Rattle.fields.specs.Field.{Field, field, closing, withCrLf, lined, linesOf, message, fields}
 use Rattle.fields.specs.Frame.{rule2, rule3, rule4}
-use Rattle.fields.specs.Places.{linesSize, startOf, nextOf, endOf, colonsOf, listed}
+use Rattle.fields.specs.Places.{linesSize, startOf, nextOf, endOf, listed}
 use Rattle.fields.specs.Shapes.{shaped, shapedTag, lineable, pack}
-use Rattle.fields.specs.ByLines.{colonsAt, joined, startAt, tagAt, firstOr, listedBy, Standing}
-use Rattle.base.proofs.Bools.{left, right}
+use Rattle.fields.specs.ByLines.{joined, startAt, tagAt, Standing}
+use Rattle.base.proofs.Bools.{right}
 use Rattle.fields.proofs.TagLaws.{Shape, plain, lettered, shape-of, tag-long, no-colon}
-use Rattle.fields.proofs.ByLines.{colons-body}
 use Rattle.fields.proofs.FieldLaws.{message-fields, fields-lineable, fields-shaped, fields-dash, crlf-size}
 
 -- ---- fields that stand in a message from o on
@@ -130,36 +129,11 @@ module _ (m : List ℕ) (o : ℕ) (t l : List ℕ) (ls : List (List ℕ)) (fs : 
       ap (take (endOf o (field t (l ∷ ls)) - startOf o (field t (l ∷ ls)))) (content-bytes ∙ ap (λ (x : List ℕ). x ++ r) a ∙ append-assoc j (13 ∷ 10 ∷ []) r)
       ∙ take-at j (13 ∷ 10 ∷ r) (endOf o (field t (l ∷ ls)) - startOf o (field t (l ∷ ls))) n
 
-listed-standing : (m : List ℕ) (fs : List Field) (o : ℕ) → Standing m o fs → listed o fs ≡ listedBy m (length m - 2) (colonsOf o fs)
-unfolding listed listedBy
-listed-standing m [] o w = refl
-listed-standing m (field t [] ∷ fs) o w = absurd (false≢true (w .able))
-listed-standing m (field t (l ∷ ls) ∷ fs) o w =
-    let v = next-standing m o t l ls fs w in
-    let a = start-at m o t (withCrLf (l ∷ ls) ++ (withCrLf (linesOf fs) ++ closing)) (left (shaped t) (all shapedTag fs) (w .tags)) (field-bytes m o t l ls fs w) in
-    let b = ap (λ (n : ℕ). n - 2) (go fs v) in
-    let h = listed-standing m fs (nextOf o (field t (l ∷ ls))) v in
-    sym (ap₂ (λ (x : ℕ) (xs : List ℕ). o ∷ x ∷ xs) a (ap₂ (λ (x : ℕ) (xs : List ℕ). x ∷ xs) b (sym h)))
-  where
-    go : (gs : List Field) → Standing m (nextOf o (field t (l ∷ ls))) gs → firstOr (length m - 2) (colonsOf (nextOf o (field t (l ∷ ls))) gs) ≡ nextOf o (field t (l ∷ ls))
-    go [] v = let d = v .dash in omega arith
-    go (g ∷ gs) v = refl
-
 -- three numbers a field
 pub listed-length : (o : ℕ) (fs : List Field) → length (listed o fs) ≡ 3 * length fs
 unfolding listed
 listed-length o [] = refl
 listed-length o (f ∷ fs) = let h = listed-length (nextOf o f) fs in omega arith
-
--- the colons, and the - behind them, stand within the lines
-pub colons-within : (fs : List Field) (o e k : ℕ) → o + linesSize (linesOf fs) ≡ e → k ≤ length fs → (o ≤ byte (colonsOf o fs ++ e ∷ []) k) × (byte (colonsOf o fs ++ e ∷ []) k ≤ e)
-colons-within [] o e zero z h = (omega arith, omega arith)
-colons-within [] o e (suc k) z h = absurd (omega arith)
-colons-within (f ∷ fs) o e zero z h = (omega arith, omega arith)
-colons-within (f ∷ fs) o e (suc k) z h =
-    let s = size-append (lined f) (linesOf fs) in
-    let w = colons-within fs (nextOf o f) e k (omega arith) (omega arith) in
-    (omega (arith, w .0), w .1)
 
 -- ---- a message that 2, 3 and 4 do not refuse
 module _ (m : List ℕ) (e2 : rule2 m ≡ Fine) (e3 : rule3 m ≡ Fine) (e4 : rule4 m ≡ Fine) where
@@ -172,7 +146,3 @@ module _ (m : List ℕ) (e2 : rule2 m ≡ Fine) (e3 : rule3 m ≡ Fine) (e4 : ru
         able = fields-lineable m e4;
         tags = fields-shaped m e4;
       }
-
-  -- the list is given by the colons
-  pub listed-colons : listed 5 (fields m) ≡ listedBy m (length m - 2) (colonsAt 5 (lines (body m)))
-  listed-colons = listed-standing m (fields m) 5 fields-stand ∙ ap (listedBy m (length m - 2)) (sym (colons-body m e4))

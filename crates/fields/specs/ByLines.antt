@@ -35,7 +35,7 @@ joined [] = []
 joined (l ∷ []) = l
 joined (l ∷ k ∷ ls) = l ++ ascii "\r" ∷ ascii "\n" ∷ joined (k ∷ ls)
 
--- ---- the list by its colons
+-- ---- a field by its colon
 -- the content starts behind the tag's second colon
 unfoldable pub startAt : List ℕ → ℕ → ℕ
 startAt m o = pick (eqb (byte m (o + 3)) (ascii ":")) (o + 4) (o + 5)
@@ -43,15 +43,6 @@ startAt m o = pick (eqb (byte m (o + 3)) (ascii ":")) (o + 4) (o + 5)
 -- the tag stands between two colons; as one number, where there are so many bytes
 unfoldable pub tagAt : List ℕ → ℕ → ℕ
 tagAt m o = pick (ltb (o + 3) (length m)) (byte m (o + 1) * 65536 + byte m (o + 2) * 256 + pick (eqb (byte m (o + 3)) (ascii ":")) 0 (byte m (o + 3))) 0
-
-abbrev pub firstOr : ℕ → List ℕ → ℕ
-firstOr e [] = e
-firstOr e (o ∷ os) = o
-
--- and ends before the CR LF in front of the next colon, or of the - at e
-unfoldable pub listedBy : List ℕ → ℕ → List ℕ → List ℕ
-listedBy m e [] = []
-listedBy m e (o ∷ os) = o ∷ startAt m o ∷ (firstOr e os - 2) ∷ listedBy m e os
 
 -- ---- from o on these fields stand in a message, and the - behind them
 pub record Standing (m : List ℕ) (o : ℕ) (fs : List Field) : Type 0 where

@@ -1,18 +1,16 @@
 -- The ways out of the call that fills the list. Assumes nothing.
-use Prim.Native.Nat.{ℕ, _+_, _*_, _≤_, _<_}
+use Prim.Native.Nat.{ℕ, _*_, _≤_, _<_}
 use mathlib.Core.Path.{_≡_, refl, sym, ap, ap₂, _∙_, subst}
 use mathlib.Core.List.{List}
 use native.Mathlib.Omega.{arith}
-use native.Mathlib.Nat.{zero-add}
 use lib.ListN.{length}
 use Rattle.types.specs.declared.Form.{Form}
 use Rattle.base.specs.Rules.{then, first}
-use Rattle.base.specs.Calls.{short, room, placed}
+use Rattle.base.specs.Calls.{short, over, room}
 use Rattle.base.specs.declared.Verdict.{Verdict}
 use Rattle.base.specs.declared.Verdict.the-variants.{Fine, Broken}
 use Rattle.base.proofs.RuleLaws.{first-last}
 use Rattle.base.proofs.CallLaws.{is-short, not-short}
-use Rattle.base.proofs.Room.{over-sets, placed-fits}
 use Rattle.fields.specs.Field.{fields}
 use Rattle.fields.specs.Places.{listed}
 use Rattle.fields.proofs.PlaceLaws.{listed-length}
@@ -39,9 +37,5 @@ module _ (form : Form) (m list : List ℕ) where
         let n = listed-length 5 (fields m) in
         subst (λ (k : ℕ). Checks form m list (Refused 17 k) list) n (by (last-17 e (is-short (listed 5 (fields m)) list (omega arith))))
 
-    pub gives-full : 3 * length (fields m) ≤ length list → Checks form m list (Accepted (length (fields m)) (wordOf form m)) (placed list 0 (listed 5 (fields m)))
-    gives-full h =
-        let n = listed-length 5 (fields m) in
-        let z : 0 + length (listed 5 (fields m)) ≡ length (listed 5 (fields m)) = zero-add (length (listed 5 (fields m))) in
-        subst (Checks form m list (Accepted (length (fields m)) (wordOf form m))) (over-sets (listed 5 (fields m)) list (omega arith) ∙ sym (placed-fits list 0 (listed 5 (fields m)) (omega arith)))
-        (by (last-17 e (not-short (listed 5 (fields m)) list (omega arith))))
+    pub gives-full : 3 * length (fields m) ≤ length list → Checks form m list (Accepted (length (fields m)) (wordOf form m)) (over (listed 5 (fields m)) list)
+    gives-full h = let n = listed-length 5 (fields m) in by (last-17 e (not-short (listed 5 (fields m)) list (omega arith)))

@@ -36,8 +36,7 @@ use Rattle.message.specs.Calls.{checkRules, checkedBy, Checks, Listed, s
 use Rattle.message.proofs.PartLaws.{content-some}
 use Rattle.frame.proofs.CallLaws.{taken}
 use Rattle.message.proofs.VerdictTheorems.{frame-clean}
-use Rattle.message.proofs.SpanLaws.{part-absent, part-listed}
-use Rattle.message.proofs.SpanLaws as spans
+use Rattle.message.proofs.SpanLaws.{listedPart, part-absent, part-listed}
 use Rattle.types.specs.Sentences.{placeOfField, Present}
 
 -- ---- any two outcomes are equal, lent units counted
@@ -123,7 +122,7 @@ module _ (form : Form) (m : List ℕ) (place : ℕ) where
   clean-span e = ap (λ (v : Verdict). spanBy v (partAt (placesOf form) place 5 (fields m))) e
 
   -- the start and the end that the list has for the field with that place
-  pub span-listed : verdictOf form m ≡ Fine → (k : ℕ) → k < length (fields m) → placeOfField (placesOf form) (fields m) k ≡ place → spanOf form m place ≡ spans.partOf (listed 5 (fields m)) k
+  pub span-listed : verdictOf form m ≡ Fine → (k : ℕ) → k < length (fields m) → placeOfField (placesOf form) (fields m) k ≡ place → spanOf form m place ≡ listedPart (listed 5 (fields m)) k
   span-listed e k h q = clean-span e ∙ part-listed (placesOf form) 0 5 (fields m) k place (taken form m (frame-clean form m e) .right) h q
 
   not-nothing : (s t : ℕ) → Part s t ≡ Nothing → ⊥
@@ -151,7 +150,7 @@ module _ (form : Form) (m : List ℕ) (place : ℕ) where
       back (absent h) = at (verdictOf form m) refl h
 
 -- the two calls agree: where the word has the place's bit, the part is what the list has behind as many fields as there are ones below
-pub span-agrees : {form : Form} {m list : List ℕ} {n w : ℕ} {after : List ℕ} → Listed form m list n w after → (place : ℕ) → bit w place ≡ 1 → spanOf form m place ≡ spans.partOf after (ones (w % 2 ^ place))
+pub span-agrees : {form : Form} {m list : List ℕ} {n w : ℕ} {after : List ℕ} → Listed form m list n w after → (place : ℕ) → bit w place ≡ 1 → spanOf form m place ≡ listedPart after (ones (w % 2 ^ place))
 span-agrees {form} {m} {list} {n} {w} {after} l place b =
     let p = l .bits place .0 b in
     let t = taken form m (frame-clean form m (l .message-clean)) in
@@ -162,7 +161,7 @@ span-agrees {form} {m} {list} {n} {w} {after} l place b =
     let front : (i : ℕ) → i < length (listed 5 (fields m)) → byte (listed 5 (fields m)) i ≡ byte after i =
     λ i g. sym (ap (λ (x : List ℕ). byte x i) (l .filled) ∙ List·getD-append (listed 5 (fields m)) (drop (length (listed 5 (fields m))) list) 0 i g) in
     span-listed form m place (l .message-clean) k (p .within) (p .place)
-    ∙ ap₂ Part (front (3 * k + 1) (omega arith)) (front (3 * k + 2) (omega arith)) ∙ ap (spans.partOf after) (sym e)
+    ∙ ap₂ Part (front (3 * k + 1) (omega arith)) (front (3 * k + 2) (omega arith)) ∙ ap (listedPart after) (sym e)
 
 -- ---- the content of a place
 pub content-one : (form : Form) (m : List ℕ) (place : ℕ) {a b : List ℕ} → a ≡ contentOf form m place → b ≡ contentOf form m place → a ≡ b

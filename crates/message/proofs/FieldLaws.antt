@@ -6,7 +6,7 @@ use mathlib.Core.List.{List, [], _∷_, _++_, append-assoc}
 use native.Mathlib.Omega.{arith}
 use native.Mathlib.Numerals.{add-one}
 use lib.Dec.{eqb}
-use lib.ListN.{length, take, drop, getD, length-append, drop-of-length-le}
+use lib.ListN.{length, take, drop, getD, length-append, drop-of-length-le, List·getD-append}
 use lib.Seq.{drop-cons, getD-drop}
 use Rattle.types.specs.declared.Form.{Form}
 use Rattle.base.specs.Choice.{pick, all}
@@ -17,16 +17,24 @@ use Rattle.fields.specs.Field.{Field, field, closing, withCrLf, linesOf, fields
 use Rattle.fields.specs.Places.{startOf, nextOf, endOf, colonsOf}
 use Rattle.fields.specs.Shapes.{shaped, shapedTag, follows, lineable, unpack}
 use Rattle.fields.specs.ByLines.{startAt, tagAt, Standing}
+use Rattle.fields.proofs.ByLines.{colons-length}
 use Rattle.fields.proofs.TagLaws.{shape-of, tag-long}
 use Rattle.fields.proofs.PackLaws.{unpack-pack}
 use Rattle.fields.proofs.PlaceLaws.{start-at, tag-at, field-bytes, next-standing, content-bytes, content-part, fields-stand}
 use Rattle.contents.proofs.RuleLaws.{firstOf}
+use Rattle.frame.specs.Frame.{spotsOf}
 use Rattle.frame.proofs.CallLaws.{Found, taken}
-use Rattle.message.proofs.SpotLaws.{spot-at}
-use Rattle.message.specs.declared.parts.Part.{Part}
+use Rattle.message.specs.declared.parts.FieldAt.{FieldAt}
 use Rattle.message.specs.Parts.{Settled, Here}
 
 -- ---- the fields stand at their spots
+spot-at : {form : Form} {m spots : List ℕ} {w : ℕ} → Found form m spots w → (k : ℕ) → k ≤ length (fields m) → byte spots k ≡ byte (colonsOf 5 (fields m) ++ (length m - 2) ∷ []) k
+unfolding spotsOf
+spot-at {m = m} f k h =
+    let n = length-append (colonsOf 5 (fields m)) ((length m - 2) ∷ []) in
+    let c = colons-length 5 (fields m) in
+    ap (λ (l : List ℕ). byte l k) (f .spots-are) ∙ List·getD-append (colonsOf 5 (fields m) ++ (length m - 2) ∷ []) _ 0 k (omega arith)
+
 colon-stands : (m : List ℕ) (fs : List Field) (o k : ℕ) → Standing m o fs → k ≤ length fs → Standing m (byte (colonsOf o fs ++ (length m - 2) ∷ []) k) (drop k fs)
 colon-stands m [] o zero w h = let d = w .dash in let z : o ≡ length m - 2 = omega arith in subst (λ (i : ℕ). Standing m i []) z w
 colon-stands m [] o (suc k) w h = absurd (omega arith)
@@ -114,6 +122,7 @@ module _ {m spots : List ℕ} (s : Settled m spots) (k : ℕ) (h : k < length (f
             next-is = w .next ∙ ap (λ (i : ℕ). nextOf i (field (w .tag) (w .line ∷ w .more))) (sym p);
             tag-is = ap unpack (q ∙ ap (tagAt m) p ∙ tag-at m o (w .tag) behind (w .shape) d) ∙ unpack-pack (w .tag) (w .shape);
             start-is = st ∙ ap (λ (i : ℕ). startOf i (field (w .tag) (w .line ∷ w .more))) (sym p);
+            end-is = en ∙ ap (λ (i : ℕ). endOf i (field (w .tag) (w .line ∷ w .more))) (sym p);
             content-is = ap₂ (λ (x y : ℕ). take (x - y) (drop y m)) en st ∙ content-part m o (w .tag) (w .line) (w .more) rest (w .here);
             no-cr = left (all (without 13) (w .line ∷ w .more)) (all follows (w .more)) (right (without 13 (w .tag)) _ (right (without 58 (w .tag)) _ able));
             sign-is = ap (λ (x : ℕ). eqb x 43) (first-byte m a) ∙ ap (λ (x : List ℕ). eqb (byte x 0) 43) (ap (λ (i : ℕ). drop i m) st ∙ content) ∙ sign-at (w .line) ((10 ∷ withCrLf (w .more)) ++ (withCrLf (linesOf rest) ++ closing));
@@ -122,10 +131,10 @@ module _ {m spots : List ℕ} (s : Settled m spots) (k : ℕ) (h : k < length (f
           }
 
 -- ---- a walk over the fields, from spot to spot
-abbrev pub fieldOf : {m spots : List ℕ} {k : ℕ} {p : Part} → Here m spots k p → Field
+abbrev pub fieldOf : {m spots : List ℕ} {k : ℕ} {p : FieldAt} → Here m spots k p → Field
 fieldOf h = field (h .tag) (h .line ∷ h .more)
 
-module _ {m spots : List ℕ} {k : ℕ} {p : Part} (h : Here m spots k p) {R : Type 0} (F : ℕ → List Field → R) where
+module _ {m spots : List ℕ} {k : ℕ} {p : FieldAt} (h : Here m spots k p) {R : Type 0} (F : ℕ → List Field → R) where
   pub at-field : F (byte spots k) (drop k (fields m)) ≡ F (p .colon) (fieldOf h ∷ drop (k + 1) (fields m))
   at-field = ap₂ F (sym (h .colon-is)) (h .is)
 
@@ -139,11 +148,7 @@ pub walk-end : (m : List ℕ) {k n : ℕ} (o : ℕ) {R : Type 0} (F : ℕ → Li
 walk-end m {k} {n} o F e h = ap (F o) (drop-of-length-le (fields m) {i = k} (omega arith))
 
 -- ---- the sign
-pub no-sign : (fs : List Field) {n : ℕ} → n ≡ length fs → n ≡ 0 → false ≡ begins 43 (firstOf fs)
-no-sign [] e z = refl
-no-sign (f ∷ fs) e z = absurd (omega arith)
-
-pub sign-here : {m spots : List ℕ} {p : Part} → Here m spots 0 p → eqb (byte m (p .start)) 43 ≡ begins 43 (firstOf (fields m))
+pub sign-here : {m spots : List ℕ} {p : FieldAt} → Here m spots 0 p → eqb (byte m (p .start)) 43 ≡ begins 43 (firstOf (fields m))
 sign-here h = h .sign-is ∙ ap (λ (fs : List Field). begins 43 (firstOf fs)) (sym (h .is))
 
 -- by the first content's place, which is known of any bytes

@@ -1,7 +1,6 @@
-pub mod SpotLaws
+pub mod FieldLaws
 pub mod FillLaws
 pub mod SpanLaws
-pub mod FieldLaws
 pub mod FactLaws
 pub mod LoopLaws
 pub mod JudgeLaws

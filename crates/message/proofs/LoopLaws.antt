@@ -40,7 +40,7 @@ use Rattle.roles.specs.Rule14.{unheard, speechesOf}
 use Rattle.roles.specs.Found.{brokenIn, verdictAt}
 use Rattle.roles.proofs.BreachLaws.{unheard-within, spoken-within}
 use Rattle.roles.proofs.BackTableLaws.{field-found, spoken-next}
-use Rattle.message.specs.declared.parts.Part.{Part}
+use Rattle.message.specs.declared.parts.FieldAt.{FieldAt}
 use Rattle.message.specs.declared.facts.Facts.{Facts}
 use Rattle.message.specs.Parts.{Settled, Here}
 use Rattle.message.specs.Facts.{withTag, withFinds, valuesFor, findsIn, withField, factsFrom}
@@ -57,7 +57,7 @@ plain-found c sign ls f e = subst (FoundIn c sign ls) e f
 pub some-found : (c : Content) (sign : Bool) (ls : List (List ℕ)) {r : Found} {x : Finds} → FoundIn c sign ls r → r ≡ Has x → Right c sign ls × Finding c ls x
 some-found c sign ls f e = let w = subst (FoundIn c sign ls) e f in (w .0, w .1)
 
-module _ {m spots : List ℕ} {k : ℕ} {p : Part} (h : Here m spots k p) where
+module _ {m spots : List ℕ} {k : ℕ} {p : FieldAt} (h : Here m spots k p) where
   abbrev content : List ℕ
   content = take (p .end - p .start) (drop (p .start) m)
 
@@ -147,7 +147,7 @@ place-small {m} {spots} s form k n q h e =
     omega (arith, s .stand k h .dash, unheard-within (speechesOf form o fs) (o + 2) (o + linesSize (linesOf fs) + 2) n q (spoken-within form o fs) (sym e))
 
 -- ---- 9 to 13: one field more
-pub field-on : {m spots : List ℕ} {k : ℕ} {p : Part} (h : Here m spots k p) (form : Form) (f : Facts) {e g : Facts} {x : Finds} → x ≡ findsIn form (fieldOf h)
+pub field-on : {m spots : List ℕ} {k : ℕ} {p : FieldAt} (h : Here m spots k p) (form : Form) (f : Facts) {e g : Facts} {x : Finds} → x ≡ findsIn form (fieldOf h)
     → e ≡ withTag f (p .colon) (unpack (p .tag)) → g ≡ withFinds e (p .start) (unpack (p .tag)) x
     → factsFrom form f (byte spots k) (drop k (fields m)) ≡ factsFrom form g (byte spots (k + 1)) (drop (k + 1) (fields m))
 unfolding factsFrom

@@ -26,11 +26,8 @@ use Rattle.contents.proofs.SizeLaws.{right-nonempty}
 use Rattle.message.specs.declared.Span.{Span}
 use Rattle.message.specs.declared.Span.the-variants.{Part, Nothing}
 use Rattle.message.specs.Lists.{partAt}
-use Rattle.message.specs.Numbers.{partBy}
-use Rattle.message.proofs.SpanLaws.{part-is}
-use Rattle.frame.specs.declared.Frame.{Frame}
-use Rattle.message.specs.Message.{verdictOf, judgedOf}
-use Rattle.message.proofs.VerdictTheorems.{frame-clean, contents-right, judged-by, judged-found}
+use Rattle.message.specs.Message.{verdictOf}
+use Rattle.message.proofs.VerdictTheorems.{frame-clean, contents-right}
 use Rattle.message.specs.Calls.{spanBy, spanOf, partOf, contentOf, paid, Inside}
 
 -- ---- inside
@@ -67,12 +64,10 @@ inside-span form m q = go (verdictOf form m) refl
 pub inside-is : (m : List ℕ) {s r : Span} → r ≡ s → Inside m s → Inside m r
 inside-is m e i = subst (Inside m) (sym e) i
 
--- ---- what is made of a judged message
-module _ (form : Form) (m : List ℕ) {f : Frame} (e : f ≡ judgedOf form m) where
-  pub part-judged : (v : Verdict) → f .verdict ≡ v → (q : ℕ) → spanBy v (partBy m (f .spots) (f .present) q) ≡ spanOf form m q
-  unfolding spanOf
-  part-judged Fine d q = part-is (judged-found form m e d) q ∙ ap (λ (v : Verdict). spanBy v (partAt (placesOf form) q 5 (fields m))) (sym (judged-by form m e d))
-  part-judged (Broken n p) d q = ap (λ (v : Verdict). spanBy v (partAt (placesOf form) q 5 (fields m))) (sym (judged-by form m e d))
+-- ---- what a judged message has at a place
+pub span-by : (form : Form) (m : List ℕ) {v : Verdict} → verdictOf form m ≡ v → (q : ℕ) → spanBy v (partAt (placesOf form) q 5 (fields m)) ≡ spanOf form m q
+unfolding spanOf
+span-by form m e q = ap (λ (v : Verdict). spanBy v (partAt (placesOf form) q 5 (fields m))) (sym e)
 
 pub paid-part : (form : Form) (m : List ℕ) {c : List ℕ} {s : Span} {q : ℕ} → c ≡ partOf m s → s ≡ spanOf form m q → q ≡ find (placesOf form) (bytes "32A") → c ≡ paid form m
 unfolding paid contentOf

@@ -2,7 +2,6 @@ pub mod Message
 pub mod Parts
 pub mod Facts
 pub mod Lists
-pub mod Numbers
 pub mod Calls
 pub mod Paid
 pub mod Cases

@@ -28,7 +28,7 @@ pub(crate) fn judged_part(form: Form, m: &[u8], place: usize) -> JudgedPart
         },
         Verdict::Fine => JudgedPart {
             verdict: Verdict::Fine,
-            part: part_of(m, &spots, word, place),
+            part: part_of(form, m, &spots, word, place),
         },
     }
 }

@@ -8,14 +8,14 @@ use fields::tag_at;
 use frame::SPOTS;
 
 // A field: its colon, its tag as one number, and its content.
-pub(crate) struct Part {
+pub(crate) struct FieldAt {
     pub colon: usize,
     pub tag: u32,
     pub start: usize,
     pub end: usize,
 }
 
-pub(crate) fn field_at(m: &[u8], spots: &[u32; SPOTS], k: usize) -> Part
+pub(crate) fn field_at(m: &[u8], spots: &[u32; SPOTS], k: usize) -> FieldAt
     requires { ⌜ Settled (now m) (now spots) × (k < length (fields (now m))) ⌝ }
     ensures { λ r. ⌜ Here (now (m .entry)) (now (spots .entry)) k r ⌝ }
 {
@@ -23,7 +23,7 @@ pub(crate) fn field_at(m: &[u8], spots: &[u32; SPOTS], k: usize) -> Part
     let next = spots[k + 1];
     let colon = o as usize;
     let start = start_at(m, o);
-    Part {
+    FieldAt {
         colon,
         tag: tag_at(m, o),
         start,

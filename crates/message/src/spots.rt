@@ -1,25 +1,24 @@
-// From the spots that the pass found: the numbers of the fields, and the part of a place.
+// From the spots that the pass found: the list of the fields, and the part of a place.
 ghost use mathlib.Core.Path.{_≡_};
 ghost use mathlib.Core.List.{[], _∷_};
-ghost use Prim.Native.Nat.{_+_, _-_, _≤_};
+ghost use Prim.Native.Nat.{_+_, _*_, _≤_};
 ghost use lib.ListN.{length};
 ghost use lib.Seq.{sets};
-ghost use Rattle.base.specs.Calls.{placed};
-ghost use Rattle.types.specs.Tables.{most};
-ghost use Rattle.message.specs.Numbers.{numbersFrom, numbers, spotAt, partBy};
+ghost use Rattle.base.specs.Calls.{over};
+ghost use Rattle.fields.specs.Field.{fields};
+ghost use Rattle.fields.specs.Places.{listed};
+ghost use Rattle.types.specs.Form.{placesOf};
+ghost use Rattle.types.specs.Walk.{walked};
+ghost use Rattle.frame.specs.Frame.{wordOf};
+ghost use Rattle.message.specs.Lists.{partAt};
+ghost use Rattle.message.specs.Parts.{Settled};
 use super::Span;
+use super::parts::field_at;
+use base::Verdict;
 use base::bits::bit_at;
 use base::bits::ones_below;
-use fields::start_at;
 use frame::SPOTS;
-use types::steps::within;
-
-// A content ends before the CR LF in front of the next spot.
-fn end_before(next: u32) -> u32
-    ensures { λ r. ⌜ r ≡ next - 2 ⌝ }
-{
-    if next < 2 { 0 } else { next - 2 }
-}
+use types::Form;
 
 fn put(list: &mut [u32], at: usize, a: u32, b: u32, c: u32)
     requires { ⌜ at + 3 ≤ length (now list) ⌝ }
@@ -30,49 +29,30 @@ fn put(list: &mut [u32], at: usize, a: u32, b: u32, c: u32)
     list[at + 2] = c;
 }
 
-fn put_all(m: &[u8], spots: &[u32; SPOTS], n: usize, list: &mut [u32])
-    requires { ⌜ (n ≤ most) × (length (numbersFrom (now m) (now spots) 0 n) ≤ length (now list)) ⌝ }
-    ensures { λ _. ⌜ now (list .exit) ≡ sets (now (list .entry)) 0 (numbersFrom (now (m .entry)) (now (spots .entry)) 0 n) ⌝ }
+// Colon, content start and content end of each field, put over the front of the list.
+pub(crate) fn fill(m: &[u8], spots: &[u32; SPOTS], n: usize, list: &mut [u32])
+    requires { ⌜ Settled (now m) (now spots) × (n ≡ length (fields (now m))) × (3 * n ≤ length (now list)) ⌝ }
+    ensures { λ _. ⌜ now (list .exit) ≡ over (listed 5 (fields (now (m .entry)))) (now (list .entry)) ⌝ }
 {
     let mut k = 0;
     while k < n {
-        let o = spots[k];
-        let next = spots[k + 1];
-        let start = start_at(m, o) % 4294967296;
-        put(list, 3 * k, o, start as u32, end_before(next));
+        let p = field_at(m, spots, k);
+        put(list, 3 * k, p.colon as u32, p.start as u32, p.end as u32);
         k += 1;
     }
 }
 
-// The numbers of the first n fields, put over the front of the list. Where they do not fit, the list stays as it is.
-pub fn fill(m: &[u8], spots: &[u32; SPOTS], n: usize, list: &mut [u32])
-    ensures { λ _. ⌜ now (list .exit) ≡ placed (now (list .entry)) 0 (numbers (now (m .entry)) (now (spots .entry)) n) ⌝ }
-{
-    let c = within(n);
-    if list.len() < 3 * c {
-        return;
-    }
-    put_all(m, spots, c, list);
-}
-
-fn spot_at(spots: &[u32; SPOTS], k: usize) -> u32
-    ensures { λ r. ⌜ r ≡ spotAt (now (spots .entry)) k ⌝ }
-{
-    if k < SPOTS { spots[k] } else { 0 }
-}
-
 // As many fields stand before the one of a place as there are ones below its bit.
-pub fn part_of(m: &[u8], spots: &[u32; SPOTS], word: u32, place: usize) -> Span
-    ensures { λ r. ⌜ r ≡ partBy (now (m .entry)) (now (spots .entry)) word place ⌝ }
+pub(crate) fn part_of(form: Form, m: &[u8], spots: &[u32; SPOTS], word: u32, place: usize) -> Span
+    requires { ⌜ Settled (now m) (now spots) × (word ≡ wordOf form (now m)) × (walked form (now m) ≡ Verdict.Fine) ⌝ }
+    ensures { λ r. ⌜ r ≡ partAt (placesOf form) place 5 (fields (now (m .entry))) ⌝ }
 {
     if bit_at(word, place) == 0 {
         return Span::Nothing;
     }
-    let k = ones_below(word, place);
-    let o = spot_at(spots, k);
-    let next = spot_at(spots, k + 1);
+    let p = field_at(m, spots, ones_below(word, place));
     Span::Part {
-        start: start_at(m, o),
-        end: end_before(next) as usize,
+        start: p.start,
+        end: p.end,
     }
 }

@@ -20,7 +20,7 @@ use Rattle.types.specs.Sentences.{placeAt, placeOfField, Present, SoundWalk}
 use Rattle.types.proofs.WordLaws.{placed}
 use Rattle.types.proofs.TableLaws.{few-places, each-form, no-places}
 use Rattle.frame.proofs.CallLaws.{taken}
-use Rattle.message.proofs.SpanLaws as spans
+use Rattle.message.proofs.SpanLaws.{listedPart}
 use Rattle.message.specs.Message.{verdictOf}
 use Rattle.message.proofs.RuleLaws.{accepted-rules}
 use Rattle.message.proofs.VerdictTheorems.{frame-clean}
@@ -140,7 +140,7 @@ module _ (form : Form) (m : List ℕ) (e : verdictOf form m ≡ Fine) where
   in-order (suc k) h = ap (placeBehind form m) (in-order k (omega arith)) ∙ step k h
 
   -- and hands over its content: the part between the list's start and end
-  pub hands-over : (k : ℕ) → k < length (fields m) → contentOf form m (placeAfter form m k) ≡ partOf m (spans.partOf (listed 5 (fields m)) k)
+  pub hands-over : (k : ℕ) → k < length (fields m) → contentOf form m (placeAfter form m k) ≡ partOf m (listedPart (listed 5 (fields m)) k)
   unfolding contentOf
   hands-over k h = ap (partOf m) (span-listed form m (placeAfter form m k) e k h (sym (in-order k h)))
 
@@ -197,7 +197,7 @@ module _ {kind : ℕ} {m : RefT (List ℕ)} {k : ℕ} {r : Reader} (a : After ki
 
   module _ (e : verdictOf (formOf kind) (now m) ≡ Fine) where
     -- the content at hand is the k-th of the check's list, and it is not empty
-    pub reads-on : k < length (fields (now m)) → (atHand r ≡ partOf (now m) (spans.partOf (listed 5 (fields (now m))) k)) × (empty (atHand r) ≡ false)
+    pub reads-on : k < length (fields (now m)) → (atHand r ≡ partOf (now m) (listedPart (listed 5 (fields (now m))) k)) × (empty (atHand r) ≡ false)
     reads-on h = (at-k ∙ hands-over (formOf kind) (now m) e k h, ap empty at-k ∙ not-yet (formOf kind) (now m) e k h)
 
     -- behind the last there is nothing

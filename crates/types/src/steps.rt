@@ -9,7 +9,7 @@ use super::PLACES;
 use super::Step;
 use super::TAGS;
 
-pub fn within(count: usize) -> usize
+fn within(count: usize) -> usize
     ensures { λ r. ⌜ r ≡ min count most ⌝ }
 {
     if count < PLACES { count } else { PLACES }

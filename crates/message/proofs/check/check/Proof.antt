@@ -4,7 +4,6 @@ use mathlib.Core.Path.{_≡_, sym, ap, ap₂, _∙_, subst}
 use native.Mathlib.Omega.{arith}
 use lib.Count.{ones}
 use lib.ListN.{length}
-use Rattle.base.specs.Calls.{placed}
 use Rattle.fields.specs.Field.{fields}
 use Rattle.frame.proofs.CallLaws.{taken, Found}
 use Rattle.base.specs.declared.Verdict.the-variants.{Fine}
@@ -12,7 +11,7 @@ use Rattle.message.specs.Message.{verdictOf}
 use Rattle.message.proofs.VerdictTheorems.{judged-by, judged-found}
 use Rattle.message.specs.declared.Checked.the-variants.{Accepted, Refused}
 use Rattle.message.specs.Calls.{Checks}
-use Rattle.message.proofs.SpotLaws.{numbers-listed}
+use Rattle.message.proofs.FieldLaws.{settled}
 use Rattle.message.proofs.CheckLaws.{gives-refused, gives-short, gives-full}
 use borrow.Author.Needs.{needs}
 use Rattle.message.proofs.check.check.Statement.{statement}
@@ -71,7 +70,9 @@ returns-2 c =
     (gives-short (a .form) (a .m .now) (a .list .now) (clean t) (omega (arith, c .if1 .taken)))
 
 fill-requires : tie.Need-fill-requires
-fill-requires c κs = search needs
+fill-requires c κs =
+    let e = c .before .before in
+    (settled (here (e .before)), counted (e .before), omega (arith, e .if1 .left))
 
 same-length : tie.Need-same-length
 same-length c = search needs
@@ -86,7 +87,7 @@ returns-3 c =
     let r = gives-full (a .form) (a .m .now) (a .list .now) (clean t) (omega (arith, e .if1 .left)) in
     record {
       answers = ap₂ Accepted n (here t .word-is) ∙ r .answers;
-      leaves = p .fill .ensures ∙ ap (placed (a .list .now) 0) (numbers-listed (here t) n) ∙ r .leaves;
+      leaves = p .fill .ensures ∙ r .leaves;
     }
 
 pub check-spec : {M : Type 1} → statement M

@@ -1,39 +1,76 @@
--- `message::spots::fill` meets its contract: the numbers do not fit, or `put_all` puts them. Assumes nothing.
+-- `message::spots::fill` meets its contract: what the fields that are left come to stands behind what was put. Assumes nothing.
+use Prim.Native.Nat.{_-_}
 use native.Mathlib.Omega.{arith}
-use Rattle.message.proofs.FillLaws.{numbers-length, fill-none, fill-all}
-use borrow.Author.Needs.{needs}
+use Rattle.message.proofs.FillLaws.{Filling, fill-begin, fill-on, fill-end}
 use Rattle.message.proofs.spots.fill.Statement.{statement}
 use Rattle.message.proofs.spots.fill.Tie as tie
 
-within-requires : tie.Need-within-requires
-within-requires c κs = search needs
+abbrev Inv-loop : tie.InvT-loop
+Inv-loop m spots n list₀ k₀ list k = Filling m spots list₀ list k
 
-mul-if1 : tie.Need-mul-if1
-mul-if1 c = search needs
+abbrev μ-loop : tie.MeasureT-loop
+μ-loop m spots n list₀ k₀ list k = n - k
 
-returns : tie.Need-returns
-returns c =
-    let w = c .before in
-    let a = w .before .before .before .args in
-    fill-none (a .m .now) (a .spots .now) (a .list .now) (a .n) (w .within .result) (w .within .ensures) (c .if1 .taken)
+loop-holds : tie.Need-loop-holds Inv-loop μ-loop
+loop-holds c = let s = c .before .before in fill-begin (s .pre .0) (s .args .list .now)
 
-put-all-requires : tie.Need-put-all-requires
-put-all-requires c κs =
-    let w = c .before .before in
-    let a = w .before .before .before .args in
-    (omega (arith, w .within .ensures), omega (arith, numbers-length (a .m .now) (a .spots .now) 0 (w .within .result), c .before .if1 .left))
+field-at-requires : tie.Need-field-at-requires Inv-loop μ-loop
+field-at-requires c κs = let s = c .before .before .before .before in (s .pre .0, omega (arith, c .loop-test .taken, s .pre .1))
 
-same-length : tie.Need-same-length
-same-length c = search needs
+mul-put : tie.Need-mul-put Inv-loop μ-loop
+mul-put c = let i = c .before .before in let s = i .before .before .before .before in omega (arith, i .loop-test .taken, s .pre .1, s .pre .0 .few)
 
-returns-2 : tie.Need-returns-2
-returns-2 c =
+cast-put : tie.Need-cast-put Inv-loop μ-loop
+cast-put c = let f = c .before .before in let s = f .before .before .before .before .before in let h = f .field-at .ensures in omega (arith, h .start-is, h .low, h .high, s .pre .0 .within)
+
+cast-put-2 : tie.Need-cast-put-2 Inv-loop μ-loop
+cast-put-2 c = let f = c .before .before .before in let s = f .before .before .before .before .before in let h = f .field-at .ensures in omega (arith, h .low, h .high, s .pre .0 .within)
+
+cast-put-3 : tie.Need-cast-put-3 Inv-loop μ-loop
+cast-put-3 c = let f = c .before .before .before .before in let s = f .before .before .before .before .before in let h = f .field-at .ensures in omega (arith, h .high, s .pre .0 .within)
+
+put-requires : tie.Need-put-requires Inv-loop μ-loop
+put-requires c κs =
+    let i = c .before .before .before .before .before in
+    let s = i .before .before .before .before in
+    omega (arith, i .before .loop .inv .kept, i .loop-test .taken, s .pre .2)
+
+add-k : tie.Need-add-k Inv-loop μ-loop
+add-k c =
+    let i = c .before .before .before .before .before .before .before .before in
+    let s = i .before .before .before .before in
+    omega (arith, i .loop-test .taken, s .pre .1, s .pre .0 .few)
+
+loop-less : tie.Need-loop-less Inv-loop μ-loop
+loop-less c = let h = c .before .before .before .before .before .before .before .before .loop-test .taken in omega arith
+
+loop-again : tie.Need-loop-again Inv-loop μ-loop
+loop-again c =
     let p = c .before .before in
-    let e = p .before .before in
-    let w = e .before in
-    let a = w .before .before .before .args in
-    fill-all (a .m .now) (a .spots .now) (a .list .now) (a .n) (w .within .result) (w .within .ensures) (e .if1 .left) (p .put-all .ensures)
+    let f = p .before .before .before .before .before in
+    fill-on (f .before .before .loop .inv) (f .field-at .ensures) (p .put .ensures)
+
+same-length : tie.Need-same-length Inv-loop μ-loop
+same-length c = c .before .loop .inv .kept
+
+returns : tie.Need-returns Inv-loop μ-loop
+returns c = let s = c .before .before .before .before in fill-end (c .before .loop .inv) (s .pre .1) (s .pre .2) (c .loop-test .left)
 
 pub fill-spec : {M : Type 1} → statement M
 fill-spec =
-    tie.close (tie.spec within-requires mul-if1 returns put-all-requires same-length returns-2)
+    tie.close
+    (tie.spec
+    Inv-loop
+    μ-loop
+    loop-holds
+    field-at-requires
+    mul-put
+    cast-put
+    cast-put-2
+    cast-put-3
+    put-requires
+    add-k
+    loop-less
+    loop-again
+    same-length
+    returns)

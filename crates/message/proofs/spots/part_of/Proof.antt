@@ -1,11 +1,7 @@
 -- `message::spots::part_of` meets its contract: nothing where the bit is not set, else the field of that number. Assumes nothing.
-use Prim.Native.Nat.{_%_, _^_}
-use mathlib.Core.Path.{sym, _∙_}
-use native.Mathlib.Nat.{mod-le}
-use native.Mathlib.Omega.{arith}
-use lib.Count.{ones-le}
-use Rattle.message.proofs.SpanLaws.{made-none, made-some}
+use mathlib.Core.Path.{_∙_, sym}
 use borrow.Author.Needs.{needs}
+use Rattle.message.proofs.SpanLaws.{part-none, part-number, part-found}
 use Rattle.message.proofs.spots.part_of.Statement.{statement}
 use Rattle.message.proofs.spots.part_of.Tie as tie
 
@@ -15,55 +11,28 @@ bit-at-requires c κs = search needs
 returns : tie.Need-returns
 returns c =
     let b = c .before in
-    let a = b .before .before .args in
-    made-none (a .m .now) (a .spots .now) (a .word) (a .place) (sym (b .bit-at .ensures) ∙ c .if1 .taken)
+    let s = b .before .before in
+    let a = s .args in
+    part-none (s .pre .0) (a .form) (s .pre .1) (s .pre .2) (a .place) (sym (b .bit-at .ensures) ∙ c .if1 .taken)
 
 ones-below-requires : tie.Need-ones-below-requires
 ones-below-requires c κs = search needs
 
-spot-at-requires : tie.Need-spot-at-requires
-spot-at-requires c κs = search needs
-
-add-spot-at : tie.Need-add-spot-at
-add-spot-at c =
-    let k = c .before in
-    let a = k .before .before .before .before .args in
-    omega (arith, k .ones-below .ensures, ones-le 32 (a .word % 2 ^ a .place) (omega (arith, mod-le (a .word) (2 ^ a .place))))
-
-spot-at-requires-2 : tie.Need-spot-at-requires-2
-spot-at-requires-2 c κs = search needs
-
-start-at-requires : tie.Need-start-at-requires
-start-at-requires c κs = search needs
-
-end-before-requires : tie.Need-end-before-requires
-end-before-requires c κs = search needs
-
-cast-t11 : tie.Need-cast-t11
-cast-t11 c = search needs
+field-at-requires : tie.Need-field-at-requires
+field-at-requires c κs =
+    let b = c .before .before in
+    let s = b .before .before in
+    let a = s .args in
+    (s .pre .0, part-number (s .pre .0) (a .form) (s .pre .1) (s .pre .2) (a .place) (λ z. c .before .if1 .left (b .bit-at .ensures ∙ z)) (c .ones-below .ensures) .within)
 
 returns-2 : tie.Need-returns-2
 returns-2 c =
-    let s = c .before in
-    let g = s .before in
-    let o = g .before in
-    let k = o .before in
+    let k = c .before in
     let b = k .before .before in
-    let a = b .before .before .args in
-    made-some (a .m .now) (a .spots .now) (a .word) (a .place) (λ q. k .before .if1 .left (b .bit-at .ensures ∙ q)) (k .ones-below .ensures) (o .spot-at .ensures) (g .spot-at2 .ensures)
-    (s .start-at .ensures) (c .end-before .ensures)
+    let s = b .before .before in
+    let a = s .args in
+    part-found (s .pre .0) (a .form) (s .pre .1) (s .pre .2) (a .place) (λ z. k .before .if1 .left (b .bit-at .ensures ∙ z)) (k .ones-below .ensures) (c .field-at .ensures)
 
 pub part-of-spec : {M : Type 1} → statement M
 part-of-spec =
-    tie.close
-    (tie.spec
-    bit-at-requires
-    returns
-    ones-below-requires
-    spot-at-requires
-    add-spot-at
-    spot-at-requires-2
-    start-at-requires
-    end-before-requires
-    cast-t11
-    returns-2)
+    tie.close (tie.spec bit-at-requires returns ones-below-requires field-at-requires returns-2)
