@@ -1,6 +1,6 @@
 //! Ways to spoil a message: by fields, by lines, by bytes.
 
-use crate::messages::{Field, Message};
+use crate::messages::{marked, Field, Message};
 use crate::random::Random;
 use crate::signs::{some, DIGITS, NEAR, X_SET};
 
@@ -209,9 +209,37 @@ const RPP_LINES: &[&str] = &[
     "/RPP",
 ];
 
-/// Spoils a content, in a way that some number from 8 to 14 is about.
+/// Lines of 72 in a 103 behind an RPP line or none, right and wrong.
+const RESTS: &[&[&str]] = &[
+    &["/NZP/A"],
+    &["/NZP/A", "//B"],
+    &["/NZP/A", "//B", "//B", "//B", "//B"],
+    &["/NZP/A", "//B", "//B", "//B", "//B", "//B"],
+    &["/NZP/A", "//B", "//B", "//B", "//B", "//B", "//B"],
+    &["/NZP/(VO12345)"],
+    &["/NZP/'(VO12345)'"],
+    &["/NZP/'(VO12345)'A"],
+    &["/NZP/'A", "//B'"],
+    &["/NZP/'A", "//B"],
+    &["/NZP/''"],
+    &["/NZP/'", "//'"],
+    &["/NZP/W"],
+    &["/NZP/A", "//W"],
+    &["/NZP/-", "//:", "///"],
+    &["/NZP/"],
+    &["/NZP/A", "//"],
+    &["/NZP/A", "B"],
+    &["/NZP/A", "/NZP/B"],
+    &["/NZPA"],
+    &["/nzp/A"],
+    &["//A"],
+    &["A"],
+    &["/NZP/A", "/RPP/1.240229.5.POST"],
+];
+
+/// Spoils a content, in a way that some number from 8 to 14 or 21 is about.
 pub fn contents(random: &mut Random, message: &mut Message) {
-    match random.below(24) {
+    match random.below(28) {
         0 | 1 => replace_name(random, message),
         2 => replace_tax_line(random, message),
         3 => replace_line(random, message, &["20"], REFERENCES),
@@ -224,6 +252,8 @@ pub fn contents(random: &mut Random, message: &mut Message) {
         16 | 17 => one_byte(random, message),
         18..=21 => one_digit(random, message),
         22 => width(random, message),
+        23 | 24 => rest(random, message),
+        25 | 26 => lengthen_rest(random, message),
         _ => line_order(random, message),
     }
 }
@@ -334,6 +364,58 @@ fn details(random: &mut Random, message: &mut Message) {
         3 => line.push(b'\''),
         4 => line.push(*random.pick(b"Wb'-:")),
         _ => field.lines.truncate(first + 1),
+    }
+}
+
+/// Puts another rest into 72 of a 103, behind its RPP line or without one.
+fn rest(random: &mut Random, message: &mut Message) {
+    let lines = random.pick(RESTS).iter();
+    let lines = lines.map(|line| line.as_bytes().to_vec()).collect();
+    put_rest(random, message, lines);
+}
+
+/// Gives the rest about the greatest length that it may have beside 70, or
+/// fills all its lines.
+fn lengthen_rest(random: &mut Random, message: &mut Message) {
+    let Some(details) = tagged(random, message, &["70"]) else {
+        return;
+    };
+    let room = 210_usize.saturating_sub(details.lines.concat().len());
+    let length = match random.below(6) {
+        0 => *random.pick(&[161, 162, 163, 194, 195, 196]),
+        1..=3 => room,
+        _ => room + random.between(1, 3),
+    };
+    let mut text = vec![*random.pick(b"JA-:9"); length];
+    if let ([first, second, ..], true) = (&mut text[..], random.once_in(3)) {
+        [*first, *second] = *b"''";
+    }
+    // At times the first lines aren't full.
+    let short = random.once_in(2);
+    let mut lines = Vec::new();
+    let mut rest = &text[..];
+    while !rest.is_empty() {
+        let width = if lines.is_empty() { 30 } else { 33 };
+        let width = if short && lines.len() < 2 { 28 } else { width };
+        let (line, behind) = rest.split_at(width.min(rest.len()));
+        lines.push(line.to_vec());
+        rest = behind;
+    }
+    put_rest(random, message, marked(&lines));
+}
+
+/// Into 72 behind 71A, which is there or not.
+fn put_rest(random: &mut Random, message: &mut Message, mut lines: Vec<Vec<u8>>) {
+    let fields = &mut message.fields;
+    if let Some(note) = fields.iter_mut().find(|field| field.tag == "72") {
+        let rpp = note.lines.first().filter(|line| line.starts_with(b"/RPP/"));
+        if let (Some(rpp), false) = (rpp, random.once_in(3)) {
+            lines.insert(0, rpp.clone());
+        }
+        note.lines = lines;
+    } else if let Some(charges) = fields.iter().position(|field| field.tag == "71A") {
+        let tag = "72".to_string();
+        fields.insert(charges + 1, Field { tag, lines });
     }
 }
 

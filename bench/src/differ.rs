@@ -1,6 +1,7 @@
 //! Both builds on the same generated inputs: answers and lent units must agree.
 
 pub mod checks;
+pub mod runon;
 pub mod texts;
 pub mod tomessage;
 pub mod tosheet;
@@ -17,6 +18,7 @@ pub fn named(name: &str) -> Option<fn(usize, u64)> {
         "checks" => Some(checks::run),
         "tosheet" => Some(tosheet::run),
         "tomessage" => Some(tomessage::run),
+        "runon" => Some(runon::run),
         _ => None,
     }
 }

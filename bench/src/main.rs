@@ -9,8 +9,10 @@ mod cases;
 mod damage;
 #[cfg(feature = "archive")]
 mod differ;
+mod exhaustive;
 mod expect;
 mod list;
+mod long;
 mod messages;
 mod plain;
 mod random;
@@ -23,7 +25,7 @@ mod streams;
 use std::env;
 use std::process::exit;
 
-const USAGE: &str = "bench differ texts|checks|tosheet|tomessage [N] [SEED]
+const USAGE: &str = "bench differ texts|checks|tosheet|tomessage|runon [N] [SEED]
 bench speed texts|checks|tosheet|tomessage
 bench list > LIST
 bench expect tests < LIST > OUTPUT

@@ -3,6 +3,7 @@
 use crate::plain::text::read_text;
 use crate::random::Random;
 use crate::signs::{closed_bank_signs, some, CAPITALS, CAPITALS_AND_DIGITS, DIGITS, SHARED, X_SET};
+use std::iter;
 
 /// A field: its tag and the lines of its content.
 #[derive(Clone)]
@@ -123,10 +124,17 @@ impl Builder<'_> {
         fields.push(one("53B", self.digits_behind(b"/D/", 20)));
         self.banks_between(fields);
         fields.push(many("59", self.beneficiary(taxed, false)));
-        fields.push(many("70", self.details_70()));
+        let (details, note) = if self.sign && !self.longest && self.random.once_in(24) {
+            self.crowded()
+        } else {
+            let details = self.details_70();
+            let note = self.note_103(&details);
+            (details, note)
+        };
+        fields.push(many("70", details));
         fields.push(one("71A", b"OUR".to_vec()));
-        if self.perhaps() {
-            fields.push(one("72", self.rpp_line()));
+        if !note.is_empty() {
+            fields.push(many("72", note));
         }
         if taxed {
             fields.push(many("77B", self.regulatory()));
@@ -407,11 +415,66 @@ impl Builder<'_> {
             room.pop();
         }
         let details = self.details(&room);
-        for (i, line) in details.into_iter().enumerate() {
-            let mark: &[u8] = if i == 0 { b"/NZP/" } else { b"//" };
-            lines.push([mark, &line].concat());
+        lines.extend(marked(&details));
+        lines
+    }
+
+    /// 72 of a 103: an RPP line, a rest of these details, both or neither.
+    fn note_103(&mut self, details: &[Vec<u8>]) -> Vec<Vec<u8>> {
+        let mut lines = Vec::new();
+        if self.perhaps() {
+            lines.push(self.rpp_line());
+        }
+        if self.perhaps() {
+            let most = 6 - lines.len();
+            let rest = self.rest(most, 210 - details.concat().len());
+            lines.extend(marked(&rest));
         }
         lines
+    }
+
+    /// A text of its own in so many lines of 72 at most, and so many bytes.
+    fn rest(&mut self, lines: usize, mut bytes: usize) -> Vec<Vec<u8>> {
+        let mut lengths = Vec::new();
+        for line in 0..self.length(1, lines) {
+            let width = if line == 0 { 30 } else { 33 };
+            let length = self.length(1, width).min(bytes);
+            if length > 0 {
+                lengths.push(length);
+            }
+            bytes -= length;
+        }
+        loop {
+            let text = self.details_text(lengths.iter().sum());
+            if !self.sign || reading(&text).is_some() {
+                return in_lines(&text, &lengths);
+            }
+        }
+    }
+
+    /// Nearly all dashes, with apostrophes that let a line of 70 begin: read,
+    /// but perhaps too much for 72 when written again.
+    fn crowded(&mut self) -> (Vec<Vec<u8>>, Vec<Vec<u8>>) {
+        let first = [&self.vo_code()[..], &[b'-'; 24]].concat();
+        let later = [&b"''"[..], &[b'-'; 33]].concat();
+        let mut details = vec![first, later.clone(), later.clone(), later];
+        let last = self.random.between(1, 7);
+        let mut rest = marked(&[vec![b'-'; 30], vec![b'-'; 33], vec![b'-'; last]]);
+        if self.random.once_in(3) {
+            // A letter somewhere gives another line a beginning.
+            let line = self.random.between(1, 3);
+            let place = self.random.between(2, 34);
+            details[line][place] = *self.random.pick(b"JABV");
+        }
+        if self.random.once_in(3) {
+            rest.pop();
+        }
+        let mut note = Vec::new();
+        if !self.random.once_in(3) {
+            note.push(self.rpp_line());
+        }
+        note.extend(rest);
+        (details, note)
     }
 
     /// A VO code and a text behind it, in lines of at most these widths.
@@ -424,23 +487,20 @@ impl Builder<'_> {
                 let low = if i == 0 { code.len() } else { 1 };
                 lengths.push(self.length(low, width));
             }
-            let length = lengths.iter().sum::<usize>() - code.len();
-            let text = if self.sign && self.random.once_in(8) {
-                dashes(self.random, length)
-            } else {
-                self.text(length)
-            };
+            let text = self.details_text(lengths.iter().sum::<usize>() - code.len());
             if text.is_empty() || self.sign && reading(&text).is_none() {
                 continue;
             }
-            let mut rest = &[code, text].concat()[..];
-            let mut lines = Vec::new();
-            for length in lengths {
-                let (line, behind) = rest.split_at(length);
-                lines.push(line.to_vec());
-                rest = behind;
-            }
-            return lines;
+            return in_lines(&[code, text].concat(), &lengths);
+        }
+    }
+
+    /// At times nearly all dashes, behind apostrophes that stand for nothing.
+    fn details_text(&mut self, length: usize) -> Vec<u8> {
+        if self.sign && self.random.once_in(8) {
+            dashes(self.random, length)
+        } else {
+            self.text(length)
         }
     }
 
@@ -492,6 +552,24 @@ fn many(tag: &str, lines: Vec<Vec<u8>>) -> Field {
         tag: tag.to_string(),
         lines,
     }
+}
+
+/// Lines of details as they stand in 72.
+pub fn marked(lines: &[Vec<u8>]) -> Vec<Vec<u8>> {
+    let marks = [&b"/NZP/"[..]].into_iter().chain(iter::repeat(&b"//"[..]));
+    let lines = lines.iter().zip(marks);
+    lines.map(|(line, mark)| [mark, line].concat()).collect()
+}
+
+/// The text in lines of these lengths.
+fn in_lines(mut text: &[u8], lengths: &[usize]) -> Vec<Vec<u8>> {
+    let mut lines = Vec::new();
+    for &length in lengths {
+        let (line, behind) = text.split_at(length);
+        lines.push(line.to_vec());
+        text = behind;
+    }
+    lines
 }
 
 /// A bank text that reads as dashes alone: its apostrophes stand for nothing,

@@ -1,5 +1,6 @@
 //! Generated sheets, right and wrong.
 
+use crate::long;
 use crate::messages;
 use crate::plain::read::to_sheet;
 use crate::random::Random;
@@ -80,8 +81,11 @@ fn other_texts(random: &mut Random, sheet: &mut Sheet) {
         }
     }
     for record in sheet.tagged(&["70", "72"]) {
-        if let (Some(text), true) = (record.last_mut(), random.once_in(2)) {
-            *text = details_text(random, sign);
+        // The RPP part of a 103 stays.
+        if record.len() > 2 && random.once_in(2) {
+            let text = details_text(random, sign);
+            record.pop();
+            record.push(text);
         }
     }
 }
@@ -104,6 +108,9 @@ fn desk_text(random: &mut Random, sign: bool, length: usize) -> Vec<u8> {
 
 /// Often with so many bytes that may not begin a line that breaking is hard.
 fn details_text(random: &mut Random, sign: bool) -> Vec<u8> {
+    if random.once_in(2) {
+        return long::text(random, sign);
+    }
     let length = match random.below(4) {
         0 => random.between(1, 60),
         1 => *random.pick(&[129, 130, 131, 132, 184, 185, 186, 187]),
@@ -275,5 +282,38 @@ fn stretch(random: &mut Random, sheet: &mut Sheet) {
         let taken = random.between(2, 40).min(left);
         record.push(desk_text(random, sign, taken - 1));
         left -= taken;
+    }
+}
+
+#[cfg(test)]
+mod tests {
+    use super::*;
+    use crate::cases::runs_on;
+    use crate::plain::write::to_message;
+    use std::collections::BTreeMap;
+
+    #[test]
+    fn every_number_is_met_and_details_run_on() {
+        let mut random = Random::new(3);
+        let mut room = [0; 40_000];
+        let mut seen: BTreeMap<u32, usize> = BTreeMap::new();
+        let mut run_on = 0;
+        for _ in 0..60_000 {
+            let sheet = some_sheet(&mut random);
+            let answer = to_message(&sheet, &mut room);
+            let number = answer.map_or_else(|refusal| refusal.number, |_| 0);
+            *seen.entry(number).or_default() += 1;
+            if let (Ok(units), true) = (answer, sheet.starts_with(b"MT\t103")) {
+                let m = &room[..units];
+                run_on += usize::from(runs_on(103, m));
+                let mut again = [0; 10_000];
+                let units = to_sheet(103, m, &mut again);
+                assert!(units == Ok(sheet.len()) && again[..sheet.len()] == sheet);
+            }
+        }
+        assert!(run_on > 1_000, "{run_on}");
+        let numbers = [0, 1].into_iter().chain(5..=13).chain([15, 16, 18, 19]);
+        assert!(seen.keys().copied().eq(numbers), "{seen:?}");
+        assert!(seen.values().all(|&times| times > 20), "{seen:?}");
     }
 }

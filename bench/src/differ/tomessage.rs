@@ -2,6 +2,7 @@
 
 use super::{some_room, stop, Lent, Seen};
 use crate::calls as proved;
+use crate::cases::runs_on;
 use crate::plain::{write as plain, Refusal};
 use crate::random::Random;
 use crate::sheets::some_sheet;
@@ -70,6 +71,9 @@ impl Bench {
         let mut again = [0; 10_000];
         let answer = proved::to_sheet(kind, self.proved_room.written(units), &mut again);
         self.seen.note("to_sheet of that message", &answer);
+        if runs_on(kind, self.proved_room.written(units)) {
+            self.seen.note("to_sheet of a 103 that runs on", &answer);
+        }
         if answer != Ok(sheet.len()) || again[..sheet.len()] != *sheet {
             stop("what is written does not read back as the sheet", sheet);
         }

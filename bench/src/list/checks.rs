@@ -6,6 +6,7 @@ mod faults;
 mod frame;
 mod orders;
 mod readings;
+mod run_on;
 mod values;
 
 use crate::cases::{self, Case};
@@ -36,6 +37,7 @@ pub fn records(random: &mut Random) -> Vec<Record> {
     contents::add(&mut records);
     values::add(&mut records);
     readings::add(&mut records);
+    run_on::add(&mut records);
     faults::add(&mut records);
     rooms(&mut records);
     damaged(random, &mut records);
@@ -279,7 +281,7 @@ mod tests {
             );
         }
         let numbers = places.into_keys();
-        assert!(numbers.eq((0..=14).chain([17, 18])));
+        assert!(numbers.eq((0..=14).chain([17, 18, 21])));
     }
 
     #[test]

@@ -1,6 +1,8 @@
 //! Sheets for the writer: right ones, those that limits and open points of the
 //! rules speak of, and for each number such as it is given for.
 
+mod run_on;
+
 use super::checks::{full, holding, least, KINDS};
 use crate::messages::{self, Message};
 use crate::plain::read::to_sheet;
@@ -25,6 +27,7 @@ pub fn records(random: &mut Random) -> Vec<Record> {
     payments(random, &mut records);
     limits(&mut records);
     barred(&mut records);
+    run_on::add(&mut records);
     let spelt = BROKEN.iter().chain(SIGNS).chain(FOREIGN).chain(UNWRITABLE);
     records.extend(spelt.map(|sheet| record(desk(sheet))));
     for &(kind, sign, tag, parts) in PARTS {
@@ -83,10 +86,10 @@ fn details(kind: u32, sign: bool, rpp: &str, text: &str) -> Vec<u8> {
     with(kind, sign, tag, &format!("{rpp}10100→{text}"))
 }
 
-/// The most letters that each place takes, and one more.
+/// The most letters that details take; in a 103 those of 72 too.
 const LIMITS: &[(u32, bool, &str, usize)] = &[
-    (103, false, "", 131),
-    (103, true, "", 129),
+    (103, false, "", 201),
+    (103, true, "", 199),
     (202, false, "→", 186),
     (202, true, "→", 184),
     (202, false, RPP, 153),
@@ -100,8 +103,8 @@ fn limits(records: &mut Vec<Record>) {
             let text = letter.repeat(count);
             records.push(record(details(kind, sign, rpp, &text)));
         }
-        // With the sign Latin letters take two bytes more.
-        for count in [most - 2, most - 1] {
+        // With the sign Latin letters take two bytes more, or four.
+        for count in [most - 5, most - 4, most - 3, most - 2, most - 1] {
             let text = "A".repeat(count);
             records.push(record(details(kind, sign, rpp, &text)));
         }
@@ -336,7 +339,8 @@ const UNWRITABLE: &[&str] = &[
     "MT→103¶20→A¶20→_¶59→_¶",
     "MT→103¶99→Я¶20→_¶",
     "MT→103¶20→A¶70→10100→---------------------------¶71A→_¶",
-    // 16 before 6, in repeats too.
+    // 16 before 6, where 70 stands twice; where it stands once, its details
+    // run on.
     "MT→103¶20→A¶20→A¶70→10100→---------------------------¶",
     "MT→103¶20→A¶70→10100→A¶70→10100→---------------------------¶",
     "MT→103¶70→10100→---------------------------¶70→10100→A¶",

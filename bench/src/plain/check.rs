@@ -1,11 +1,11 @@
 //! The check of a whole message, and what callers get from a right one.
 //!
 //! 18 and 1 to 7 come from the frame. Then each number from 8 to 14 in turn,
-//! at its earliest place.
+//! at its earliest place, and 21.
 
 use super::forms::{
     begins_tax_line, endings_differ, form, right, role, rpp_dates, split_rpp, tax_line, tax_place,
-    DetailsText, Form, Layout, Role, IN_70, IN_72,
+    Details, Form, Joined, Layout, Role, IN_70, IN_72, MOST_DETAILS,
 };
 use super::frame::{fields, Field, Fields};
 use super::text::{fill_reading, measure_reading};
@@ -63,6 +63,7 @@ pub fn judged(kind: u32, m: &[u8]) -> Result<Fields, Refusal> {
     message.bank_codes()?;
     message.tax_fields()?;
     message.texts()?;
+    message.length_of_details()?;
     Ok(fields)
 }
 
@@ -189,7 +190,7 @@ impl<'a> Message<'a> {
         }
         for field in self.fields {
             let form = form(self.kind, field.tag);
-            if matches!(form, Form::Copied | Form::Rpp) {
+            if form == Form::Copied {
                 continue;
             }
             let Some(lines) = field.lines(self.m) else {
@@ -198,15 +199,44 @@ impl<'a> Message<'a> {
             match form {
                 Form::Details => details_text(&IN_70, lines.all(), field.start)?,
                 Form::RppAndDetails => {
-                    let (rpp, rest) = split_rpp(lines.all());
-                    let start = field.start + rpp.map_or(0, |line| line.len() + 2);
-                    details_text(&IN_72, rest, start)?
+                    let (behind, rest) = behind_rpp(lines.all());
+                    details_text(&IN_72, rest, field.start + behind)?
+                }
+                Form::RppAndRest => {
+                    let (behind, rest) = behind_rpp(lines.all());
+                    rest_text(rest, field.start + behind)?
                 }
                 _ => names(form, field, lines.all())?,
             }
         }
         Ok(())
     }
+
+    /// 21: in a 103 the code and both texts, as they stand, aren't too long.
+    fn length_of_details(&self) -> Result<(), Refusal> {
+        let (Some(details), Some(note)) = (self.tagged(*b"70\0"), self.tagged(*b"72\0")) else {
+            return Ok(());
+        };
+        let (Some(lines), Some(note_lines)) = (details.lines(self.m), note.lines(self.m)) else {
+            return Ok(());
+        };
+        let (behind, rest) = behind_rpp(note_lines.all());
+        if rest.is_empty() {
+            return Ok(());
+        }
+        let bytes = |lines: &[&[u8]]| lines.iter().map(|line| line.len()).sum::<usize>();
+        let marks = IN_72.first_mark.len() + (rest.len() - 1) * IN_72.later_mark.len();
+        if bytes(lines.all()) + bytes(rest) - marks > MOST_DETAILS {
+            return refuse(21, note.start + behind);
+        }
+        Ok(())
+    }
+}
+
+/// The lines of 72 behind an RPP line, and how far from the first they stand.
+fn behind_rpp<'l, 'a>(lines: &'l [&'a [u8]]) -> (usize, &'l [&'a [u8]]) {
+    let (rpp, rest) = split_rpp(lines);
+    (rpp.map_or(0, |line| line.len() + 2), rest)
 }
 
 /// 14 for the names of a field.
@@ -228,10 +258,23 @@ fn names(form: Form, field: &Field, lines: &[&[u8]]) -> Result<(), Refusal> {
 
 /// 14 for details that start at this place.
 fn details_text(layout: &Layout, lines: &[&[u8]], start: usize) -> Result<(), Refusal> {
-    let text = DetailsText::of(layout, lines, true);
+    let details = Details::of(layout, lines, true);
+    text_reads(&details.text, start + details.offset)
+}
+
+/// 14 for the rest of the details in 72 of 103, if there is one.
+fn rest_text(lines: &[&[u8]], start: usize) -> Result<(), Refusal> {
+    if lines.is_empty() {
+        return Ok(());
+    }
+    let text = Joined::of(&IN_72, lines, 0);
+    text_reads(&text, start + IN_72.first_mark.len())
+}
+
+fn text_reads(text: &Joined, place: usize) -> Result<(), Refusal> {
     match measure_reading(text.bytes()) {
         Ok(1..) => Ok(()),
-        _ => refuse(14, start + text.offset),
+        _ => refuse(14, place),
     }
 }
 

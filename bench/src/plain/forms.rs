@@ -28,7 +28,8 @@ pub static IN_70: Layout = Layout {
     lines: 4,
 };
 
-/// Details in 72 of 202; an RPP line before them takes one of the lines.
+/// Details in 72 of 202, and in 72 of 103 the rest that 70 can't hold; an RPP
+/// line before them takes one of the lines.
 pub static IN_72: Layout = Layout {
     first_mark: b"/NZP/",
     later_mark: b"//",
@@ -36,6 +37,22 @@ pub static IN_72: Layout = Layout {
     later_room: 33,
     lines: MOST_LINES,
 };
+
+impl Layout {
+    /// How many bytes so many lines hold.
+    pub fn room(&self, lines: usize) -> usize {
+        self.first_room + (lines - 1) * self.later_room
+    }
+
+    /// Whether a later line may begin with this byte: a mark keeps it from
+    /// being taken for a new field.
+    pub fn may_begin(&self, b: u8) -> bool {
+        !self.later_mark.is_empty() || !matches!(b, b':' | b'-')
+    }
+}
+
+/// The most bytes that the VO code and the texts of 70 and 72 come to in a 103.
+pub const MOST_DETAILS: usize = 210;
 
 /// How a field's lines stand in the sheet.
 #[derive(Clone, Copy, PartialEq)]
@@ -46,8 +63,8 @@ pub enum Form {
     NamedBank,
     /// 70: VO code and text.
     Details,
-    /// 72 in 103: the RPP line.
-    Rpp,
+    /// 72 in 103: the RPP line, the rest of the details, or both in this order.
+    RppAndRest,
     /// 72 in 202: perhaps the RPP line, then VO code and text.
     RppAndDetails,
     /// Line for line.
@@ -60,7 +77,7 @@ pub fn form(kind: u32, tag: Tag) -> Form {
         (103, b"50K" | b"59\0") | (202, b"58D") => Form::Customer,
         (103 | 202, b"56D" | b"57D") => Form::NamedBank,
         (103, b"70\0") => Form::Details,
-        (103, b"72\0") => Form::Rpp,
+        (103, b"72\0") => Form::RppAndRest,
         (202, b"72\0") => Form::RppAndDetails,
         _ => Form::Copied,
     }
@@ -109,7 +126,7 @@ pub fn right(kind: u32, tag: Tag, sign: bool, lines: &[&[u8]]) -> bool {
         b"58A" => matches!(*lines, [first, second] if account(first) && bic(second)),
         b"70\0" => details(&IN_70, lines, sign),
         b"71A" => *lines == [b"OUR"],
-        b"72\0" if kind == 103 => one(lines, |line| rpp_dates(line).is_some()),
+        b"72\0" if kind == 103 => rpp_and_rest(lines),
         b"72\0" => rpp_and_details(lines, sign),
         b"77B" => regulatory(lines),
         _ => false,
@@ -274,12 +291,20 @@ pub fn rpp_dates(line: &[u8]) -> Option<(usize, Option<usize>)> {
     }
 }
 
+fn rpp_and_rest(lines: &[&[u8]]) -> bool {
+    match split_rpp(lines) {
+        (Some(rpp), []) => rpp_dates(rpp).is_some(),
+        (Some(rpp), rest) => rpp_dates(rpp).is_some() && marked(&IN_72, rest),
+        (None, rest) => marked(&IN_72, rest),
+    }
+}
+
 fn rpp_and_details(lines: &[&[u8]], sign: bool) -> bool {
     let (rpp, rest) = split_rpp(lines);
     rpp.is_none_or(|line| rpp_dates(line).is_some()) && details(&IN_72, rest, sign)
 }
 
-/// The RPP line in front of the details of 72, if there is one.
+/// The RPP line in front of what else stands in 72, if there is one.
 pub fn split_rpp<'l, 'a>(lines: &'l [&'a [u8]]) -> (Option<&'a [u8]>, &'l [&'a [u8]]) {
     match lines {
         [first, rest @ ..] if first.starts_with(RPP) => (Some(first), rest),
@@ -287,8 +312,15 @@ pub fn split_rpp<'l, 'a>(lines: &'l [&'a [u8]]) -> (Option<&'a [u8]>, &'l [&'a [
     }
 }
 
-/// Details: a mark and room on each line, the VO code first, a byte behind it.
+/// Details: the VO code first, and a byte behind it.
 fn details(layout: &Layout, lines: &[&[u8]], sign: bool) -> bool {
+    marked(layout, lines)
+        && behind_vo_code(&lines[0][layout.first_mark.len()..], sign)
+            .is_some_and(|text| !text.is_empty() || lines.len() > 1)
+}
+
+/// A mark on each line, and some of the room behind it used.
+fn marked(layout: &Layout, lines: &[&[u8]]) -> bool {
     let Some((first, later)) = lines.split_first() else {
         return false;
     };
@@ -300,8 +332,6 @@ fn details(layout: &Layout, lines: &[&[u8]], sign: bool) -> bool {
     lines.len() <= layout.lines
         && within(first, layout.first_mark, layout.first_room)
         && later.iter().all(later_within)
-        && behind_vo_code(&first[layout.first_mark.len()..], sign)
-            .is_some_and(|text| !text.is_empty() || !later.is_empty())
 }
 
 /// The VO code with the sign's two apostrophes, or without.
@@ -337,41 +367,51 @@ pub fn digits(text: &[u8]) -> bool {
     text.iter().all(u8::is_ascii_digit)
 }
 
-/// The text of right details, its lines joined with nothing between.
-pub struct DetailsText {
-    bytes: [u8; 200],
-    length: usize,
+/// Right details: the VO code's digits, and the text.
+pub struct Details {
     /// The VO code's five digits.
     pub code: [u8; 5],
+    pub text: Joined,
     /// How far from the details' first byte the text's first byte stands.
     pub offset: usize,
 }
 
-impl DetailsText {
-    pub fn of(layout: &Layout, lines: &[&[u8]], sign: bool) -> DetailsText {
+impl Details {
+    pub fn of(layout: &Layout, lines: &[&[u8]], sign: bool) -> Details {
         let code_start = layout.first_mark.len() + 3 + sign as usize;
-        let text_start = layout.first_mark.len() + vo_code_length(sign);
-        let first = lines[0];
-        let mut text = DetailsText {
+        let mut offset = layout.first_mark.len() + vo_code_length(sign);
+        let mut code = [0; 5];
+        code.copy_from_slice(&lines[0][code_start..code_start + 5]);
+        let text = Joined::of(layout, lines, vo_code_length(sign));
+        if lines[0].len() == offset {
+            // The code ends its line: behind CR LF and the next line's mark.
+            offset += 2 + layout.later_mark.len();
+        }
+        Details { code, text, offset }
+    }
+}
+
+/// The lines of right details behind their marks, with nothing between.
+pub struct Joined {
+    bytes: [u8; 200],
+    length: usize,
+}
+
+impl Joined {
+    /// All behind so many bytes of code.
+    pub fn of(layout: &Layout, lines: &[&[u8]], code: usize) -> Joined {
+        let mut joined = Joined {
             bytes: [0; 200],
             length: 0,
-            code: [0; 5],
-            offset: text_start,
         };
-        text.code
-            .copy_from_slice(&first[code_start..code_start + 5]);
-        if first.len() == text_start {
-            // The code ends its line: behind CR LF and the next line's mark.
-            text.offset += 2 + layout.later_mark.len();
-        }
-        text.join(&first[text_start..]);
+        joined.add(&lines[0][layout.first_mark.len() + code..]);
         for line in &lines[1..] {
-            text.join(&line[layout.later_mark.len()..]);
+            joined.add(&line[layout.later_mark.len()..]);
         }
-        text
+        joined
     }
 
-    fn join(&mut self, part: &[u8]) {
+    fn add(&mut self, part: &[u8]) {
         self.bytes[self.length..self.length + part.len()].copy_from_slice(part);
         self.length += part.len();
     }

@@ -1,9 +1,11 @@
 //! The plain build: the same calls as the archive, written from the rules alone.
 
+pub mod breaking;
 pub mod check;
 pub mod forms;
 pub mod frame;
 pub mod read;
+pub mod run_on;
 #[cfg(test)]
 mod tests;
 pub mod text;

@@ -1,7 +1,7 @@
 //! Message to sheet.
 
 use super::check::{has_sign, judged};
-use super::forms::{form, role, split_rpp, DetailsText, Form, Role, IN_70, IN_72, RPP};
+use super::forms::{form, role, split_rpp, Details, Form, Joined, Role, IN_70, IN_72, RPP};
 use super::frame::Field;
 use super::text::fill_reading;
 use super::types::Tag;
@@ -67,31 +67,60 @@ fn write_sheet(kind: u32, sign: bool, m: &[u8], fields: &[Field], sink: &mut imp
     });
     for field in fields {
         // In a right message every field has few enough lines.
-        if let Some(lines) = field.lines(m) {
-            write_record(kind, sign, field.tag, lines.all(), sink);
+        let Some(lines) = field.lines(m) else {
+            continue;
+        };
+        match form(kind, field.tag) {
+            Form::Details => {
+                write_tag(field.tag, sink);
+                write_details(Details::of(&IN_70, lines.all(), sign), sign, sink);
+                write_rest(m, fields, sign, sink);
+            }
+            Form::RppAndRest => match split_rpp(lines.all()) {
+                (Some(rpp), _) => {
+                    write_tag(field.tag, sink);
+                    write_rpp(rpp, sink);
+                }
+                // What it holds stands in the record of 70.
+                (None, _) => continue,
+            },
+            Form::RppAndDetails => {
+                let (rpp, rest) = split_rpp(lines.all());
+                write_tag(field.tag, sink);
+                write_rpp(rpp.unwrap_or(RPP), sink);
+                write_details(Details::of(&IN_72, rest, sign), sign, sink);
+            }
+            form => {
+                write_tag(field.tag, sink);
+                write_lines(form, field.tag, lines.all(), sign, sink);
+            }
         }
+        sink.put(b"\n");
     }
 }
 
-fn write_record(kind: u32, sign: bool, tag: Tag, lines: &[&[u8]], sink: &mut impl Sink) {
+fn write_tag(tag: Tag, sink: &mut impl Sink) {
     sink.put(if tag[2] == 0 { &tag[..2] } else { &tag });
-    match form(kind, tag) {
-        Form::Details => write_details(DetailsText::of(&IN_70, lines, sign), sign, sink),
-        Form::Rpp => write_rpp(lines[0], sink),
-        Form::RppAndDetails => {
-            let (rpp, rest) = split_rpp(lines);
-            write_rpp(rpp.unwrap_or(RPP), sink);
-            write_details(DetailsText::of(&IN_72, rest, sign), sign, sink);
-        }
-        form => {
-            for (index, line) in lines.iter().enumerate() {
-                sink.put(b"\t");
-                let copied = role(form, tag, lines[0], index, line) == Role::Copied;
-                write_text(line, sign && !copied, sink);
-            }
-        }
+}
+
+fn write_lines(form: Form, tag: Tag, lines: &[&[u8]], sign: bool, sink: &mut impl Sink) {
+    for (index, line) in lines.iter().enumerate() {
+        sink.put(b"\t");
+        let copied = role(form, tag, lines[0], index, line) == Role::Copied;
+        write_text(line, sign && !copied, sink);
     }
-    sink.put(b"\n");
+}
+
+/// What 72 of a 103 holds of the details: a text by itself.
+fn write_rest(m: &[u8], fields: &[Field], sign: bool, sink: &mut impl Sink) {
+    let note = fields.iter().find(|field| field.tag == *b"72\0");
+    let Some(lines) = note.and_then(|note| note.lines(m)) else {
+        return;
+    };
+    let (_, rest) = split_rpp(lines.all());
+    if !rest.is_empty() {
+        write_text(Joined::of(&IN_72, rest, 0).bytes(), sign, sink);
+    }
 }
 
 /// The part that stands for an RPP line: what follows its mark.
@@ -100,11 +129,11 @@ fn write_rpp(line: &[u8], sink: &mut impl Sink) {
     sink.put(&line[RPP.len()..]);
 }
 
-fn write_details(details: DetailsText, sign: bool, sink: &mut impl Sink) {
+fn write_details(details: Details, sign: bool, sink: &mut impl Sink) {
     sink.put(b"\t");
     sink.put(&details.code);
     sink.put(b"\t");
-    write_text(details.bytes(), sign, sink);
+    write_text(details.text.bytes(), sign, sink);
 }
 
 fn write_text(text: &[u8], transliterated: bool, sink: &mut impl Sink) {

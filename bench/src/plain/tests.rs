@@ -214,7 +214,9 @@ fn texts_14() {
     assert_eq!(refused(202, COVER, "A|//B", "W|//W"), (14, "W\r\n/".into()));
 }
 
-fn details(sign: &str, text: &str) -> Result<Vec<usize>, Refusal> {
+/// The example's sheet with this text in the record of 70, with the sign or
+/// without, and this behind the last record.
+fn sheet_with(sign: &str, text: &str, behind: &str) -> String {
     let record = format!("70→10100→{text}¶");
     let sheet = SIGNED_SHEET.replace("70→10100→ОПЛАТА CNTR 5¶", &record);
     let sheet = sheet.replace("20→+A17", &format!("20→{sign}A17"));
@@ -223,16 +225,36 @@ fn details(sign: &str, text: &str) -> Result<Vec<usize>, Refusal> {
     } else {
         sheet
     };
-    let m = String::from_utf8(write(&sheet)?).expect("a message of the x set");
-    let field = m
-        .split(":70:")
-        .nth(1)
-        .and_then(|rest| rest.split("\r\n:").next());
-    Ok(field
-        .expect("details")
-        .split("\r\n")
-        .map(str::len)
-        .collect())
+    sheet + behind
+}
+
+/// The lines of a field of a written message.
+fn lines_of(m: &[u8], tag: &str) -> Option<Vec<String>> {
+    let m = std::str::from_utf8(m).expect("a message of the x set");
+    let field = m.split(&format!("\r\n:{tag}:")).nth(1)?;
+    let content = field.split("\r\n:").next().unwrap_or(field);
+    let content = content.split("\r\n-}").next().unwrap_or(content);
+    Some(content.split("\r\n").map(str::to_string).collect())
+}
+
+/// How long the lines of 70 and of 72 are.
+fn laid(sign: &str, text: &str, behind: &str) -> Result<(Vec<usize>, Vec<usize>), Refusal> {
+    let m = write(&sheet_with(sign, text, behind))?;
+    let lengths = |tag| {
+        let lines = lines_of(&m, tag).unwrap_or_default();
+        lines.iter().map(String::len).collect::<Vec<_>>()
+    };
+    Ok((lengths("70"), lengths("72")))
+}
+
+/// The lines of 70 where nothing may run on: a second record of 70 sees to it.
+/// 16 goes before the 6 of that record.
+fn details(sign: &str, text: &str) -> Result<Vec<usize>, Refusal> {
+    match write(&sheet_with(sign, text, "70→10100→A¶")) {
+        Err(Refusal { number: 6, .. }) => laid(sign, text, "").map(|(details, _)| details),
+        Err(refusal) => Err(refusal),
+        Ok(_) => panic!("two fields 70"),
+    }
 }
 
 #[test]
@@ -255,10 +277,254 @@ fn breaking() {
     );
     assert_eq!(details("", &"-".repeat(26)), Ok(vec![35]));
     assert_eq!(details("", &"-".repeat(27)), refuse(16, 0));
-    // Read, but not to be written.
+    assert_eq!(details("+", &"-".repeat(25)), refuse(16, 0));
+}
+
+const RPP: &str = "72→1.240229.5.POST¶";
+
+#[test]
+fn the_whole_goes_first() {
+    assert_eq!(
+        laid("+", &"Ж".repeat(129), RPP),
+        Ok((vec![35; 4], vec![20]))
+    );
+    assert_eq!(
+        laid("+", &"Ж".repeat(129), ""),
+        Ok((vec![35; 4], Vec::new()))
+    );
+    // One letter more: 70 is full, the letter runs on behind the RPP line.
+    assert_eq!(
+        laid("+", &"Ж".repeat(130), RPP),
+        Ok((vec![35; 4], vec![20, 6]))
+    );
+    assert_eq!(laid("", &"A".repeat(132), ""), Ok((vec![35; 4], vec![6])));
+}
+
+#[test]
+fn the_longest_first_half_decides() {
+    // A later cut costs two bytes more, and those are too many.
+    let text = format!("{}{}", "Ж".repeat(125), "A".repeat(72));
+    let rest = vec![35, 35, 2 + 74 - 30 - 33];
+    assert_eq!(
+        laid("+", &text, ""),
+        Ok((vec![35, 35, 35, 136 - 105], rest))
+    );
+    let text = format!("{}{}{}", "Ж".repeat(100), "A".repeat(5), "Ж".repeat(92));
+    let rest = vec![35, 35, 2 + 70 - 30 - 33];
+    assert_eq!(laid("+", &text, ""), Ok((vec![35; 4], rest)));
+    // Between two halves of one word both sides close.
+    let m = write(&sheet_with("+", &"A".repeat(140), "")).unwrap();
+    let details = lines_of(&m, "70").unwrap().concat();
+    assert_eq!(details, format!("'(VO10100)''{}'", "A".repeat(127)));
+    let rest = lines_of(&m, "72").unwrap().concat();
+    assert_eq!(rest, format!("/NZP/'{}'", "A".repeat(13)));
+    // A mark before the cut leaves the Latin side with its next letter.
+    let text = format!("{}A--A{}", "Ж".repeat(124), "Ж".repeat(9));
+    let m = write(&sheet_with("+", &text, "")).unwrap();
+    assert!(lines_of(&m, "70").unwrap().concat().ends_with("J'A'--"));
+    assert_eq!(lines_of(&m, "72").unwrap(), ["/NZP/'A'JJJJJJJJJ"]);
+}
+
+#[test]
+fn what_72_holds_and_what_both_hold() {
+    let dashes = |count: usize| "-".repeat(count);
+    let full = vec![20, 35, 35, 35, 35, 35];
+    assert_eq!(laid("", &dashes(188), RPP), Ok((vec![35], full)));
+    assert_eq!(laid("", &dashes(189), RPP), refuse(16, 0));
+    let rest = vec![35, 35, 35, 35, 35, 15];
+    assert_eq!(laid("", &dashes(201), ""), Ok((vec![35], rest)));
+    assert_eq!(laid("", &dashes(202), ""), refuse(16, 0));
+    assert!(laid("+", &"Ж".repeat(199), "").is_ok());
+    assert_eq!(laid("+", &"Ж".repeat(200), ""), refuse(16, 0));
+    assert!(laid("", &"A".repeat(201), RPP).is_ok());
+    assert_eq!(laid("", &"A".repeat(202), RPP), refuse(16, 0));
+    // 26 letters and 36 barred bytes don't fit 70 alone.
+    let text = format!("{}{}", "A".repeat(26), dashes(36));
+    assert_eq!(laid("", &text, ""), Ok((vec![34, 35], vec![5 + 2])));
+}
+
+#[test]
+fn where_the_rest_goes() {
+    let long = "A".repeat(140);
+    let number = |behind: &str| {
+        let refused = write(&sheet_with("", &long, behind)).expect_err("a refusal");
+        refused.number
+    };
+    // Before the first 77B: 13 and not 6, as 26T is missing.
+    assert_eq!(number("77B→/A¶"), 13);
+    // The one record of 72 takes it, whatever it holds and wherever it is.
+    assert_eq!(number("72→X¶"), 8);
+    assert_eq!(number("77B→/A¶72→1.240229.5.POST¶"), 6);
+    // A second 77B comes behind the new 72.
+    assert_eq!(number("77B→/A¶77B→/A¶"), 6);
+    // Two records of a tag: nothing runs on, and 16 comes before 6.
+    assert_eq!(number("70→10100→A¶"), 16);
+    assert_eq!(number(&format!("{RPP}{RPP}")), 16);
+    let twice = sheet_with("", "A", &format!("{RPP}{RPP}"));
+    assert_eq!(write(&twice), refuse(6, 0));
+    // 72 and 77B before 70: the message is built all the same, and then 7.
+    let whole = write(&sheet_with("", &long, "")).unwrap().len();
+    for (early, line) in [
+        ("72→1.240229.5.POST¶", "/RPP/1.240229.5.POST|"),
+        ("77B→/A¶", ":77B:/A|"),
+    ] {
+        let swapped = sheet_with("", &long, "").replace("20→A", &format!("{early}20→A"));
+        assert_eq!(write(&swapped), refuse(7, 0));
+        let answer = to_message(&sheet(&swapped), &mut []);
+        assert_eq!(answer, refuse(17, whole + message(line).len()));
+    }
+    let m = write(&sheet_with("", &long, "")).unwrap();
+    assert!(m.ends_with(b":71A:OUR\r\n:72:/NZP/AAAAAAAAA\r\n-}"));
+}
+
+/// The example's message with these lines of 70 and with this 72.
+fn message_with(details: &str, note: &str) -> String {
+    let m = SIGNED.replace("OPLATA 'CNTR' 5", details);
+    m.replace(":71A:OUR|", &format!(":71A:OUR|:72:{note}|"))
+}
+
+/// The refusal of a message; its place as what stands there.
+fn refusal(m: &str) -> (u32, String) {
+    refused(103, m, "", "")
+}
+
+#[test]
+fn the_form_of_72() {
+    let rpp = "/RPP/1.240229.5.POST";
+    let number = |note: &str| refusal(&message_with("A", note)).0;
+    let long = "J".repeat(30);
+    let later = "J".repeat(33);
+    for right in [
+        rpp.to_string(),
+        "/NZP/A".to_string(),
+        format!("{rpp}|/NZP/A"),
+        "/NZP/A|//B|//B|//B|//B|//B".to_string(),
+        format!("{rpp}|/NZP/A|//B|//B|//B|//B"),
+        format!("/NZP/{long}|//{later}"),
+        "/NZP/-|//:|///".to_string(),
+        "/NZP//NZP/".to_string(),
+    ] {
+        assert_eq!(number(&right), 0, "{right}");
+    }
+    for wrong in [
+        "/NZP/".to_string(),
+        "/NZP/A|//".to_string(),
+        "/NZP/A|B".to_string(),
+        "/NZP/A|/B".to_string(),
+        "//A".to_string(),
+        format!("{rpp}|//A"),
+        format!("{rpp}|{rpp}"),
+        format!("/NZP/A|{rpp}"),
+        format!("{rpp}|A"),
+        "/NZP/A|/NZP/A".to_string(),
+        "/NZP/A|//B|//B|//B|//B|//B|//B".to_string(),
+        format!("{rpp}|/NZP/A|//B|//B|//B|//B|//B"),
+        format!("/NZP/J{long}"),
+        format!("/NZP/J|//J{later}"),
+        "/RPP/1.240229.5.MAIL|/NZP/A".to_string(),
+    ] {
+        assert_eq!(number(&wrong), 8, "{wrong}");
+    }
+    // A code there is text.
+    assert_eq!(number("/NZP/'(VO12345)'"), 0);
+    assert_eq!(number("/NZP/(VO12345)"), 0);
+    // 70 keeps its own rule.
+    assert_eq!(refusal(&message_with("", "/NZP/A")).0, 8);
+}
+
+#[test]
+fn the_sheet_of_a_message_that_runs_on() {
+    let read_with = |details: &str, note: &str| read(103, &message_with(details, note));
+    let sheet_of = |text: &str, note: &str| sheet(&sheet_with("+", text, note));
+    assert_eq!(read_with("A", "/NZP/B"), Ok(sheet_of("АБ", "")));
+    let both = "/RPP/1.240229.5.POST|/NZP/B|//'B|//C'";
+    assert_eq!(read_with("A|A", both), Ok(sheet_of("ААБBC", RPP)));
+    // A 72 without an RPP line has no record, but its bit, its place and its
+    // content.
+    let m = message(&message_with("A", "/NZP/B"));
+    let mut list = [0; 27];
+    assert_eq!(check(103, &m, &mut list), Ok((9, 0b1_1110_0101_1011)));
+    let (start, end) = content(103, &m, 12).unwrap();
+    assert_eq!(m[start..end], *b"/NZP/B");
+    assert_eq!(list[25..], [start as u32, end as u32]);
+}
+
+#[test]
+fn each_half_is_a_text() {
+    let fourteen = |details: &str, note: &str, place: &str| {
+        let m = message_with(details, note);
+        assert_eq!(refusal(&m), (14, place.to_string()), "{m}");
+    };
+    fourteen("'A", "/NZP/B'", "'A\r\n");
+    fourteen("A", "/NZP/B'", "B'\r\n");
+    fourteen("A", "/NZP/''", "''\r\n");
+    fourteen("A", "/RPP/1.240229.5.POST|/NZP/A|//W", "A\r\n/");
+    fourteen("W", "/NZP/W", "W\r\n:");
+    // Without the sign there is none.
+    let m = message_with("A", "/NZP/'W").replace("'(VO10100)'", "(VO10100)");
+    assert_eq!(refusal(&m.replace(":20:+", ":20:")).0, 0);
+}
+
+#[test]
+fn no_more_than_210_bytes() {
+    let line = "J".repeat(35);
+    let details = format!("{}|{line}|{line}|{line}", "J".repeat(24));
+    let note = |count: usize| {
+        format!(
+            "/NZP/{}|//{}|//{}",
+            "J".repeat(30),
+            "J".repeat(33),
+            "J".repeat(count)
+        )
+    };
+    assert_eq!(refusal(&message_with(&details, &note(7))).0, 0);
+    let over = message_with(&details, &note(8));
+    assert_eq!(refusal(&over), (21, "/NZP".to_string()));
+    let behind_rpp = message_with(&details, &format!("/RPP/1.240229.5.POST|{}", note(8)));
+    assert_eq!(refusal(&behind_rpp), (21, "/NZP".to_string()));
+    assert_eq!(read(103, &over).map(|_| ()), refuse(21, over_place(&over)));
+    // Apostrophes that stand for nothing count; 14 goes before, 17 behind.
+    let idle = message_with(&details, &note(8).replace("/NZP/JJ", "/NZP/''"));
+    assert_eq!(refusal(&idle), (21, "/NZP".to_string()));
+    let open = message_with(&details, &note(8).replace("/NZP/J", "/NZP/'"));
+    assert_eq!(refusal(&open).0, 14);
+    assert_eq!(
+        check(103, &message(&over), &mut []),
+        refuse(21, over_place(&over))
+    );
+}
+
+fn over_place(m: &str) -> usize {
+    let m = message(m);
+    let place = m.windows(5).position(|part| part == b"/NZP/");
+    place.expect("a rest")
+}
+
+/// Read, but not to be written: with the sign, behind an RPP line.
+#[test]
+fn a_read_message_that_is_16() {
+    let later = format!("''{}", "-".repeat(33));
+    let details = format!("{}|{later}|{later}|{later}", "-".repeat(24));
+    let rest = format!(
+        "/NZP/{}|//{}|//{}",
+        "-".repeat(30),
+        "-".repeat(33),
+        "-".repeat(7)
+    );
+    let text = "-".repeat(193);
+    let m = message_with(&details, &format!("/RPP/1.240229.5.POST|{rest}"));
+    assert_eq!(read(103, &m), Ok(sheet(&sheet_with("+", &text, RPP))));
+    assert_eq!(laid("+", &text, RPP), refuse(16, 0));
+    // Without the RPP line it is written.
+    assert_eq!(
+        read(103, &message_with(&details, &rest)),
+        Ok(sheet(&sheet_with("+", &text, "")))
+    );
+    assert!(laid("+", &text, "").is_ok());
+    // What stood in 70 alone is written with a new 72.
     let m = SIGNED.replace("OPLATA 'CNTR' 5", &format!("{}|''--", "-".repeat(23)));
     assert!(read(103, &m).is_ok());
-    assert_eq!(details("+", &"-".repeat(25)), refuse(16, 0));
+    assert_eq!(laid("+", &"-".repeat(25), ""), Ok((vec![35], vec![6])));
 }
 
 /// Whether code and text can be divided in any way into four lines of 35, no

@@ -66,14 +66,14 @@ const fn desk_byte(sign: char) -> u8 {
     }
 }
 
-// Classes of desk bytes. The numbers matter to `measure_writing`.
-const RUSSIAN: u8 = 0;
-const LATIN: u8 = 1;
-const BOTH: u8 = 2;
+// Classes of desk bytes. The numbers matter to `measure_writing` and to `run_on`.
+pub const RUSSIAN: u8 = 0;
+pub const LATIN: u8 = 1;
+pub const BOTH: u8 = 2;
 const UNWRITABLE: u8 = 4;
 
 /// What a desk byte is.
-static CLASS: [u8; 256] = classes();
+pub static CLASS: [u8; 256] = classes();
 /// The bank byte of a desk byte on the Russian side.
 static TO_BANK: [u8; 256] = to_bank();
 /// The desk byte of a bank byte on the Russian side; 0 where it has no reading.

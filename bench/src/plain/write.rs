@@ -1,19 +1,21 @@
 //! Sheet to message.
 //!
 //! The records are judged and the message is built in one walk; what the walk
-//! finds is then named in the order of the rules.
+//! finds is then named in the order of the rules. Details of a 103 that 70 can't
+//! hold whole are put in behind the walk, when it is known what 72 there is.
 
+use super::breaking::put;
 use super::check::{begins_russian_tax_line, judged};
-use super::forms::{digits, form, role, vo_code_length, Form, Layout, Role, IN_70, IN_72, RPP};
+use super::forms::{
+    digits, form, role, vo_code_length, Form, Layout, Role, IN_70, IN_72, MOST_DETAILS, RPP,
+};
+use super::run_on::Whole;
 use super::text::{fill_writing, first_missing, measure_writing, X_SET};
 use super::types::{places, Tag};
 use super::{refuse, Refusal};
 
 /// The longest sheet.
 pub const SHEET_LIMIT: usize = 10_000;
-
-/// No details have more room: 30 and five times 33 in 72.
-const MOST_DETAILS: usize = 195;
 
 /// Writes the message of a sheet; answers the bytes written to `out`.
 pub fn to_message(sheet: &[u8], out: &mut [u8]) -> Result<usize, Refusal> {
@@ -114,18 +116,27 @@ fn parts(content: &[u8]) -> impl Iterator<Item = &[u8]> {
 }
 
 /// The message as it grows.
-struct Build {
+struct Build<'a> {
     kind: u32,
     sign: bool,
     message: Vec<u8>,
     /// The first byte that can't be written.
     unwritable: Option<usize>,
-    /// Whether some details don't fit their lines.
+    /// Whether some details don't fit their lines, and can't run on.
     unfit: bool,
+    /// Details of 70 that it can't hold whole, and where their lines go.
+    long: Option<(Written<'a>, usize)>,
+    /// How many records of 70 and of 72 a 103 has.
+    details_records: usize,
+    note_records: usize,
+    /// Where the RPP line of a 103 ends.
+    rpp_end: usize,
+    /// Where the first 77B begins.
+    regulatory: Option<usize>,
 }
 
-impl Build {
-    fn new(kind: u32, sheet_length: usize, sign: bool) -> Build {
+impl<'a> Build<'a> {
+    fn new(kind: u32, sheet_length: usize, sign: bool) -> Build<'a> {
         // Enough for a common sheet: a tab becomes CR LF, and so on.
         let mut message = Vec::with_capacity(sheet_length + sheet_length / 4 + 64);
         message.extend(b"{4:\r\n");
@@ -135,6 +146,11 @@ impl Build {
             message,
             unwritable: None,
             unfit: false,
+            long: None,
+            details_records: 0,
+            note_records: 0,
+            rpp_end: 0,
+            regulatory: None,
         }
     }
 
@@ -142,6 +158,9 @@ impl Build {
     fn finish(mut self) -> Result<Vec<u8>, Refusal> {
         if let Some(place) = self.unwritable {
             return refuse(15, place);
+        }
+        if let Some((long, at)) = self.long.take() {
+            self.unfit |= self.run_on(&long, at).is_none();
         }
         if self.unfit {
             return refuse(16, 0);
@@ -151,17 +170,25 @@ impl Build {
     }
 
     /// Adds the field of a record; none if the record is against the sheet's rules.
-    fn record(&mut self, record: &Record) -> Option<()> {
+    fn record(&mut self, record: &Record<'a>) -> Option<()> {
         let tag = record.shaped_tag()?;
         let content = record.content.filter(|_| record.ended)?;
         let place = record.start + record.tag.len() + 1;
+        if tag == *b"77B" {
+            self.regulatory.get_or_insert(self.message.len());
+        }
         self.message.push(b':');
         self.message.extend(record.tag);
         self.message.push(b':');
         match form(self.kind, tag) {
-            Form::Rpp => self.rpp(content, place)?,
+            Form::RppAndRest => {
+                self.rpp(content, place)?;
+                self.note_records += 1;
+                self.rpp_end = self.message.len();
+            }
             Form::Details => {
                 let (code, text) = code_and_text(content)?;
+                self.details_records += 1;
                 self.details(&IN_70, IN_70.lines, code, text, place + 6);
             }
             Form::RppAndDetails => self.rpp_and_details(content, place)?,
@@ -203,7 +230,7 @@ impl Build {
         Some(())
     }
 
-    fn rpp_and_details(&mut self, content: &[u8], place: usize) -> Option<()> {
+    fn rpp_and_details(&mut self, content: &'a [u8], place: usize) -> Option<()> {
         let (rpp, code, text) = rpp_code_and_text(content)?;
         let mut lines = IN_72.lines;
         if !rpp.is_empty() {
@@ -242,62 +269,118 @@ impl Build {
         }
     }
 
-    /// The VO code and the text written for it, broken into lines.
-    fn details(&mut self, layout: &Layout, lines: usize, code: &[u8], text: &[u8], place: usize) {
-        let units = match self.measure(text) {
-            Ok(units) => units,
-            Err(offset) => return self.note(Some(offset), place),
-        };
-        let code_length = vo_code_length(self.sign);
-        let mut room = [0; MOST_DETAILS];
-        let Some(whole) = room.get_mut(..code_length + units) else {
-            self.unfit = true;
-            return;
-        };
-        let (code_room, text_room) = whole.split_at_mut(code_length);
-        fill_code(self.sign, code, code_room);
-        self.fill(text, text_room);
-        self.unfit |= !self.break_into_lines(layout, lines, whole);
-    }
-
-    /// Whether the code and the text behind it fit so many lines.
-    fn break_into_lines(&mut self, layout: &Layout, lines: usize, whole: &[u8]) -> bool {
-        let mut rest = whole;
-        // The code is never broken.
-        let mut least = vo_code_length(self.sign);
-        let mut room = layout.first_room;
-        let mut mark = layout.first_mark;
-        for _ in 0..lines {
-            let Some(taken) = longest_line(rest, least, room, layout) else {
-                return false;
-            };
-            self.message.extend(mark);
-            self.message.extend(&rest[..taken]);
-            rest = &rest[taken..];
-            if rest.is_empty() {
-                return true;
-            }
-            self.message.extend(b"\r\n");
-            (least, room, mark) = (1, layout.later_room, layout.later_mark);
+    /// Details of 72, or of 70 in a 103: those may run on if they don't fit.
+    fn details(
+        &mut self,
+        layout: &Layout,
+        lines: usize,
+        code: &'a [u8],
+        text: &'a [u8],
+        place: usize,
+    ) {
+        match Written::of(self.sign, code, text) {
+            Err(unwritable) => self.note(Some(unwritable), place),
+            Ok(written) if written.put(layout, lines, &mut self.message).is_some() => {}
+            Ok(long) if self.kind == 103 => self.long = Some((long, self.message.len())),
+            Ok(_) => self.unfit = true,
         }
-        false
     }
 
-    /// How many bytes a text takes, or where it can't be written.
-    fn measure(&self, text: &[u8]) -> Result<usize, usize> {
-        if self.sign {
-            return measure_writing(text).map_err(|refusal| refusal.place);
+    /// Cuts details in two for 70 and 72. None if they are too long, if no cut
+    /// fits, or if there are two records of one of the fields.
+    fn run_on(&mut self, long: &Written, at: usize) -> Option<()> {
+        if self.details_records > 1 || self.note_records > 1 {
+            return None;
         }
-        first_missing(&X_SET, text).map_or(Ok(text.len()), Err)
-    }
-
-    /// Writes a text that can be written into room of just its length.
-    fn fill(&self, text: &[u8], room: &mut [u8]) {
-        if self.sign {
-            fill_writing(text, room);
+        let mut whole = Whole::new();
+        long.fill(&mut whole)?;
+        let lines = IN_72.lines - self.note_records;
+        let (first, rest) = whole.cut(self.sign, long.text, IN_72.room(lines))?;
+        let mut details = Vec::with_capacity(MOST_DETAILS);
+        put(
+            &IN_70,
+            IN_70.lines,
+            vo_code_length(self.sign),
+            first,
+            &mut details,
+        )?;
+        let mut note = Vec::with_capacity(MOST_DETAILS);
+        let note_at = if self.note_records > 0 {
+            note.extend(b"\r\n");
+            put(&IN_72, lines, 0, rest, &mut note)?;
+            self.rpp_end
         } else {
-            room.copy_from_slice(text);
+            note.extend(b":72:");
+            put(&IN_72, lines, 0, rest, &mut note)?;
+            note.extend(b"\r\n");
+            self.regulatory.unwrap_or(self.message.len())
+        };
+        if at < note_at {
+            self.insert(note_at, note);
+            self.insert(at, details);
+        } else {
+            self.insert(at, details);
+            self.insert(note_at, note);
         }
+        Some(())
+    }
+
+    fn insert(&mut self, at: usize, bytes: Vec<u8>) {
+        self.message.splice(at..at, bytes);
+    }
+}
+
+/// A text that can be written, and the VO code in front of it.
+struct Written<'a> {
+    sign: bool,
+    code: &'a [u8],
+    text: &'a [u8],
+    /// How many bytes the text is written in.
+    units: usize,
+}
+
+impl<'a> Written<'a> {
+    /// Or the offset of what can't be written.
+    fn of(sign: bool, code: &'a [u8], text: &'a [u8]) -> Result<Written<'a>, usize> {
+        let units = match sign {
+            true => measure_writing(text).map_err(|refusal| refusal.place)?,
+            false => first_missing(&X_SET, text).map_or(Ok(text.len()), Err)?,
+        };
+        Ok(Written {
+            sign,
+            code,
+            text,
+            units,
+        })
+    }
+
+    fn length(&self) -> usize {
+        vo_code_length(self.sign) + self.units
+    }
+
+    /// Fills in the code and the text written; none if they are too long for
+    /// any fields.
+    fn fill(&self, whole: &mut Whole) -> Option<()> {
+        let filled = whole.room.get_mut(..self.length())?;
+        let (code_room, text_room) = filled.split_at_mut(vo_code_length(self.sign));
+        fill_code(self.sign, self.code, code_room);
+        if self.sign {
+            fill_writing(self.text, text_room);
+        } else {
+            text_room.copy_from_slice(self.text);
+        }
+        whole.length = self.length();
+        Some(())
+    }
+
+    /// Puts them in so many lines; none, and nothing put, if they don't fit.
+    fn put(&self, layout: &Layout, lines: usize, to: &mut Vec<u8>) -> Option<()> {
+        if self.length() > layout.room(lines) {
+            return None;
+        }
+        let mut whole = Whole::new();
+        self.fill(&mut whole)?;
+        put(layout, lines, vo_code_length(self.sign), whole.bytes(), to)
     }
 }
 
@@ -306,16 +389,6 @@ fn fill_code(sign: bool, code: &[u8], room: &mut [u8]) {
     room.copy_from_slice(form);
     let first = 3 + sign as usize;
     room[first..first + 5].copy_from_slice(code);
-}
-
-/// The most bytes, within the room, that the next line may take of the rest.
-fn longest_line(rest: &[u8], least: usize, room: usize, layout: &Layout) -> Option<usize> {
-    if rest.len() <= room {
-        return Some(rest.len());
-    }
-    // A mark keeps a line's first byte from being taken for a new field.
-    let may_begin = |b: u8| !layout.later_mark.is_empty() || !matches!(b, b':' | b'-');
-    (least..=room).rev().find(|&taken| may_begin(rest[taken]))
 }
 
 /// Just two parts: the five digits of a VO code, and a text.

@@ -1,9 +1,11 @@
 //! The check of whole messages and the values of 32A, timed.
 
+use super::tomessage::with_details;
 use super::{heading, side_by_side};
 use crate::calls as proved;
 use crate::messages::{self, Message};
 use crate::plain::check as plain;
+use crate::plain::write::to_message;
 use crate::random::Random;
 use std::hint::black_box;
 
@@ -16,9 +18,33 @@ pub fn run() {
         let mark = if sign { "with" } else { "without" };
         line(&format!("longest {kind} {mark} the sign"), kind, &m);
     }
+    run_on();
     refused(&common);
     refused_at_length();
     values(&common);
+}
+
+/// Details that run on, and a byte too many of them.
+fn run_on() {
+    for sign in [false, true] {
+        let m = full_details(sign);
+        let mark = if sign { "with" } else { "without" };
+        line(&format!("210 bytes of details {mark} the sign"), 103, &m);
+        let over = edited(&m, b"\r\n-}", b"J\r\n-}");
+        line("211 bytes of details", 103, &over);
+    }
+}
+
+/// A 103 whose details run on behind an RPP line, as long as may be.
+pub fn full_details(sign: bool) -> Vec<u8> {
+    let text = if sign {
+        "Я".repeat(199)
+    } else {
+        "A".repeat(201)
+    };
+    let mut room = [0; 2_000];
+    let units = to_message(&with_details(sign, &text), &mut room);
+    room[..units.expect("details that fit")].to_vec()
 }
 
 /// A common payment with one fault.

@@ -3,9 +3,11 @@
 use super::checks::edited;
 use super::{heading, side_by_side};
 use crate::calls as proved;
+use crate::long::Long;
 use crate::messages;
 use crate::plain::{read, write as plain};
 use crate::random::Random;
+use crate::signs::desk;
 use std::hint::black_box;
 
 pub fn run() {
@@ -26,6 +28,45 @@ pub fn run() {
     );
     line("10,000 bytes, many names", &lengthened(&common, b"\tPETR"));
     line("10,000 bytes, one name", &lengthened(&common, b"Z\xDF"));
+    run_on();
+}
+
+/// Details that run on, behind an RPP line; and some that are too long.
+fn run_on() {
+    let repeated =
+        |signs: &str, length: usize| -> String { signs.chars().cycle().take(length).collect() };
+    let words = "ОПЛАТА ПО ДОГОВОРУ Abc-Line №17/5, GmbH Nord ЗА УСЛУГИ (ЧАСТЬ 2) ";
+    let far_apart = format!("A{}", "-".repeat(40));
+    for (name, text) in [
+        ("Russian", repeated("Я", 150)),
+        ("Russian", repeated("Я", 199)),
+        ("Russian", repeated("Я", 200)),
+        ("words", repeated(words, 150)),
+        ("words", repeated(words, 180)),
+        ("letter by letter", repeated("AЯbЧCЮ", 96)),
+        ("Latin", repeated("Abcd", 190)),
+        ("dashes", repeated("-", 186)),
+        ("dashes", repeated("-", 187)),
+        ("Latin far apart", repeated(&far_apart, 180)),
+        ("Latin and dashes in turn", repeated("A-", 180)),
+    ] {
+        let details = text.chars().count();
+        let sheet = with_details(true, &text);
+        line(&format!("{details} of details, {name}"), &sheet);
+    }
+    let sheet = with_details(false, &repeated("Payment 12/7 (part), ", 201));
+    line("201 of details without the sign", &sheet);
+}
+
+/// A 103 with an RPP part and this text.
+pub fn with_details(sign: bool, text: &str) -> Vec<u8> {
+    let long = Long {
+        sign,
+        rpp: true,
+        regulatory: false,
+        text: desk(text),
+    };
+    long.sheet()
 }
 
 fn details(letters: usize) -> Vec<u8> {

@@ -1,6 +1,6 @@
 //! Messages to sheets, timed.
 
-use super::checks::{edited, long_field};
+use super::checks::{edited, full_details, long_field};
 use super::{heading, side_by_side};
 use crate::calls as proved;
 use crate::messages;
@@ -17,6 +17,11 @@ pub fn run() {
         let m = messages::longest(&mut Random::new(1), kind, sign).bytes();
         let mark = if sign { "with" } else { "without" };
         line(&format!("longest {kind} {mark} the sign"), kind, &m);
+    }
+    for sign in [false, true] {
+        let mark = if sign { "with" } else { "without" };
+        let name = format!("210 bytes of details {mark} the sign");
+        line(&name, 103, &full_details(sign));
     }
     for (from, to) in [
         (":23B:CRED", ":23B:CREd"),

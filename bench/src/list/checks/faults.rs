@@ -59,6 +59,13 @@ const FAULTS: &[Fault] = &[
     |draft| drop_field(draft, "26T"),
     // 14
     |draft| set(&mut draft.message, "50K", "INN7707083893.KPP770701001|W"),
+    // 21
+    |draft| {
+        set(&mut draft.message, "70", "'(VO10100)'~24|~35|~35|~35");
+        let note = &mut field(draft, "72").lines;
+        note.truncate(1);
+        note.extend(lines("/NZP/~30|//~33|//~8"));
+    },
     // 17
     |draft| draft.room = 20,
 ];
@@ -122,7 +129,7 @@ mod tests {
     use super::*;
     use crate::plain::check::check;
 
-    const NUMBERS: [u32; 15] = [18, 2, 3, 4, 5, 6, 7, 8, 9, 10, 11, 12, 13, 14, 17];
+    const NUMBERS: [u32; 16] = [18, 2, 3, 4, 5, 6, 7, 8, 9, 10, 11, 12, 13, 14, 21, 17];
 
     #[test]
     fn the_first_in_order_is_named() {

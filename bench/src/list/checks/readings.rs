@@ -106,8 +106,8 @@ const TEXTS: &[&str] = &[
 ];
 
 /// Lines of dashes behind apostrophes that stand for nothing. Written anew no
-/// line of 70 may begin with one: the first fits, the others are 16. In a 202
-/// all fit.
+/// line of 70 may begin with one: the first fits, of the others a rest runs on.
+/// In a 202 all fit.
 fn crowded(records: &mut Vec<Record>) {
     let line = format!("|''{}", "-".repeat(31));
     for count in 1..=3 {
