@@ -24,9 +24,9 @@
 #include <stddef.h>
 #include <stdint.h>
 
-#define DESK_VERSION "1.0.0"
+#define DESK_VERSION "1.1.0"
 #define DESK_VERSION_MAJOR 1
-#define DESK_VERSION_MINOR 0
+#define DESK_VERSION_MINOR 1
 #define DESK_VERSION_PATCH 0
 
 /* Input that is longer is refused by 1: bytes of a sheet, of a message, of a desk text, of a bank text. */
@@ -78,7 +78,7 @@ enum desk_refusal {
   /* A character that can't be sent: a small Russian letter, an apostrophe in a name or in details; without
    * the sign `+` any Russian letter. */
   DESK_REFUSED_CHARACTER = 15,
-  /* The details do not fit the lines of their field. */
+  /* The details do not fit the lines of their field; those of a 103 do not fit the fields 70 and 72 together. */
   DESK_REFUSED_DETAILS = 16,
   /* The room lent is too short (a matter for the program, not for the clerk). */
   DESK_REFUSED_ROOM = 17,
@@ -86,7 +86,9 @@ enum desk_refusal {
   DESK_REFUSED_TYPE = 18,
   /* The sheet is not built as a sheet must be: a record without its end, an empty part, a wrong tag, VO
    * digits that are not five. */
-  DESK_REFUSED_SHEET = 19
+  DESK_REFUSED_SHEET = 19,
+  /* The details of a 103, run on from field 70 into field 72, have more than 210 bytes with their code. */
+  DESK_REFUSED_RUN_ON = 21
 };
 
 /* The places of a 103; 56 is 56A or 56D, 57 is 57A or 57D. */
@@ -157,7 +159,7 @@ uint64_t desk_write_text(uint32_t sign, const uint8_t *text, size_t text_len, ui
 
 /* A message judged by every rule. Accepted: fields + word * 2^16, where the word has a bit for each place
  * present, counted from bit 0; list then holds colon, content start and content end of each field in turn.
- * Refused: by the first broken rule of 18, 1 to 14, then 17 (place: the numbers needed). */
+ * Refused: by the first broken rule of 18, 1 to 14, 21, then 17 (place: the numbers needed). */
 DESK_NOT_NULL
 uint64_t desk_check(uint32_t kind, const uint8_t *message, size_t len, uint32_t *list, size_t list_len);
 
@@ -174,14 +176,15 @@ uint64_t desk_kopecks(uint32_t kind, const uint8_t *message, size_t len);
 DESK_NOT_NULL
 uint64_t desk_date(uint32_t kind, const uint8_t *message, size_t len);
 
-/* The sheet of a message. Accepted: the bytes written to out; no sheet is longer than its message. Refused:
- * the message's refusal, then 17 (place: the bytes needed). */
+/* The sheet of a message; its record of 70 holds all of the details, also those that run on into 72. Accepted:
+ * the bytes written to out; no sheet is longer than its message. Refused: the message's refusal, then 17 (place:
+ * the bytes needed). */
 DESK_NOT_NULL
 uint64_t desk_to_sheet(uint32_t kind, const uint8_t *message, size_t len, uint8_t *out, size_t out_len);
 
-/* The message of a sheet; the type stands in the sheet. Accepted: the bytes written to out. Refused: 1, 19,
- * 18, 15, 16, then 17 (place: the bytes needed, which may be over 10,000), then the refusal of the message
- * itself (1, 5 to 13) with place 0. */
+/* The message of a sheet; the type stands in the sheet. Details of a 103 that field 70 can't hold run on into
+ * 72. Accepted: the bytes written to out. Refused: 1, 19, 18, 15, 16, then 17 (place: the bytes needed, which may
+ * be over 10,000), then the refusal of the message itself (1, 5 to 13) with place 0. */
 DESK_NOT_NULL
 uint64_t desk_to_message(const uint8_t *sheet, size_t len, uint8_t *out, size_t out_len);
 

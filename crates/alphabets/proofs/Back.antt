@@ -35,7 +35,7 @@ after-said zero t n = absurd (n refl)
 after-said (suc y) t n = refl
 
 -- one character in front, and the apostrophe before it
-one-character : (s : Bool) (x : ℕ) (b d : List ℕ) → Back s x → reads s b ≡ said d → reads s (spell (kind x) s x ∷ b) ≡ said (x ∷ d)
+pub one-character : (s : Bool) (x : ℕ) (b d : List ℕ) → Back s x → reads s b ≡ said d → reads s (spell (kind x) s x ∷ b) ≡ said (x ∷ d)
 unfolding reads
 one-character s x b d w e = simp (ne-eqb (spell (kind x) s x) 39 (w .no-mark), w .reads-back, e) (after-said x d (w .not-zero))
 

@@ -7,6 +7,9 @@ pub mod StopLaws
 pub mod AnswerLaws
 pub mod SizeLaws
 pub mod CallTheorems
+pub mod SaidLaws
+pub mod HalfLaws
+pub mod GroupLaws
 pub mod LetterExamples
 pub mod RunLaws
 pub mod PieceLaws

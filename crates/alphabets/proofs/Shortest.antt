@@ -22,7 +22,7 @@ pub data Beats (s : Bool) (B b : List ℕ) : Type 0 where
   fewer : length B ≡ length b → inner s B < inner s b → Beats s B b
   same : B ≡ b → Beats s B b
 
-at-most : {s : Bool} {B b : List ℕ} → Beats s B b → length B ≤ length b
+pub at-most : {s : Bool} {B b : List ℕ} → Beats s B b → length B ≤ length b
 at-most (shorter h) = omega arith
 at-most (fewer e h) = omega arith
 at-most (same e) = omega (arith, ap length e)
@@ -76,8 +76,8 @@ leave [] e = refl
 leave (x ∷ xs) e = leave-by (kind x) (latinNext xs) x xs e
 
 -- with a Latin character next the Russian side costs one byte more, and no character between apostrophes
-record Dear (r l : List ℕ) : Type 0 where
-  more : length r ≡ suc (length l)
+pub record Dear (r l : List ℕ) : Type 0 where
+  pub more : length r ≡ suc (length l)
   kept : inner false r ≤ inner true l
 
 dear-by : (k : Kind) (n : Bool) (x : ℕ) (xs : List ℕ) → kind x ≡ k → latinFirst k n ≡ true → (n ≡ true → Dear (best false xs) (best true xs)) → Dear (bestBy k false n x xs) (bestBy k true n x xs)
@@ -92,7 +92,7 @@ dear-by common true x xs e l h =
       kept = omega (arith, inner-character false x (best false xs) (no-mark common false x e refl), inner-character true x (best true xs) (no-mark common true x e refl));
     }
 
-dear : (d : List ℕ) → latinNext d ≡ true → Dear (best false d) (best true d)
+pub dear : (d : List ℕ) → latinNext d ≡ true → Dear (best false d) (best true d)
 unfolding best latinNext
 dear [] e = absurd (false≢true e)
 dear (x ∷ xs) e = dear-by (kind x) (latinNext xs) x xs refl e (dear xs)

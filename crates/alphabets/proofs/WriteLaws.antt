@@ -1,7 +1,7 @@
 -- Only the code's way needs this. How a desk text is written: the size and the text of what is left, over a Russian run and a Latin group, and the loops along them. Assumes nothing.
 use Prim.Native.Nat.{ℕ, zero, suc, _+_, _-_, _*_, _<_, _≤_}
 use mathlib.Core.Path.{_≡_, refl, sym, ap, _∙_}
-use mathlib.Core.Bool.{Bool, true, false, _&&_, false≢true}
+use mathlib.Core.Bool.{Bool, true, false, _&&_}
 use mathlib.Core.List.{List, [], _∷_, _++_, append-assoc}
 use native.Mathlib.Omega.{arith}
 use native.Mathlib.Decide.{decLt}
@@ -26,6 +26,7 @@ use Rattle.alphabets.specs.declared.parts.Extent.the-variants.{Takes, Ha
 use Rattle.alphabets.proofs.GridLaws.{big-kind}
 use Rattle.alphabets.proofs.Back.{never, rest-good}
 use Rattle.alphabets.proofs.Shortest.{leave}
+use Rattle.alphabets.proofs.GroupLaws.{group-text, group-le, group-latin, group-none}
 use Rattle.alphabets.proofs.PartLaws.{takes-halts}
 use Rattle.alphabets.proofs.RunLaws.{through-length, Ended, ended, Putting, putting-start, putting-end, putting-room, putting-by}
 
@@ -204,41 +205,6 @@ run-text (x ∷ xs) = go (ltb 1 (getD gridTable x 0)) refl (run-text xs)
     go false e ih = refl
     go true e ih = shown x xs (ltb-true 1 (getD gridTable x 0) e) .text ∙ ap (λ (u : List ℕ). getD gridTable x 0 ∷ u) ih
 
--- ---- the Latin group
-group-first : (x : ℕ) (xs : List ℕ) → latinNext (x ∷ xs) ≡ true → best true (x ∷ xs) ≡ x ∷ best true xs
-unfolding best latinNext
-group-first x xs n = go (kind x) refl n
-  where
-    go : (k : Kind) → kind x ≡ k → latinFirst k (latinNext xs) ≡ true → best true (x ∷ xs) ≡ x ∷ best true xs
-    go unwritable e n = absurd (false≢true n)
-    go russian e n = absurd (false≢true n)
-    go latin e n = rw e
-    go common e n = rw (e, n)
-
-group-text : (d : List ℕ) → best true d ≡ take (group d) d ++ 39 ∷ best false (drop (group d) d)
-unfolding group latinNext
-group-text [] = leave [] refl
-group-text (x ∷ xs) = go (latinNext (x ∷ xs)) refl (group-text xs)
-  where
-    go : (q : Bool) → latinNext (x ∷ xs) ≡ q → best true xs ≡ take (group xs) xs ++ 39 ∷ best false (drop (group xs) xs)
-        → best true (x ∷ xs) ≡ take (pick q (suc (group xs)) 0) (x ∷ xs) ++ 39 ∷ best false (drop (pick q (suc (group xs)) 0) (x ∷ xs))
-    go false e ih = leave (x ∷ xs) e
-    go true e ih = group-first x xs e ∙ ap (λ (u : List ℕ). x ∷ u) ih
-
-group-le : (d : List ℕ) → group d ≤ length d
-unfolding group
-group-le [] = omega arith
-group-le (x ∷ xs) = go (latinNext (x ∷ xs)) (group-le xs)
-  where
-    go : (q : Bool) → group xs ≤ length xs → pick q (suc (group xs)) 0 ≤ suc (length xs)
-    go true h = omega arith
-    go false h = omega arith
-
--- a group is opened at a Latin letter, and is not empty
-group-latin : (x : ℕ) (xs : List ℕ) → kind x ≡ latin → group (x ∷ xs) ≡ suc (group xs)
-unfolding group latinNext
-group-latin x xs e = rw e
-
 -- ---- the next character that is not shared, from a place on
 cut : (d : List ℕ) (i : ℕ) → i < length d → drop i d ≡ getD d i 0 ∷ drop (i + 1) d
 cut d i h = rw (add-one, drop-cons d i 0)
@@ -283,11 +249,6 @@ grouping-start d from h =
 group-more : (d : List ℕ) (i : ℕ) → i < length d → latinNext (drop i d) ≡ true → group (drop i d) ≡ suc (group (drop (i + 1) d))
 unfolding group
 group-more d i h n = rw (add-one, drop-cons d i 0) (rw (rw (drop-cons d i 0) at n))
-
-group-none : (d : List ℕ) → latinNext d ≡ false → group d ≡ 0
-unfolding group
-group-none [] n = refl
-group-none (x ∷ xs) n = rw n
 
 -- all characters of a stretch before a Latin character are in the group
 stretch : (d : List ℕ) (n a : ℕ) → a + n ≤ length d → ((j : ℕ) → a ≤ j → j < a + n → latinNext (drop j d) ≡ true) → group (drop a d) ≡ n + group (drop (a + n) d)

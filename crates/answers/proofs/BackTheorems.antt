@@ -25,7 +25,7 @@ use Rattle.records.specs.Rule19.{sheetForm}
 use Rattle.writer.specs.Sheet.{messageFor, sheetRules, ownRule}
 use Rattle.written.proofs.OwnLaws.{own-fine}
 use Rattle.sheets.specs.Gather.{typeName, sheetOf}
-use Rattle.trips.specs.Again.{Crowded70}
+use Rattle.trips.specs.Again.{CrowdedBehindRpp}
 use Rattle.trips.proofs.BackLaws.{type-stands, sheet-back}
 use Rattle.trips.proofs.AgainTheorems.{sheet-passes, own-again}
 use Rattle.answers.specs.Line.{NoLine, shown}
@@ -99,7 +99,7 @@ module _ (i : List ℕ) (e : sheetVerdict i ≡ Fine) where
     rewritten : Rewritten i (sheetIn i) r b
     rewritten = go (sheet-passes (formFor i) (messageIn i) accepted-in)
       where
-        go : Clean (sheetRules (sheetIn i)) ⊎ ((first (sheetRules (sheetIn i)) ≡ Broken 16 0) × Crowded70 (formFor i) (signOf (fields (messageIn i))) (fields (messageIn i))) → Rewritten i (sheetIn i) r b
+        go : Clean (sheetRules (sheetIn i)) ⊎ ((first (sheetRules (sheetIn i)) ≡ Broken 16 0) × CrowdedBehindRpp (formFor i) (signOf (fields (messageIn i))) (fields (messageIn i))) → Rewritten i (sheetIn i) r b
         go (inl c) =
             let m : take k b ≡ messageFor (sheetIn i) = shown-as (passes c) in
             again k d (subst NoLine (sym m) (line-apart (sheetIn i)))

@@ -10,7 +10,7 @@ use Rattle.base.specs.declared.Outcome.the-variants.{Done}
 use Rattle.fields.specs.Field.{fields}
 use Rattle.fields.specs.Frame.{limit}
 use Rattle.types.specs.Sign.{signOf}
-use Rattle.trips.specs.Again.{Crowded70}
+use Rattle.trips.specs.Again.{CrowdedBehindRpp}
 use Rattle.trips.specs.Back.{typeIn}
 use Rattle.answers.specs.Line.{refusalLine, NoLine}
 use Rattle.answers.specs.Programs.{SheetAnswered, messageIn, formFor}
@@ -25,7 +25,7 @@ abbrev pub WritesSheet : List ℕ → List ℕ → Type 0
 WritesSheet i t = (out : List ℕ) (r : Outcome) (after : List ℕ) → limit ≤ length out → SheetAnswered i out r after → (r ≡ Done (length t)) × (after ≡ over t out)
 
 -- t is the sheet that `tosheet` wrote for i; what `tomessage` answered for it, r, and left, b: a message that `tosheet` turns into t again, or
--- the line of 16, and then for field 70 of a 103 with the sign
+-- the line of 16, and then for details of a 103 with the sign that run on behind an RPP line
 pub data Rewritten (i t : List ℕ) (r : Outcome) (b : List ℕ) : Type 0 where
   again : (k : ℕ) → r ≡ Done k → NoLine (take k b) → WritesSheet (inputOf t (take k b)) t → Rewritten i t r b
-  crowded : (k : ℕ) → r ≡ Done k → take k b ≡ refusalLine 16 0 → Crowded70 (formFor i) (signOf (fields (messageIn i))) (fields (messageIn i)) → Rewritten i t r b
+  crowded : (k : ℕ) → r ≡ Done k → take k b ≡ refusalLine 16 0 → CrowdedBehindRpp (formFor i) (signOf (fields (messageIn i))) (fields (messageIn i)) → Rewritten i t r b

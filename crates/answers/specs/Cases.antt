@@ -15,17 +15,17 @@ pub data Case : Type 0 where
   -- the line of a number and a place
   lined : ℕ → ℕ → String → Case
   -- what is written for a sheet
-  answered : String → String → Case
+  answered : List ℕ → String → Case
   -- what is written for a message behind 103 and LF: its sheet
-  read : String → String → Case
+  read : String → List ℕ → Case
   -- what is written for the whole input of `tosheet`: a line
   told : String → String → Case
 
 abbrev pub Holds : Case → Type 0
 Holds (spelt n t) = decimal n ≡ bytes t
 Holds (lined n p t) = refusalLine n p ≡ bytes t
-Holds (answered s t) = messageAnswer (desk s) ≡ bytes t
-Holds (read i s) = sheetAnswer (49 ∷ 48 ∷ 51 ∷ 10 ∷ bytes i) ≡ desk s
+Holds (answered s t) = messageAnswer s ≡ bytes t
+Holds (read i s) = sheetAnswer (49 ∷ 48 ∷ 51 ∷ 10 ∷ bytes i) ≡ s
 Holds (told i t) = sheetAnswer (bytes i) ≡ bytes t
 
 unfoldable pub cases : List Case
@@ -35,11 +35,11 @@ cases =
     ∷ lined 14 0 "refused\t14\t0\n"
     -- the example of the rules
     ∷ answered sheet103 sample
-    ∷ answered "" "refused\t19\t0\n"
-    ∷ answered "MT\t103\n20\tA_\n" "refused\t15\t11\n"
-    ∷ answered "MT\t999\n20\t_\n" "refused\t18\t0\n"
+    ∷ answered (desk "") "refused\t19\t0\n"
+    ∷ answered (desk "MT\t103\n20\tA_\n") "refused\t15\t11\n"
+    ∷ answered (desk "MT\t999\n20\t_\n") "refused\t18\t0\n"
     -- the message's own refusal, with place 0
-    ∷ answered "MT\t103\n" "refused\t7\t0\n"
+    ∷ answered (desk "MT\t103\n") "refused\t7\t0\n"
     -- the other way
     ∷ read sample sheet103
     -- no type: nothing, CR before LF, two digits; a type that is none

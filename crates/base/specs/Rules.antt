@@ -7,7 +7,7 @@ use Rattle.base.specs.declared.Verdict.the-variants.{Fine, Broken}
 
 -- the greatest number that a refusal has
 abbrev pub lastNumber : ℕ
-lastNumber = 19
+lastNumber = 21
 
 abbrev pub then : Verdict → Verdict → Verdict
 then Fine w = w

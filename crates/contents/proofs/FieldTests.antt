@@ -15,9 +15,11 @@ use Rattle.contents.specs.declared.Content.{Content}
 use Rattle.contents.specs.declared.Content.the-variants as holds
 use Rattle.contents.specs.Words.{Text, Line, Size, Digits, join}
 use Rattle.contents.specs.Lines.{Name, codeOpening, codeClosing}
-use Rattle.contents.specs.Fields.{One, Then, Any, Several, Names, Beside, Customer, Payer, Details, Right}
-use Rattle.contents.specs.Tests.{sized, piece, sizes, isName, one, firstThen, any, several, beside, customer, payer, codeParts, codeTest, laterTest, isDetails, right}
+use Rattle.contents.specs.Fields.{One, Then, Any, Several, Names, Beside, Customer, Payer, Details, InRest, Right}
+use Rattle.contents.specs.Tests.{sized, piece, sizes, isName, one, firstThen, any, several, beside, customer, payer, codeParts, codeTest, marked, isDetails, isRest, right}
+use Rattle.contents.specs.Answers.{Marked}
 use Rattle.contents.proofs.CutLaws.{cut-whole, cut-once}
+use Rattle.contents.proofs.MarkedLaws.{marked-texts, texts-marked, rest-made, rest-first, rest-later, rest-some}
 use Rattle.contents.proofs.LineTests.{size-says, just-says, starts-says, begins-says, reference-says, purpose-says, payment-says, own-says, account-says, looks-says, party-says, bic-says, tax-says, rpp-says}
 
 -- ---- lines of a kind
@@ -76,21 +78,11 @@ code-tests first room sign ts =
     (says-le (length (codeOpening sign) + (5 + (length (codeClosing sign) + length (piece 4 ts)))) room))))
 
 -- ---- details: the later lines
-abbrev Marked : String → ℕ → Line → Type 0
-Marked later rest l = (s : Text) × (l ≡ bytes later ++ s) × Size 1 rest s
+marked-says : (mark : String) (room : ℕ) (l : Line) → Says (Marked (bytes mark) room l) (marked (bytes mark) room l)
+marked-says mark room l = starts-says mark (Size 1 room) (sizes 1 room) (size-says 1 room) l
 
 abbrev on : String → List Text → List Line
 on later ts = map (λ (s : Text). bytes later ++ s) ts
-
-marked-texts : (later : String) (rest : ℕ) (ls : List Line) → AllHold (Marked later rest) ls → (ts : List Text) × (ls ≡ on later ts) × AllHold (Size 1 rest) ts
-marked-texts later rest [] e = ([], refl, tt)
-marked-texts later rest (l ∷ ls) e =
-    let w = marked-texts later rest ls (e .1) in
-    (e .0 .0 ∷ w .0, ap₂ (λ (x : Line) (y : List Line). x ∷ y) (e .0 .1) (w .1), (e .0 .2, w .2))
-
-texts-marked : (later : String) (rest : ℕ) (ts : List Text) → AllHold (Size 1 rest) ts → AllHold (Marked later rest) (on later ts)
-texts-marked later rest [] e = tt
-texts-marked later rest (t ∷ ts) e = ((t, refl, e .0), texts-marked later rest ts (e .1))
 
 on-empty : (later : String) (ls : List Line) (ts : List Text) → ls ≡ on later ts → ls ≡ [] → ts ≡ []
 on-empty later ls [] e z = refl
@@ -104,12 +96,12 @@ module _ (first later : String) (room rest most : ℕ) (sign : Bool) where
   abbrev Parts : Line → List Line → Type 0
   Parts l ls =
       CodeTests first room sign (codeParts (bytes first) sign l)
-      × (AllHold (Marked later rest) ls × ((length (l ∷ ls) ≤ most) × Not ((piece 4 (codeParts (bytes first) sign l) ≡ []) × (ls ≡ []))))
+      × (AllHold (Marked (bytes later) rest) ls × ((length (l ∷ ls) ≤ most) × Not ((piece 4 (codeParts (bytes first) sign l) ≡ []) × (ls ≡ []))))
 
   made : (l : Line) (ls : List Line) → Parts l ls → IsDetails first later room rest most sign (l ∷ ls)
   made l ls p =
       let ts = codeParts (bytes first) sign l in
-      let w = marked-texts later rest ls (p .1 .0) in
+      let w = marked-texts (bytes later) rest ls (p .1 .0) in
       let q = p .0 in (
         piece 2 ts,
         piece 4 ts,
@@ -136,7 +128,7 @@ module _ (first later : String) (room rest most : ℕ) (sign : Bool) where
       let g = ap (codeParts (bytes first) sign) e ∙ code-parts first sign code t (d .number) in
       let h : piece 4 (codeParts (bytes first) sign l) ≡ t = ap (piece 4) g in (
         subst (CodeTests first room sign) (sym g) (refl, (refl, (d .number, (refl, simp (length-append, d .number .size) at (d .front))))),
-        (subst (AllHold (Marked later rest)) (sym f) (texts-marked later rest ts (d .back)), (d .count, λ z. d .text (sym h ∙ z .0, on-empty later ls ts f (z .1)))),
+        (subst (AllHold (Marked (bytes later) rest)) (sym f) (texts-marked (bytes later) rest ts (d .back)), (d .count, λ z. d .text (sym h ∙ z .0, on-empty later ls ts f (z .1)))),
       )
 
   pub details-says : (ls : List Line) → Says (IsDetails first later room rest most sign ls) (isDetails (bytes first) (bytes later) room rest most sign ls)
@@ -145,8 +137,16 @@ module _ (first later : String) (room rest most : ℕ) (sign : Bool) where
   details-says (l ∷ ls) =
       says-as (made l ls) (λ d. tested l ls (d .0) (d .1) (d .2) (d .3))
       (says-and (code-tests first room sign (codeParts (bytes first) sign l))
-      (says-and (each-says (Marked later rest) (laterTest (bytes later) rest) (starts-says later (Size 1 rest) (sizes 1 rest) (size-says 1 rest)) ls)
+      (says-and (each-says (Marked (bytes later) rest) (marked (bytes later) rest) (marked-says later rest) ls)
       (says-and (says-le (length (l ∷ ls)) most) (says-no (says-and (says-empty (piece 4 (codeParts (bytes first) sign l))) (says-empty ls))))))
+
+-- ---- the rest of the details
+rest-says : (most : ℕ) (ls : List Line) → Says (InRest most ls) (isRest most ls)
+unfolding isRest
+rest-says most [] = says-not (rest-some most)
+rest-says most (l ∷ ls) =
+    says-as (λ p. rest-made most l ls (p .0) (p .1 .0) (p .1 .1)) (λ d. (rest-first most l ls d, (rest-later most l ls d, d .2 .count)))
+    (says-and (marked-says "/NZP/" 30 l) (says-and (each-says _ _ (marked-says "//" 33) ls) (says-le (length (l ∷ ls)) most)))
 
 -- ---- every content
 is-says : (w : String) (ls : List Line) → Says (One (λ l. l ≡ bytes w) ls) (one (λ l. same l (bytes w)) ls)
@@ -169,7 +169,7 @@ right-says holds.BeneficiaryBank sign ls = customer-says false ls
 right-says holds.Beneficiary sign ls = customer-says true ls
 right-says holds.Details sign ls = details-says "" "" 35 35 4 sign ls
 right-says holds.Charges sign ls = is-says "OUR" ls
-right-says holds.Document sign ls = one-says _ _ rpp-says ls
+right-says holds.DocumentAndRest sign ls = says-or (one-says _ _ rpp-says ls) (says-or (rest-says 6 ls) (then-says _ _ rpp-says _ _ (rest-says 5) ls))
 right-says holds.DocumentAndDetails sign ls = says-or (details-says "/NZP/" "//" 30 33 6 sign ls) (then-says _ _ rpp-says _ _ (details-says "/NZP/" "//" 30 33 5 sign) ls)
 right-says holds.Regulatory sign ls =
     says-as (λ p. record { first = p .0; lines = p .1 }) (λ r. (r .first, r .lines)) (says-and (then-says _ _ begins-says Any any any-says ls) (names-says 3 ls))

@@ -5,6 +5,7 @@ pub mod PaidLaws
 pub mod RppLaws
 pub mod FieldLaws
 pub mod VoLaws
+pub mod MarkedLaws
 pub mod BankLaws
 pub mod ShortLaws
 pub mod RightLaws

@@ -1,5 +1,5 @@
 -- From the readers' answers to whether a field is right. Assumes nothing.
-use Rattle.base.specs.Says.{Not, Says}
+use Rattle.base.specs.Says.{Not, _or_, Says}
 use Rattle.base.proofs.SaysLaws.{says-so, says-not}
 use Prim.Native.Nat.{ℕ, _+_, _≤_, _<_, min}
 use mathlib.Core.Path.{_≡_, refl, ap, _∙_}
@@ -13,8 +13,8 @@ use lib.Seq.{take-all}
 use Rattle.base.specs.Bytes.{countUpTo}
 use Rattle.fields.specs.Lines.{linesIn}
 use Rattle.contents.specs.Words.{Text, Line}
-use Rattle.contents.specs.Fields.{IsParty, IsBic, IsRpp, One, Then, Names, Beside, Customer, Payer, BankByBic, BankByName, In72, RppAndDetails}
-use Rattle.contents.specs.Answers.{BesideSaid, AccountFirst, CustomerSaid, PayerSaid, IsA, BicSaid, NameSaid, RppWith, NoteSaid, isHeld, isBank, isNote}
+use Rattle.contents.specs.Fields.{IsParty, IsBic, IsRpp, One, Then, Names, Beside, Customer, Payer, BankByBic, BankByName, In72, RppAndDetails, InRest, RppAndRest}
+use Rattle.contents.specs.Answers.{BesideSaid, AccountFirst, CustomerSaid, PayerSaid, IsA, BicSaid, NameSaid, RppWith, NoteSaid, RestSaid, isHeld, isBank, isNote}
 use Rattle.contents.specs.declared.lines.Party.{Party}
 use Rattle.contents.specs.declared.lines.Party.the-variants as party
 use Rattle.contents.specs.declared.whole.Held.{Held}
@@ -73,6 +73,18 @@ pub note-is : (sign : Bool) (ls : List Line) (r : Note) (b : Bool) → b ≡ isN
 note-is sign ls note.Wrong b e s = rw e (says-not s)
 note-is sign ls note.Plain b e s = rw e (says-so (inl s))
 note-is sign ls (note.Dated n v) b e s = rw e (says-so (inr (dated-is sign n v ls s)))
+
+rest-dated-is : (n v : ℕ) (ls : List Line) → One (RppWith n v) ls or Then (RppWith n v) (InRest 5) ls → RppAndRest ls
+rest-dated-is n v [] (inl s) = absurd s
+rest-dated-is n v (l ∷ []) (inl s) = inl (_, _, _, _, _, s .0)
+rest-dated-is n v (l ∷ k ∷ ls) (inl s) = absurd s
+rest-dated-is n v [] (inr s) = absurd s
+rest-dated-is n v (l ∷ ls) (inr s) = inr (inr ((_, _, _, _, _, s .0 .0), s .1))
+
+pub rest-is : (ls : List Line) (r : Note) (b : Bool) → b ≡ isNote r → RestSaid ls r → Says (RppAndRest ls) b
+rest-is ls note.Wrong b e s = rw e (says-not s)
+rest-is ls note.Plain b e s = rw e (says-so (inr (inl s)))
+rest-is ls (note.Dated n v) b e s = rw e (says-so (rest-dated-is n v ls s))
 
 -- one line
 pub not-one : (P : Line → Type 0) (s : Text) → Not (linesIn s ≡ s ∷ []) → Not (One P (linesIn s))

@@ -19,7 +19,7 @@ use Rattle.contents.specs.declared.Content.{Content}
 use Rattle.contents.specs.declared.Content.the-variants as holds
 use Rattle.contents.specs.Words.{Text, Line, Size, Just, Perhaps, join, withMark}
 use Rattle.contents.specs.Lines.{Reference, Name, codeOpening, codeClosing}
-use Rattle.contents.specs.Fields.{Is, IsPurpose, IsPayment, IsOwnAccount, IsParty, IsBic, IsAccount, IsTax, IsRpp, One, Then, Names, Beside, Customer, Details, Right}
+use Rattle.contents.specs.Fields.{Is, IsPurpose, IsPayment, IsOwnAccount, IsParty, IsBic, IsAccount, IsTax, IsRpp, One, Then, Names, Beside, Customer, Details, InRest, Right}
 use Rattle.contents.specs.Tags.{heldBy}
 use Rattle.contents.specs.Rule8.{rightField}
 use Rattle.contents.proofs.LineLaws.{account-size}
@@ -131,6 +131,17 @@ module _ (first later : String) (room rest most : ℕ) (sign : Bool) (h : length
       let front : Name (join (bytes first ∷ codeOpening sign ∷ code ∷ codeClosing sign ∷ t ∷ [])) = record { least = simp length-append (omega arith); most = simp length-append (omega arith) } in
       record { least = omega (arith, ap length (d .lines)); most = d .count; each = rw (d .lines) (front, marked-names later rest ts k (d .back)) }
 
+rest-names : (most : ℕ) (ls : List Line) → InRest most ls → Names most ls
+rest-names most ls (t, ts, d) =
+    let n = length-append (bytes "/NZP/") t in
+    let z = d .front in
+    let front : Name (bytes "/NZP/" ++ t) = record { least = omega arith; most = omega arith } in
+    record { least = omega (arith, ap length (d .lines)); most = d .count; each = rw (d .lines) (front, marked-names "//" 33 ts (omega arith) (d .back)) }
+
+-- 70 has at most four lines
+pub names-70 : (sign : Bool) (ls : List Line) → Right holds.Details sign ls → Names 4 ls
+names-70 sign ls r = details-names "" "" 35 35 4 sign (omega arith) (omega arith) ls r
+
 -- ---- every content
 right-names : (c : Content) (sign : Bool) (ls : List Line) → Right c sign ls → Names 6 ls
 right-names holds.Unknown sign ls r = absurd r
@@ -148,9 +159,11 @@ right-names holds.OwnAccount sign ls r = wider ls (omega arith) (one-names own-n
 right-names holds.AccountAndBic sign ls r = wider ls (omega arith) (then-names account-name (one-names bic-name) ls r)
 right-names holds.BeneficiaryBank sign ls r = wider ls (omega arith) (customer-names false ls r)
 right-names holds.Beneficiary sign ls r = wider ls (omega arith) (customer-names true ls r)
-right-names holds.Details sign ls r = wider ls (omega arith) (details-names "" "" 35 35 4 sign (omega arith) (omega arith) ls r)
+right-names holds.Details sign ls r = wider ls (omega arith) (names-70 sign ls r)
 right-names holds.Charges sign ls r = is-names "OUR" (record { least = omega arith; most = omega arith }) ls r
-right-names holds.Document sign ls r = wider ls (omega arith) (one-names rpp-name ls r)
+right-names holds.DocumentAndRest sign ls (inl r) = wider ls (omega arith) (one-names rpp-name ls r)
+right-names holds.DocumentAndRest sign ls (inr (inl r)) = rest-names 6 ls r
+right-names holds.DocumentAndRest sign ls (inr (inr r)) = then-names rpp-name (rest-names 5) ls r
 right-names holds.DocumentAndDetails sign ls (inl r) = details-names "/NZP/" "//" 30 33 6 sign (omega arith) (omega arith) ls r
 right-names holds.DocumentAndDetails sign ls (inr r) = then-names rpp-name (details-names "/NZP/" "//" 30 33 5 sign (omega arith) (omega arith)) ls r
 right-names holds.Regulatory sign ls r = wider ls (omega arith) (r .lines)

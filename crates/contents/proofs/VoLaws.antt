@@ -6,16 +6,14 @@ use mathlib.Core.Bool.{Bool}
 use mathlib.Core.List.{List, [], _∷_, _++_, map}
 use native.Mathlib.Omega.{arith}
 use native.Mathlib.Decide.{decLt}
-use lib.ListN.{length, drop, length-map, length-drop, take-append-drop}
+use lib.ListN.{length, drop, length-map}
 use Rattle.base.specs.Quoted.{bytes}
-use Rattle.contents.specs.Words.{Text, Line, Size, Digits, join}
+use Rattle.contents.specs.Words.{Text, Line, Digits, join}
 use Rattle.contents.specs.Lines.{codeOpening, codeClosing}
 use Rattle.contents.specs.Fields.{Names, Several, In70, In72}
-use Rattle.contents.specs.Answers.{cut, VoFirst, textAt, IsMarked, NzpFirst, RppWith}
+use Rattle.contents.specs.Answers.{cut, VoFirst, textAt, Marked, NzpFirst, RppWith}
 use Rattle.contents.proofs.Laws.{Spot, spot, stands-at, made}
-use Rattle.contents.proofs.RppLaws.{rpp-front}
-use Rattle.base.specs.Bytes.{byte}
-use Rattle.base.specs.Examples.{AllHold}
+use Rattle.contents.proofs.MarkedLaws.{marked-texts, texts-marked, rpp-not-nzp}
 
 -- where the code's digits begin, and where the text behind it
 abbrev pub codeAt : Bool → ℕ
@@ -117,26 +115,13 @@ module _ (sign : Bool) (l : Line) where
         go (no k) = absurd (d .3 .text (empty (d .1) (omega (arith, vo-size sign l (record { vo = d .0; text = d .1; digits = d .3 .number; line = head-is }))), sym tail-is ∙ e))
 
 -- ---- 72 in 202, of the lines l and ms
-abbrev mark : Text → Line
-mark s = bytes "//" ++ s
-
-marked-of : (ts : List Text) → AllHold (Size 1 33) ts → AllHold IsMarked (map (λ (s : Text). bytes "//" ++ s) ts)
-marked-of [] e = tt
-marked-of (t ∷ ts) e = ((t, refl, e .0), marked-of ts (e .1))
-
-texts-of : (ms : List Line) → AllHold IsMarked ms → (ts : List Text) × (ms ≡ map (λ (s : Text). bytes "//" ++ s) ts) × AllHold (Size 1 33) ts
-texts-of [] e = ([], refl, tt)
-texts-of (m ∷ ms) e =
-    let r = texts-of ms (e .1) in
-    (e .0 .0 ∷ r .0, ap₂ (λ (x : Line) (y : List Line). x ∷ y) (e .0 .1) (r .1), (e .0 .2, r .2))
-
 many : (ts : List Text) → length (map (λ (s : Text). bytes "//" ++ s) ts) ≡ length ts
 many ts = length-map ts (λ (s : Text). bytes "//" ++ s)
 
 module _ (sign : Bool) (most : ℕ) (l : Line) where
-  pub in72-more : (ms : List Line) → 1 ≤ most → NzpFirst sign l → Several IsMarked (most - 1) ms → In72 sign most (l ∷ ms)
+  pub in72-more : (ms : List Line) → 1 ≤ most → NzpFirst sign l → Several (Marked (bytes "//") 33) (most - 1) ms → In72 sign most (l ∷ ms)
   in72-more ms g v n =
-      let r = texts-of ms (n .each) in
+      let r = marked-texts (bytes "//") 33 ms (n .each) in
       let a = n .most in let b = n .least in let z = ap length (r .1) ∙ many (r .0) in (
         v .vo-first .vo,
         v .vo-first .text,
@@ -176,8 +161,8 @@ module _ (sign : Bool) (most : ℕ) (l : Line) where
     pub in72-nzp : NzpFirst sign l
     in72-nzp = record { rest = join (codeOpening sign ∷ d .0 ∷ codeClosing sign ∷ d .1 ∷ []); line = first-is; vo-first = record { vo = d .0; text = d .1; digits = d .3 .number; line = refl }; room = d .3 .front }
 
-    pub in72-marked : 1 ≤ length ms → Several IsMarked (most - 1) ms
-    in72-marked h = record { least = h; most = omega (arith, d .3 .count); each = rw others-are (marked-of (d .2) (d .3 .back)) }
+    pub in72-marked : 1 ≤ length ms → Several (Marked (bytes "//") 33) (most - 1) ms
+    in72-marked h = record { least = h; most = omega (arith, d .3 .count); each = rw others-are (texts-marked (bytes "//") 33 (d .2) (d .3 .back)) }
 
     pub in72-text : ms ≡ [] → 5 + textAt sign < length l
     in72-text e = go (decLt (5 + textAt sign) (length l))
@@ -194,25 +179,15 @@ module _ (sign : Bool) (most : ℕ) (l : Line) where
         go (no k) =
             absurd (d .3 .text (empty (d .1) (omega (arith, ap length first-is, vo-size sign (join (codeOpening sign ∷ d .0 ∷ codeClosing sign ∷ d .1 ∷ [])) (record { vo = d .0; text = d .1; digits = d .3 .number; line = refl }))), none (d .2) z))
 
-pub nzp-tests : (sign : Bool) (l : Text) → NzpFirst sign l → (5 ≤ length l) × (length l ≤ 35) × (cut 0 5 l ≡ bytes "/NZP/") × VoFirst sign (drop 5 l)
-nzp-tests sign l v = (omega (arith, ap length (v .line)), omega (arith, ap length (v .line), v .room), ap (cut 0 5) (v .line), rw (ap (drop 5) (v .line)) (v .vo-first))
+pub nzp-tests : (sign : Bool) (l : Text) → NzpFirst sign l → Marked (bytes "/NZP/") 30 l × VoFirst sign (drop 5 l)
+nzp-tests sign l v = let z = vo-tests sign (v .rest) (v .vo-first) .size in ((v .rest, v .line, record { least = omega arith; most = v .room }), rw (ap (drop 5) (v .line)) (v .vo-first))
 
-pub nzp-made : (sign : Bool) (l : Text) → 5 ≤ length l → length l ≤ 35 → cut 0 5 l ≡ bytes "/NZP/" → VoFirst sign (drop 5 l) → NzpFirst sign l
-nzp-made sign l a b w v = record { rest = drop 5 l; line = sym (take-append-drop 5 l) ∙ rw w; vo-first = v; room = omega (arith, length-drop 5 l) }
-
-pub marked-tests : (l : Text) → IsMarked l → (3 ≤ length l) × (length l ≤ 35) × (cut 0 2 l ≡ bytes "//")
-marked-tests l m = let z = m .2 in (omega (arith, ap length (m .1), z .least), omega (arith, ap length (m .1), z .most), ap (cut 0 2) (m .1))
-
-pub marked-made : (l : Text) → 3 ≤ length l → length l ≤ 35 → cut 0 2 l ≡ bytes "//" → IsMarked l
-marked-made l a b w = (drop 2 l, sym (take-append-drop 2 l) ∙ rw w, record { least = omega (arith, length-drop 2 l); most = omega (arith, length-drop 2 l) })
+pub nzp-made : (sign : Bool) (l : Text) → Marked (bytes "/NZP/") 30 l → VoFirst sign (drop 5 l) → NzpFirst sign l
+nzp-made sign l m v = record { rest = m .0; line = m .1; vo-first = rw (ap (drop 5) (m .1)) at v; room = m .2 .most }
 
 -- an RPP line is no first line of details
-pub rpp-not-nzp : (sign : Bool) (most n value : ℕ) (l : Line) (ms : List Line) → RppWith n value l → Not (In72 sign most (l ∷ ms))
-rpp-not-nzp sign most n value l ms t d =
-    let a = rpp-front _ _ _ _ _ l (t .0) .0 in
-    let b = nzp-tests sign l (in72-nzp sign most l ms d) .2 in
-    let e = ap (λ (s : Text). byte s 1) (sym a ∙ b) in
-    absurd (omega arith)
+pub rpp-not-72 : (sign : Bool) (most n value : ℕ) (l : Line) (ms : List Line) → RppWith n value l → Not (In72 sign most (l ∷ ms))
+rpp-not-72 sign most n value l ms t d = rpp-not-nzp l (_, _, _, _, _, t .0) (nzp-tests sign l (in72-nzp sign most l ms d) .0)
 
 pub in72-some : (sign : Bool) (most : ℕ) → Not (In72 sign most [])
 in72-some sign most d = let e = ap length (d .3 .lines) in absurd (omega arith)

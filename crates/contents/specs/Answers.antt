@@ -10,7 +10,7 @@ use Rattle.base.specs.Bytes.{byte, digit}
 use Rattle.base.specs.Quoted.{bytes, ascii}
 use Rattle.contents.specs.Words.{Text, Line, Digits, Size, join, BeginsWith}
 use Rattle.contents.specs.Lines.{Reference, PartyByBik, PartyByAccount, TaxLine, Payment, RppLine, Way, codeOpening, codeClosing, Name}
-use Rattle.contents.specs.Fields.{Is, IsPurpose, IsPayment, IsOwnAccount, IsRpp, In72, RppAndDetails, IsParty, IsBic, BankByBic, BankByName, One, IsAccount, LooksTax, Then, Any, Names, Beside, Customer, Payer}
+use Rattle.contents.specs.Fields.{Is, IsPurpose, IsPayment, IsOwnAccount, In72, RppAndDetails, InRest, RppAndRest, IsParty, IsBic, BankByBic, BankByName, One, IsAccount, LooksTax, Then, Any, Names, Beside, Customer, Payer}
 use Rattle.contents.specs.declared.whole.Held.{Held}
 use Rattle.contents.specs.declared.whole.Held.the-variants as held
 use Rattle.contents.specs.declared.lines.Tax.{Tax}
@@ -149,13 +149,14 @@ pub record HasPair (l : Line) : Type 0 where
   pub rest : Text
   pub line : l ≡ join (first ∷ bytes "//" ∷ rest ∷ [])
 
--- ---- 72 in 202
-abbrev pub IsMarked : Line → Type 0
-IsMarked l = (s : Text) × (l ≡ bytes "//" ++ s) × Size 1 33 s
+-- ---- 72
+-- a mark, and behind it from one byte to its room
+abbrev pub Marked : Text → ℕ → Line → Type 0
+Marked mark room l = (s : Text) × (l ≡ mark ++ s) × Size 1 room s
 
 -- a later line of 72's details, or a name
 abbrev pub LaterOrName : Bool → Line → Type 0
-LaterOrName true = IsMarked
+LaterOrName true = Marked (bytes "//") 33
 LaterOrName false = Name
 
 pub record NzpFirst (sign : Bool) (l : Line) : Type 0 where
@@ -172,6 +173,11 @@ abbrev pub NoteSaid : Bool → List Line → Note → Type 0
 NoteSaid sign ls note.Wrong = Not (RppAndDetails sign ls)
 NoteSaid sign ls note.Plain = In72 sign 6 ls
 NoteSaid sign ls (note.Dated n value) = Then (RppWith n value) (In72 sign 5) ls
+
+abbrev pub RestSaid : List Line → Note → Type 0
+RestSaid ls note.Wrong = Not (RppAndRest ls)
+RestSaid ls note.Plain = InRest 6 ls
+RestSaid ls (note.Dated n value) = One (RppWith n value) ls or Then (RppWith n value) (InRest 5) ls
 
 -- ---- an answer that is not `Wrong`
 abbrev pub isHeld : Held → Bool
@@ -206,6 +212,6 @@ SingleLine holds.BeneficiaryBank l = ⊥
 SingleLine holds.Beneficiary l = ⊥
 SingleLine holds.Details l = ⊥
 SingleLine holds.Charges l = Is "OUR" l
-SingleLine holds.Document l = IsRpp l
+SingleLine holds.DocumentAndRest l = ⊥
 SingleLine holds.DocumentAndDetails l = ⊥
 SingleLine holds.Regulatory l = ⊥

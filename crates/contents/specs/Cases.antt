@@ -70,9 +70,18 @@ cases =
     ∷ case 103 plain "71A" ("OUR" ∷ [])
     ("BEN" ∷ "our" ∷ "OUR|OUR" ∷ "" ∷ [])
     ∷ case 103 plain "72" ("/RPP/417.240229.5.ELEK" ∷ "/RPP/1.240229.1.POST.240301" ∷ "/RPP/999.000000.0.BESP" ∷ "/RPP/12.240229.1.TELG" ∷ [])
-    ("/RPP/1000.240229.5.ELEK" ∷ "/RPP/.240229.5.ELEK" ∷ "/RPP/1.240229.5.MAIL" ∷ "/RPP/1.240229.5.ELEK." ∷ "/RPP/1.240229.5.ELEK.2402" ∷ "/RPP/1.240229.5ELEK" ∷ "/NZP/(VO10100)A" ∷ "/RPP/1.240229.5.ELEK|/NZP/(VO10100)A" ∷ [])
-    ∷ case 103 signed "72" ("/RPP/417.240229.5.ELEK" ∷ "/RPP/1.240229.1.POST.240301" ∷ [])
-    ("/RPP/1000.240229.5.ELEK" ∷ "/RPP/.240229.5.ELEK" ∷ [])
+    ("/RPP/1000.240229.5.ELEK" ∷ "/RPP/.240229.5.ELEK" ∷ "/RPP/1.240229.5.MAIL" ∷ "/RPP/1.240229.5.ELEK." ∷ "/RPP/1.240229.5.ELEK.2402" ∷ "/RPP/1.240229.5ELEK" ∷ "" ∷ [])
+    -- the rest of the details, alone and behind an RPP line: six lines with that line, each uses a byte of its room
+    ∷ case 103 plain "72" ("/NZP/A" ∷ "/NZP/A|//B" ∷ "/NZP/ABCDEFGHIJKLMNOPQRSTUVWXYZ1234" ∷ "/NZP/A|//ABCDEFGHIJKLMNOPQRSTUVWXYZ1234567" ∷ "/NZP/A|//B|//C|//D|//E|//F" ∷ "/RPP/1.240229.5.ELEK|/NZP/A" ∷ "/RPP/1.240229.1.POST.240301|/NZP/A|//B|//C|//D|//E" ∷ [])
+    ("/NZP/" ∷ "/NZP/|//A" ∷ "/NZP/A|//" ∷ "/NZP/ABCDEFGHIJKLMNOPQRSTUVWXYZ12345" ∷ "/NZP/A|//ABCDEFGHIJKLMNOPQRSTUVWXYZ12345678" ∷ "/NZP/A|//B|//C|//D|//E|//F|//G" ∷ "/RPP/1.240229.5.ELEK|/NZP/A|//B|//C|//D|//E|//F" ∷ "/RPP/1.240229.5.MAIL|/NZP/A" ∷ "/RPP/1.240229.5.ELEK|/NZP/" ∷ [])
+    -- nothing else: no second RPP line, none behind the rest, no line without its mark
+    ∷ case 103 plain "72" []
+    ("/RPP/1.240229.5.ELEK|/RPP/1.240229.5.ELEK" ∷ "/NZP/A|/RPP/1.240229.5.ELEK" ∷ "/NZP/A|/NZP/B" ∷ "/NZP/A|B" ∷ "/RPP/1.240229.5.ELEK|//A" ∷ "/RPP/1.240229.5.ELEK|A" ∷ "/RPP/1.240229.5.ELEK|" ∷ "//A" ∷ "A" ∷ "/nzp/A" ∷ [])
+    -- a code there is text
+    ∷ case 103 plain "72" ("/NZP/(VO12345)" ∷ "/NZP/(VO12345)A|//(VO12345)" ∷ "/NZP/(VO1" ∷ "/RPP/1.240229.5.ELEK|/NZP/(VO12345)A" ∷ [])
+    []
+    ∷ case 103 signed "72" ("/RPP/417.240229.5.ELEK" ∷ "/RPP/1.240229.1.POST.240301" ∷ "/NZP/A" ∷ "/NZP/'(VO12345)'" ∷ "/NZP/(VO12345)A" ∷ "/RPP/1.240229.5.ELEK|/NZP/A|//B" ∷ [])
+    ("/RPP/1000.240229.5.ELEK" ∷ "/RPP/.240229.5.ELEK" ∷ "/NZP/" ∷ [])
     ∷ case 103 plain "77B" ("/N10/TP" ∷ "/" ∷ "/A|B|C" ∷ "/ABCDEFGHIJKLMNOPQRSTUVWXYZ12345678" ∷ [])
     ("N10" ∷ "/A|B|C|D" ∷ "/A||B" ∷ "/ABCDEFGHIJKLMNOPQRSTUVWXYZ123456789" ∷ "" ∷ [])
     -- 202

@@ -108,6 +108,20 @@ In72 sign most ls = (vo t : Text) × (ts : List Text) × Details "/NZP/" "//" 30
 abbrev pub RppAndDetails : Bool → List Line → Type 0
 RppAndDetails sign ls = In72 sign 6 ls or Then IsRpp (In72 sign 5) ls
 
+-- C72 in 103: details that run on from 70, without a code: /NZP/ with 1 to 30 bytes, then // with 1 to 33, so many lines at most
+pub record Rest (most : ℕ) (t : Text) (ts : List Text) (ls : List Line) : Type 0 where
+  pub lines : ls ≡ (bytes "/NZP/" ++ t) ∷ map (λ (s : Text). bytes "//" ++ s) ts
+  pub front : Size 1 30 t
+  pub back : AllHold (Size 1 33) ts
+  pub count : length ls ≤ most
+
+abbrev pub InRest : ℕ → List Line → Type 0
+InRest most ls = (t : Text) × (ts : List Text) × Rest most t ts ls
+
+-- an RPP line, or the rest of the details, or the one and then the other; at most six lines in all
+abbrev pub RppAndRest : List Line → Type 0
+RppAndRest ls = One IsRpp ls or InRest 6 ls or Then IsRpp (InRest 5) ls
+
 -- ---- C77B: 1 to 3 lines of 1 to 35 bytes, the first beginning /
 pub record Regulatory (ls : List Line) : Type 0 where
   pub first : Then (BeginsWith "/") Any ls
@@ -130,6 +144,6 @@ Right holds.BeneficiaryBank sign ls = Customer false ls
 Right holds.Beneficiary sign ls = Customer true ls
 Right holds.Details sign ls = In70 sign ls
 Right holds.Charges sign ls = One (Is "OUR") ls
-Right holds.Document sign ls = One IsRpp ls
+Right holds.DocumentAndRest sign ls = RppAndRest ls
 Right holds.DocumentAndDetails sign ls = RppAndDetails sign ls
 Right holds.Regulatory sign ls = Regulatory ls

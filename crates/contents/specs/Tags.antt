@@ -32,7 +32,7 @@ tags103 =
     ∷ tag "59" holds.Beneficiary
     ∷ tag "70" holds.Details
     ∷ tag "71A" holds.Charges
-    ∷ tag "72" holds.Document
+    ∷ tag "72" holds.DocumentAndRest
     ∷ tag "77B" holds.Regulatory
     ∷ []
 

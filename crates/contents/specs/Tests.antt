@@ -177,17 +177,22 @@ codeTest first room sign ts =
     same (piece 0 ts) first && (same (piece 1 ts) (codeOpening sign) && (just digit 5 (piece 2 ts) && (same (piece 3 ts) (codeClosing sign)
     && leb (length (codeOpening sign) + (5 + (length (codeClosing sign) + length (piece 4 ts)))) room)))
 
-abbrev pub laterTest : Text → ℕ → Line → Bool
-laterTest later rest l = starts later l && sizes 1 rest (drop (length later) l)
+-- a mark, and behind it from one byte to its room
+abbrev pub marked : Text → ℕ → Line → Bool
+marked mark room l = starts mark l && sizes 1 room (drop (length mark) l)
 
 unfoldable pub isDetails : Text → Text → ℕ → ℕ → ℕ → Bool → List Line → Bool
 isDetails first later room rest most sign [] = false
 isDetails first later room rest most sign (l ∷ ls) =
     codeTest first room sign (codeParts first sign l)
-    && (all (laterTest later rest) ls && (leb (length (l ∷ ls)) most && not (empty (piece 4 (codeParts first sign l)) && empty ls)))
+    && (all (marked later rest) ls && (leb (length (l ∷ ls)) most && not (empty (piece 4 (codeParts first sign l)) && empty ls)))
 
 abbrev pub in72 : Bool → ℕ → List Line → Bool
 in72 sign most ls = isDetails (bytes "/NZP/") (bytes "//") 30 33 most sign ls
+
+unfoldable pub isRest : ℕ → List Line → Bool
+isRest most [] = false
+isRest most (l ∷ ls) = marked (bytes "/NZP/") 30 l && (all (marked (bytes "//") 33) ls && leb (length (l ∷ ls)) most)
 
 -- ---- the lines are as what the field holds asks
 unfoldable pub right : Content → Bool → List Line → Bool
@@ -206,6 +211,6 @@ right holds.BeneficiaryBank sign ls = customer false ls
 right holds.Beneficiary sign ls = customer true ls
 right holds.Details sign ls = isDetails [] [] 35 35 4 sign ls
 right holds.Charges sign ls = one (λ l. same l (bytes "OUR")) ls
-right holds.Document sign ls = one isRpp ls
+right holds.DocumentAndRest sign ls = one isRpp ls || (isRest 6 ls || firstThen isRpp (isRest 5) ls)
 right holds.DocumentAndDetails sign ls = in72 sign 6 ls || firstThen isRpp (in72 sign 5) ls
 right holds.Regulatory sign ls = firstThen (begins (ascii "/")) any ls && several isName 3 ls

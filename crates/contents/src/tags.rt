@@ -42,7 +42,7 @@ fn held_103(tag: u32) -> Content
         TAG_59 => Content::Beneficiary,
         TAG_70 => Content::Details,
         TAG_71A => Content::Charges,
-        TAG_72 => Content::Document,
+        TAG_72 => Content::DocumentAndRest,
         TAG_77B => Content::Regulatory,
         _ => Content::Unknown,
     }

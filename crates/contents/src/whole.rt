@@ -1,12 +1,12 @@
 // The readers of whole fields: their lines, one after the other.
 ghost use mathlib.Core.Path.{_≡_};
-ghost use Prim.Native.Nat.{_+_, _≤_, _<_};
+ghost use Prim.Native.Nat.{_+_, _-_, _≤_, _<_};
 ghost use mathlib.Core.List.{[], _∷_};
 ghost use lib.ListN.{length, drop};
 ghost use Rattle.fields.specs.Lines.{linesIn};
-ghost use Rattle.contents.specs.Fields.{One, IsBic, IsAccount, Then, Several, In70, In72, Regulatory};
+ghost use Rattle.contents.specs.Fields.{One, IsBic, IsAccount, Then, Several, In70, In72, InRest, Regulatory};
 ghost use Rattle.base.specs.Says.{Says};
-ghost use Rattle.contents.specs.Answers.{VoFirst, BesideSaid, CustomerSaid, PayerSaid, noParty, BicSaid, NameSaid, IsMarked, NzpFirst, textAt, NoteSaid, LaterOrName};
+ghost use Rattle.contents.specs.Answers.{VoFirst, BesideSaid, CustomerSaid, PayerSaid, noParty, BicSaid, NameSaid, Marked, NzpFirst, textAt, NoteSaid, RestSaid, LaterOrName};
 use super::lines::Party;
 use super::lines::Rpp;
 use super::lines::Tax;
@@ -23,7 +23,7 @@ use super::pieces::has_word;
 use base::marks::mark_at;
 use fields::lines::next_line;
 
-// Beside an account four lines may stand, of which a tax line is one; 70 has four lines, 72 of a 202 six.
+// Beside an account four lines may stand, of which a tax line is one; 70 has four lines, 72 six.
 const BESIDE: usize = 4;
 
 const BEHIND_TAX: usize = BESIDE - 1;
@@ -51,18 +51,18 @@ const VO_SHUT: usize = VO_MARK + VO;
 
 const SIGNED_SHUT: usize = SIGNED_MARK + VO;
 
-const CODE: usize = VO_SHUT + 1;
+pub const CODE: usize = VO_SHUT + 1;
 
-const SIGNED_CODE: usize = SIGNED_SHUT + 2;
+pub const SIGNED_CODE: usize = SIGNED_SHUT + 2;
 
-// 72 of a 202: /NZP/ in front of the code, // in front of each later line, which has a byte behind it.
-const NZP: usize = 5;
+// 72: /NZP/, in a 202 in front of the code, and // in the later lines.
+pub const NZP: usize = 5;
 
 const NZP_CODE: usize = NZP + CODE;
 
-const NZP_SIGNED: usize = NZP + SIGNED_CODE;
+pub const NZP_SIGNED: usize = NZP + SIGNED_CODE;
 
-const SHORTEST_MARKED: usize = 3;
+pub const LATER: usize = 2;
 
 // 50K, 59, 58D: wrong; right without a tax line; or right with one, where it begins, and the sizes of its INN and its KPP.
 pub enum Held {
@@ -78,16 +78,17 @@ pub enum Bank {
     Led(Party),
 }
 
-fn is_marked(l: &[u8]) -> bool
-    ensures { λ r. ⌜ Says (IsMarked (now (l .entry))) r ⌝ }
+// Whether a line is that mark and at least one byte behind it.
+fn is_marked(mark: &[u8], l: &[u8]) -> bool
+    ensures { λ r. ⌜ Says (Marked (now (mark .entry)) (35 - length (now (mark .entry))) (now (l .entry))) r ⌝ }
 {
-    if l.len() < SHORTEST_MARKED {
+    if l.len() <= mark.len() {
         return false;
     }
     if WIDTH < l.len() {
         return false;
     }
-    has_word(l, 0, b"//")
+    has_word(l, 0, mark)
 }
 
 // Whether a line is a name; or marked, a later line of 72's details.
@@ -95,7 +96,7 @@ fn is_later(marked: bool, l: &[u8]) -> bool
     ensures { λ r. ⌜ Says (LaterOrName marked (now (l .entry))) r ⌝ }
 {
     if marked {
-        return is_marked(l);
+        return is_marked(b"//", l);
     }
     is_name(l)
 }
@@ -321,13 +322,7 @@ pub fn is_one_line(c: &[u8]) -> bool
 fn is_nzp(sign: bool, l: &[u8]) -> bool
     ensures { λ r. ⌜ Says (NzpFirst sign (now (l .entry))) r ⌝ }
 {
-    if l.len() < NZP {
-        return false;
-    }
-    if WIDTH < l.len() {
-        return false;
-    }
-    if !has_word(l, 0, b"/NZP/") {
+    if !is_marked(b"/NZP/", l) {
         return false;
     }
     is_vo(sign, &l[NZP..])
@@ -357,14 +352,29 @@ fn details_72(sign: bool, c: &[u8], at: usize, most: usize) -> bool
     has_text(sign, e - at)
 }
 
-// 72 in 202: wrong; details alone; or an RPP line first, with the sizes of its number and its last date.
+// 72 in 103: the rest of the details, without a code.
+fn rest_72(c: &[u8], at: usize, most: usize) -> bool
+    requires { ⌜ (at ≤ length (now c)) × (1 ≤ most) ⌝ }
+    ensures { λ r. ⌜ Says (InRest most (linesIn (drop at (now (c .entry))))) r ⌝ }
+{
+    let e = mark_at(b'\r', c, at);
+    if !is_marked(b"/NZP/", &c[at..e]) {
+        return false;
+    }
+    if c.len() <= e {
+        return true;
+    }
+    are_lines(true, c, next_line(e, c.len()), most - 1)
+}
+
+// 72: wrong; details, or their rest, alone; or an RPP line first, with the sizes of its number and its last date.
 pub enum Note {
     Wrong,
     Plain,
     Dated(usize, usize),
 }
 
-// Where the RPP line is no such line, details alone are left.
+// 72 in 202. Where the first line is no RPP line, details alone are left.
 pub fn rpp_and_details(sign: bool, c: &[u8]) -> Note
     ensures { λ r. ⌜ NoteSaid sign (linesIn (now (c .entry))) r ⌝ }
 {
@@ -381,6 +391,30 @@ pub fn rpp_and_details(sign: bool, c: &[u8]) -> Note
                 return Note::Wrong;
             }
             if details_72(sign, c, next_line(e, c.len()), BEHIND_RPP) {
+                return Note::Dated(n, value);
+            }
+            Note::Wrong
+        }
+    }
+}
+
+// 72 in 103: the same with the rest of the details, which may also be missing behind an RPP line.
+pub fn rpp_and_rest(c: &[u8]) -> Note
+    ensures { λ r. ⌜ RestSaid (linesIn (now (c .entry))) r ⌝ }
+{
+    let e = mark_at(b'\r', c, 0);
+    match rpp_line(&c[..e]) {
+        Rpp::Wrong => {
+            if rest_72(c, 0, LINES_72) {
+                return Note::Plain;
+            }
+            Note::Wrong
+        }
+        Rpp::Is(n, value) => {
+            if c.len() <= e {
+                return Note::Dated(n, value);
+            }
+            if rest_72(c, next_line(e, c.len()), BEHIND_RPP) {
                 return Note::Dated(n, value);
             }
             Note::Wrong

@@ -5,5 +5,7 @@ pub mod LayLaws
 pub mod LayoutLaws
 pub mod RoomLaws
 pub mod DivisionTheorems
+pub mod LaidLaws
 pub mod OnceLaws
+pub mod TrimLaws
 pub mod Examples

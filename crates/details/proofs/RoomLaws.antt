@@ -2,7 +2,7 @@
 use Prim.Native.Nat.{ℕ, zero, suc, _+_, _-_, _*_, _≤_, _<_}
 use mathlib.Core.Path.{_≡_, refl, sym, ap, ap₂, _∙_}
 use mathlib.Core.Bool.{Bool}
-use mathlib.Core.List.{List, [], _∷_}
+use mathlib.Core.List.{List, _∷_}
 use native.Mathlib.Nat.{zero-mul, suc-mul, mul-le-mul, le-trans}
 use native.Mathlib.Omega.{arith}
 use lib.ListN.{length, drop, replicate, length-append}
@@ -23,12 +23,19 @@ later-within : {ok : ℕ → Bool} {ws : List ℕ} {ls : List (List ℕ)} → La
 later-within none = omega arith
 later-within (line {x = x} {l = l} {ls = ls} h o m) = omega (arith, later-within m, length-append (x ∷ l) (together ls))
 
-within : {ok : ℕ → Bool} {least : ℕ} {text ws : List ℕ} {ls : List (List ℕ)} → Division ok least text ws ls → length text ≤ sum ws
-within (lines {l = l} {ls = ls} z q w m j) = omega (arith, later-within m, length-append l (together ls), ap length j)
+pub division-within : {ok : ℕ → Bool} {least : ℕ} {text ws : List ℕ} {ls : List (List ℕ)} → Division ok least text ws ls → length text ≤ sum ws
+division-within (lines {l = l} {ls = ls} z q w m j) = omega (arith, later-within m, length-append l (together ls), ap length j)
 
 pub too-long : (p : DetailsField) (least : ℕ) (text : List ℕ) → roomFrom p 0 .bytes < length text → sizeFor p least text ≡ Unfit
 unfolding roomFrom
-too-long p least text h = none-unfit p least text (λ (ls : List (List ℕ)) (d : DivisionIn (layout p) least text ls). omega (arith, within d))
+too-long p least text h = none-unfit p least text (λ (ls : List (List ℕ)) (d : DivisionIn (layout p) least text ls). omega (arith, division-within d))
+
+-- the greatest room of the three
+pub room-most : (p : DetailsField) → roomFrom p 0 .bytes ≤ 195
+unfolding roomFrom
+room-most In70 = omega arith
+room-most In72 = omega arith
+room-most BehindRpp = omega arith
 
 -- ---- lines of one width
 sum-same : (w n i : ℕ) → sum (drop i (replicate n w)) ≡ (n - i) * w

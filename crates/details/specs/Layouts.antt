@@ -1,6 +1,7 @@
 -- The fields of details as data, and their lines as they stand in a field (B1, B3, C70, C72). Assumes nothing.
 use Prim.Native.Nat.{ℕ, zero, suc, _+_}
 use mathlib.Core.Path.{_≡_}
+use mathlib.Core.Bool.{Bool, true, false}
 use mathlib.Core.List.{List, [], _∷_, _++_, map}
 use lib.Dec.{leb}
 use lib.ListN.{length, drop, replicate}
@@ -65,6 +66,10 @@ fitSize v unfit = Unfit
 
 unfoldable pub sizeFor : DetailsField → ℕ → List ℕ → Size
 sizeFor p least text = fitSize (layout p) (divided (layout p) least text)
+
+abbrev pub isUnfit : Size → Bool
+isUnfit (Bytes n) = false
+isUnfit Unfit = true
 
 -- the room from a line on, lines counted from 0: the bytes of its mark, and of text what it and the lines behind it hold
 abbrev pub markAt : Layout → ℕ → List ℕ

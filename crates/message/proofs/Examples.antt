@@ -40,6 +40,7 @@ use Rattle.roles.specs.Speech.{asName, asDetails, speech, nameSpeeches, details
 use Rattle.roles.specs.Speech as roles-speech
 use Rattle.roles.specs.Sentences.{Heard}
 use Rattle.roles.proofs.BreachLaws.{rule14-fine}
+use Rattle.roles.specs.Rule21.{overMost, rule21}
 use Rattle.roles.specs.Rule14.{mute, hidden, isCyrillicInn, taxLike, breaks14, unheard, speechesOf, rule14}
 use Rattle.alphabets.specs.Grid.{grid, kind}
 use Rattle.alphabets.specs.Grid as alphabets-grid
@@ -121,11 +122,11 @@ all-hold (c ∷ cs) h = (case-holds c (h .0), all-hold cs (h .1))
 
 -- ---- the signed 202: its details are spelt as they would be written
 signed-easy : rule14 Mt202 (fields (bytes signed202)) ≡ Fine → NoneBroken Mt202 (bytes signed202)
-unfolding rule18 places103 places202 long rule1 framed body same rule2 scan xset isIn digit capital letter marks shared rule3 cutLines tagged lineBad badLine rule4 upto past grouped fields find wrong walk walked signOf firstWrong rightField rule8 onward leap daysIn isDay yearOf realDay dated payment parties tests.looksTax taxes valuesOf firstBad rule9 rule10 rule11 rule12 rule13 capitalOrDigit tests.leadDigits tests.ends tests.hasPair tests.isReference tests.isPurpose tests.isPayment tests.isOwnAccount tests.isPartyByBik tests.isParty tests.isBic tests.isAccount tests.isTax tests.isRpp tests.isDetails tests.right tags103 tags202 heldBy rppDates customerTaxes payerTaxes
+unfolding rule18 places103 places202 long rule1 framed body same rule2 scan xset isIn digit capital letter marks shared rule3 cutLines tagged lineBad badLine rule4 upto past grouped fields find wrong walk walked signOf firstWrong rightField rule8 onward leap daysIn isDay yearOf realDay dated payment parties tests.looksTax taxes valuesOf firstBad rule9 rule10 rule11 rule12 rule13 rule21 capitalOrDigit tests.leadDigits tests.ends tests.hasPair tests.isReference tests.isPurpose tests.isPayment tests.isOwnAccount tests.isPartyByBik tests.isParty tests.isBic tests.isAccount tests.isTax tests.isRpp tests.isDetails tests.right tags103 tags202 heldBy rppDates customerTaxes payerTaxes
 signed-easy e =
     record {
       pass = record { type = refl; size = refl; frame = refl; bytes = refl; lines = refl; walk = refl };
-      inside = record { contents = refl; days = refl; currency = refl; banks = refl; parties = refl; taxes = refl; texts = e };
+      inside = record { contents = refl; days = refl; currency = refl; banks = refl; parties = refl; taxes = refl; texts = e; lengths = refl };
     }
 
 signed-texts : speechesOf Mt202 5 (fields (bytes signed202)) ≡ speech asName 120 (bytes "'OOO' SBERBANK") ∷ speech asDetails 185 (bytes "PEREVOD SREDSTVPO DOGOVORU 'A'") ∷ []
@@ -150,14 +151,15 @@ signed-fine =
 
 -- ---- the example of the rules, as a 103 and as a 202
 sample-verdicts : (verdictOf Mt103 (bytes sample) ≡ Fine) × (verdictOf Mt202 (bytes sample) ≡ Broken 5 15)
-unfolding verdictOf rule18 places103 places202 long rule1 framed body same rule2 scan xset isIn digit capital letter marks shared rule3 cutLines tagged lineBad badLine rule4 upto past grouped fields find wrong walk walked signOf firstWrong rightField rule8 onward leap daysIn isDay yearOf realDay dated payment parties tests.looksTax taxes valuesOf firstBad rule9 rule10 rule11 rule12 rule13 speechesOf speeches nameSpeeches detailsSpeech noteSpeeches roles-speech.laterText shapeOf heldBy tags103 tags202 cast hidden isCyrillicInn taxLike breaks14 unheard rule14 grid alphabets-grid.character reads capitalOrDigit tests.leadDigits tests.ends tests.hasPair tests.isReference tests.isPurpose tests.isPayment tests.isOwnAccount tests.isPartyByBik tests.isParty tests.isBic tests.isAccount tests.isTax tests.isRpp tests.isDetails tests.right rppDates customerTaxes payerTaxes
+unfolding verdictOf rule18 places103 places202 long rule1 framed body same rule2 scan xset isIn digit capital letter marks shared rule3 cutLines tagged lineBad badLine rule4 upto past grouped fields find wrong walk walked signOf firstWrong rightField rule8 onward leap daysIn isDay yearOf realDay dated payment parties tests.looksTax taxes valuesOf firstBad rule9 rule10 rule11 rule12 rule13 speechesOf speeches nameSpeeches detailsSpeech noteSpeeches roles-speech.laterText shapeOf heldBy tags103 tags202 cast hidden isCyrillicInn taxLike breaks14 unheard rule14 overMost rule21 grid alphabets-grid.character reads capitalOrDigit tests.leadDigits tests.ends tests.hasPair tests.isReference tests.isPurpose tests.isPayment tests.isOwnAccount tests.isPartyByBik tests.isParty tests.isBic tests.isAccount tests.isTax tests.isRpp tests.isDetails tests.right rppDates customerTaxes payerTaxes
 sample-verdicts = (refl, refl)
 
 computed : AllHold Computed cases
-unfolding cases verdictOf rule18 places103 places202 long rule1 framed body same rule2 scan xset isIn digit capital letter marks shared rule3 cutLines tagged lineBad badLine rule4 upto past grouped fields find wrong walk walked signOf firstWrong rightField rule8 onward leap daysIn isDay yearOf realDay dated payment parties tests.looksTax taxes valuesOf firstBad rule9 rule10 rule11 rule12 rule13 speechesOf speeches nameSpeeches detailsSpeech noteSpeeches roles-speech.laterText shapeOf heldBy tags103 tags202 cast hidden isCyrillicInn taxLike breaks14 unheard rule14 grid alphabets-grid.character reads message listed word partAt short dateOf kopecksOf kopecks faultOf capitalOrDigit tests.leadDigits tests.ends tests.hasPair tests.isReference tests.isPurpose tests.isPayment tests.isOwnAccount tests.isPartyByBik tests.isParty tests.isBic tests.isAccount tests.isTax tests.isRpp tests.isDetails tests.right rppDates customerTaxes payerTaxes
+unfolding cases verdictOf rule18 places103 places202 long rule1 framed body same rule2 scan xset isIn digit capital letter marks shared rule3 cutLines tagged lineBad badLine rule4 upto past grouped fields find wrong walk walked signOf firstWrong rightField rule8 onward leap daysIn isDay yearOf realDay dated payment parties tests.looksTax taxes valuesOf firstBad rule9 rule10 rule11 rule12 rule13 speechesOf speeches nameSpeeches detailsSpeech noteSpeeches roles-speech.laterText shapeOf heldBy tags103 tags202 cast hidden isCyrillicInn taxLike breaks14 unheard rule14 overMost rule21 grid alphabets-grid.character reads message listed word partAt short dateOf kopecksOf kopecks faultOf capitalOrDigit tests.leadDigits tests.ends tests.hasPair tests.isReference tests.isPurpose tests.isPayment tests.isOwnAccount tests.isPartyByBik tests.isParty tests.isBic tests.isAccount tests.isTax tests.isRpp tests.isDetails tests.isRest tests.right rppDates customerTaxes payerTaxes
 computed =
     (sample-verdicts .0, refl, refl, refl, refl, refl, refl, refl) also (signed-fine, refl, refl, refl, refl, refl, refl, refl) also (refl, refl, refl, refl, refl, refl, refl, refl)
-    also refl also refl also refl also refl also refl also refl also refl also refl also refl also (sample-verdicts .0, refl) also sample-verdicts .1
+    also (refl, refl, refl, refl, refl, refl, refl, refl)
+    also refl also refl also refl also refl also refl also refl also refl also refl also refl also refl also refl also refl also (sample-verdicts .0, refl) also sample-verdicts .1
     also (Fine, sample-verdicts .0, refl) also (Fine, sample-verdicts .0, refl) also (Fine, sample-verdicts .0, refl) also (Fine, sample-verdicts .0, refl)
     also (Broken 5 15, sample-verdicts .1, refl) also (Fine, sample-verdicts .0, refl) also (Fine, sample-verdicts .0, refl) also tt
 

@@ -3,6 +3,7 @@ pub mod FillLaws
 pub mod SpanLaws
 pub mod FactLaws
 pub mod LoopLaws
+pub mod LengthLaws
 pub mod JudgeLaws
 pub mod RuleLaws
 pub mod VerdictTheorems

@@ -37,7 +37,8 @@ use Rattle.values.specs.Steps.{finds}
 use Rattle.roles.specs.declared.Spot.{Spot}
 use Rattle.roles.specs.declared.Spot.the-variants.{Nowhere, At}
 use Rattle.roles.specs.Rule14.{unheard, speechesOf}
-use Rattle.roles.specs.Found.{brokenIn, verdictAt}
+use Rattle.roles.specs.Found.{brokenIn}
+use Rattle.roles.specs.Places.{verdictAt}
 use Rattle.roles.proofs.BreachLaws.{unheard-within, spoken-within}
 use Rattle.roles.proofs.BackTableLaws.{field-found, spoken-next}
 use Rattle.message.specs.declared.parts.FieldAt.{FieldAt}
@@ -125,12 +126,12 @@ module _ {m spots : List ℕ} {k : ℕ} {p : FieldAt} (h : Here m spots k p) whe
     unheard14 o fs = unheard (speechesOf form o fs)
 
     heard-here : {b : List ℕ} {s : Spot} → b ≡ backTable → s ≡ brokenIn b form (unpack (p .tag)) content
-        → unheard14 (byte spots k) (drop k (fields m)) ≡ then (verdictAt (p .start) s) (unheard14 (byte spots (k + 1)) (drop (k + 1) (fields m)))
+        → unheard14 (byte spots k) (drop k (fields m)) ≡ then (verdictAt 14 (p .start) s) (unheard14 (byte spots (k + 1)) (drop (k + 1) (fields m)))
     heard-here {b} {s} x e =
         let f = fieldOf h in
         let same : s ≡ brokenIn backTable form (h .tag) (joined (h .line ∷ h .more)) = e ∙ ap (λ (u : List ℕ). brokenIn u form (unpack (p .tag)) content) x ∙ ap₂ (brokenIn backTable form) (h .tag-is) (h .content-is) in
         at-field h unheard14 ∙ spoken-next form (p .colon) f (drop (k + 1) (fields m))
-        ∙ ap₂ then (field-found form (p .colon) (h .tag) (h .line) (h .more) (h .no-cr) ∙ ap₂ verdictAt (sym (h .start-is)) (sym same)) (next-field h unheard14)
+        ∙ ap₂ then (field-found form (p .colon) (h .tag) (h .line) (h .more) (h .no-cr) ∙ ap₂ (verdictAt 14) (sym (h .start-is)) (sym same)) (next-field h unheard14)
 
     module _ {b : List ℕ} (x : b ≡ backTable) where
       pub unheard-here : {i : ℕ} → At i ≡ brokenIn b form (unpack (p .tag)) content → Broken 14 (p .start + i) ≡ unheard14 (byte spots k) (drop k (fields m))

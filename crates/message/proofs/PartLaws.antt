@@ -31,7 +31,7 @@ use Rattle.message.proofs.VerdictTheorems.{frame-clean, contents-right}
 use Rattle.message.specs.Calls.{spanBy, spanOf, partOf, contentOf, paid, Inside}
 
 -- ---- inside
-part-inside : (m : List ℕ) (ps : List Place) (q o : ℕ) (fs : List Field) → Standing m o fs → Inside m (partAt ps q o fs)
+pub part-inside : (m : List ℕ) (ps : List Place) (q o : ℕ) (fs : List Field) → Standing m o fs → Inside m (partAt ps q o fs)
 unfolding partAt
 part-inside m ps q o [] w = tt
 part-inside m ps q o (field t [] ∷ fs) w = absurd (false≢true (w .able))

@@ -19,10 +19,10 @@ both-lists P (u ∷ us) vs a b = (a .0, both-lists P us vs (a .1) b)
 
 module _ (P : Verdict → Type 0) (form : Form) (m : List ℕ) where
   content-named : AllHold P (contentRules form m) → EachContentRule P form m
-  content-named (a, (b, (c, (d, (e, (f, (g, z))))))) = record { contents = a; days = b; currency = c; banks = d; parties = e; taxes = f; texts = g }
+  content-named (a, (b, (c, (d, (e, (f, (g, (h, z)))))))) = record { contents = a; days = b; currency = c; banks = d; parties = e; taxes = f; texts = g; lengths = h }
 
   content-listed : EachContentRule P form m → AllHold P (contentRules form m)
-  content-listed r = (r .contents, (r .days, (r .currency, (r .banks, (r .parties, (r .taxes, (r .texts, tt)))))))
+  content-listed r = (r .contents, (r .days, (r .currency, (r .banks, (r .parties, (r .taxes, (r .texts, (r .lengths, tt))))))))
 
   -- what is said of each rule, and of one that says nothing, is said of the refusal
   pub content-holds : P Fine → EachContentRule P form m → P (first (contentRules form m))

@@ -28,7 +28,9 @@ use Rattle.values.specs.Judged.{firstBad, rule9, rule10, rule11, rule12, rule13
 use Rattle.values.proofs.JudgedLaws.{Ordered, none, next}
 use Rattle.values.proofs.ValueLaws.{in-order}
 use Rattle.roles.specs.Rule14.{unheard, speechesOf, rule14}
+use Rattle.roles.specs.Rule21.{rule21}
 use Rattle.roles.proofs.BreachLaws.{unheard-within, unheard-number, spoken-within}
+use Rattle.roles.proofs.OverTheorems.{rule21-within}
 use Rattle.message.specs.Message.{contentRules, verdictOf}
 use Rattle.message.proofs.JudgeLaws.{verdict-by}
 use Rattle.message.proofs.RuleLaws.{content-holds}
@@ -77,6 +79,14 @@ texts-small b form fs h = go (signOf fs) (unheard (speechesOf form 5 fs)) refl
     go true (Broken n p) e =
         (omega (arith, unheard-number (speechesOf form 5 fs) n p e), omega (arith, unheard-within (speechesOf form 5 fs) 7 (5 + linesSize (linesOf fs) + 2) n p (spoken-within form 5 fs) e))
 
+-- ---- 21: /NZP/ stands in the fields
+lengths-small : (b : ℕ) (form : Form) (fs : List Field) → 5 + linesSize (linesOf fs) ≤ b → Small b (rule21 form fs)
+lengths-small b form fs h = go (rule21 form fs) refl
+  where
+    go : (v : Verdict) → rule21 form fs ≡ v → Small b v
+    go Fine e = tt
+    go (Broken n p) e = let w = rule21-within form fs n p e in (omega (arith, w .0), omega (arith, w .1))
+
 -- ---- the whole
 widened : (a b : ℕ) (v : Verdict) → a ≤ b → Small a v → Small b v
 widened a b Fine h s = tt
@@ -100,6 +110,7 @@ content-small form m t =
       parties = value 12 _ (omega arith);
       taxes = value 13 _ (omega arith);
       texts = texts-small limit form fs (omega arith);
+      lengths = lengths-small limit form fs (omega arith);
     })
 
 -- a message's refusal has a number up to the last and a place up to the limit

@@ -1,4 +1,4 @@
--- Worked examples of the calls, as one list (N8-N14, N17, K1-K3). That they hold is proved in proofs/Examples.antt. Assumes nothing.
+-- Worked examples of the calls, as one list (N8-N14, N17, N21, K1-K3). That they hold is proved in proofs/Examples.antt. Assumes nothing.
 use Prim.Native.Nat.{ℕ, _+_}
 use Prim.Native.String.{String}
 use mathlib.Core.Path.{_≡_}
@@ -51,6 +51,20 @@ abbrev pub plain202 : String
 plain202 =
     "{4:\r\n:20:B3\r\n:21:NONREF\r\n:32A:991231RUB0,01\r\n:53B:/D/30111810500000100000\r\n:58A:/30101810400000000225\r\nSABRRUMM\r\n:72:/NZP/(VO10100)PAYMENT\r\n-}"
 
+-- details that run on: 140 bytes in 70 and 70 in 72
+abbrev pub runOn103 : String
+runOn103 =
+    "{4:\r\n:20:A17\r\n:23B:CRED\r\n:32A:240229RUB1500,5\r\n:50K:NORD\r\n:53B:/D/30111810500000100000\r\n:59:/40702\r\nOOO\r\n:70:(VO10100)AAAAAAAAAAAAAAAAAAAAAAAAAA\r\nAAAAAAAAAAAAAAAAAAAAAAAAAAAAAAAAAAA\r\nAAAAAAAAAAAAAAAAAAAAAAAAAAAAAAAAAAA\r\nAAAAAAAAAAAAAAAAAAAAAAAAAAAAAAAAAAA\r\n:71A:OUR\r\n:72:/NZP/BBBBBBBBBBBBBBBBBBBBBBBBBBBBBB\r\n//BBBBBBBBBBBBBBBBBBBBBBBBBBBBBBBBB\r\n//CCCCCCC\r\n-}"
+
+-- one byte more; and with the sign and a name that stays on the Latin side
+abbrev pub over103 : String
+over103 =
+    "{4:\r\n:20:A17\r\n:23B:CRED\r\n:32A:240229RUB1500,5\r\n:50K:NORD\r\n:53B:/D/30111810500000100000\r\n:59:/40702\r\nOOO\r\n:70:(VO10100)AAAAAAAAAAAAAAAAAAAAAAAAAA\r\nAAAAAAAAAAAAAAAAAAAAAAAAAAAAAAAAAAA\r\nAAAAAAAAAAAAAAAAAAAAAAAAAAAAAAAAAAA\r\nAAAAAAAAAAAAAAAAAAAAAAAAAAAAAAAAAAA\r\n:71A:OUR\r\n:72:/NZP/BBBBBBBBBBBBBBBBBBBBBBBBBBBBBB\r\n//BBBBBBBBBBBBBBBBBBBBBBBBBBBBBBBBB\r\n//CCCCCCCC\r\n-}"
+
+abbrev pub signedOver103 : String
+signedOver103 =
+    "{4:\r\n:20:+A17\r\n:23B:CRED\r\n:32A:240229RUB1500,5\r\n:50K:'NORD\r\n:53B:/D/30111810500000100000\r\n:59:/40702\r\nOOO\r\n:70:'(VO10100)'AAAAAAAAAAAAAAAAAAAAAAAA\r\nAAAAAAAAAAAAAAAAAAAAAAAAAAAAAAAAAAA\r\nAAAAAAAAAAAAAAAAAAAAAAAAAAAAAAAAAAA\r\nAAAAAAAAAAAAAAAAAAAAAAAAAAAAAAAAAAA\r\n:71A:OUR\r\n:72:/NZP/BBBBBBBBBBBBBBBBBBBBBBBBBBBBBB\r\n//BBBBBBBBBBBBBBBBBBBBBBBBBBBBBBBBB\r\n//CCCCCCCC\r\n-}"
+
 unfoldable pub cases : List Case
 cases =
     -- the example of the rules
@@ -90,6 +104,21 @@ cases =
     407
     (5 ∷ 9 ∷ 11 ∷ 13 ∷ 17 ∷ 23 ∷ 25 ∷ 30 ∷ 43 ∷ 45 ∷ 50 ∷ 73 ∷ 75 ∷ 80 ∷ 111 ∷ 113 ∷ 117 ∷ 138 ∷ [])
     1 1999 12 31
+    -- details that run on, as many bytes as may be
+    ∷ accepts 103 runOn103
+    (of "20" ("A17" ∷ [])
+    ∷ of "23B" ("CRED" ∷ [])
+    ∷ of "32A" ("240229RUB1500,5" ∷ [])
+    ∷ of "50K" ("NORD" ∷ [])
+    ∷ of "53B" ("/D/30111810500000100000" ∷ [])
+    ∷ of "59" ("/40702" ∷ "OOO" ∷ [])
+    ∷ of "70" ("(VO10100)AAAAAAAAAAAAAAAAAAAAAAAAAA" ∷ "AAAAAAAAAAAAAAAAAAAAAAAAAAAAAAAAAAA" ∷ "AAAAAAAAAAAAAAAAAAAAAAAAAAAAAAAAAAA" ∷ "AAAAAAAAAAAAAAAAAAAAAAAAAAAAAAAAAAA" ∷ [])
+    ∷ of "71A" ("OUR" ∷ [])
+    ∷ of "72" ("/NZP/BBBBBBBBBBBBBBBBBBBBBBBBBBBBBB" ∷ "//BBBBBBBBBBBBBBBBBBBBBBBBBBBBBBBBB" ∷ "//CCCCCCC" ∷ [])
+    ∷ [])
+    7771
+    (5 ∷ 9 ∷ 12 ∷ 14 ∷ 19 ∷ 23 ∷ 25 ∷ 30 ∷ 45 ∷ 47 ∷ 52 ∷ 56 ∷ 58 ∷ 63 ∷ 86 ∷ 88 ∷ 92 ∷ 103 ∷ 105 ∷ 109 ∷ 255 ∷ 257 ∷ 262 ∷ 265 ∷ 267 ∷ 271 ∷ 354 ∷ [])
+    150050 2024 2 29
     -- 8
     ∷ refuses 103 "{4:\r\n:20:+A17\r\n:23B:CRED\r\n:32A:240229RUB1500,5\r\n:50K:/40702\r\n'NORD'\r\n:53B:/D/30111810500000100000\r\n:59:/40702810700000099079\r\nINN7707083893\r\nOOO PoTR\r\n:70:'(VO10100)'OPLATA 'CNTR' 5\r\n:71A:SHA\r\n-}" 60 8 188
     -- a point for the comma
@@ -108,6 +137,10 @@ cases =
     ∷ refuses 103 "{4:\r\n:20:+A17\r\n:23B:CRED\r\n:32A:240229RUB1500,5\r\n:50K:/40702\r\n'NORD\r\n:53B:/D/30111810500000100000\r\n:59:/40702810700000099079\r\nINN7707083893\r\nOOO PoTR\r\n:70:'(VO10100)'OPLATA 'CNTR' 5\r\n:71A:OUR\r\n-}" 60 14 61
     -- 14: details whose text begins behind the //
     ∷ refuses 202 "{4:\r\n:20:+B2\r\n:21:NONREF\r\n:32A:240301RUB1000,\r\n:53B:/D/30111810500000100000\r\n:58D:/30101810400000000225\r\nINN7707083893\r\n'OOO' SBERBANK\r\n:72:/RPP/7.240301.5.ELEK\r\n/NZP/'(VO10100)'\r\n//W\r\n-}" 60 14 182
+    -- 21 at /NZP/, before 17; 14 before it
+    ∷ refuses 103 over103 60 21 271
+    ∷ refuses 103 over103 0 21 271
+    ∷ refuses 103 signedOver103 60 14 53
     -- 17, last of all: the numbers needed
     ∷ narrow 103 sample 23 24
     -- a refusal of the pass

@@ -12,10 +12,11 @@ use Rattle.frame.specs.Frame.{frameRules, EachFrameRule, frameBy}
 use Rattle.contents.specs.Rule8.{rule8}
 use Rattle.values.specs.Judged.{rule9, rule10, rule11, rule12, rule13}
 use Rattle.roles.specs.Rule14.{rule14}
+use Rattle.roles.specs.Rule21.{rule21}
 
 -- what the fields hold, behind 18 and 1 to 7: 8, and the rules for right contents
 abbrev pub innerRules : Form → List Field → List Verdict
-innerRules form fs = rule9 form fs ∷ rule10 form fs ∷ rule11 form fs ∷ rule12 form fs ∷ rule13 form fs ∷ rule14 form fs ∷ []
+innerRules form fs = rule9 form fs ∷ rule10 form fs ∷ rule11 form fs ∷ rule12 form fs ∷ rule13 form fs ∷ rule14 form fs ∷ rule21 form fs ∷ []
 
 abbrev pub contentRules : Form → List ℕ → List Verdict
 contentRules form m = rule8 form m ∷ innerRules form (fields m)
@@ -23,7 +24,7 @@ contentRules form m = rule8 form m ∷ innerRules form (fields m)
 abbrev pub messageRules : Form → List ℕ → List Verdict
 messageRules form m = frameRules form m ++ contentRules form m
 
--- ---- the same by name, 8 to 14 in order: what is said of each of them
+-- ---- the same by name, 8 to 14 and 21 in order: what is said of each of them
 pub record EachContentRule (P : Verdict → Type 0) (form : Form) (m : List ℕ) : Type 0 where
   pub contents : P (rule8 form m)
   pub days : P (rule9 form (fields m))
@@ -32,6 +33,7 @@ pub record EachContentRule (P : Verdict → Type 0) (form : Form) (m : List ℕ)
   pub parties : P (rule12 form (fields m))
   pub taxes : P (rule13 form (fields m))
   pub texts : P (rule14 form (fields m))
+  pub lengths : P (rule21 form (fields m))
 
 pub record EachRule (P : Verdict → Type 0) (form : Form) (m : List ℕ) : Type 0 where
   pub pass : EachFrameRule P form m

@@ -1,8 +1,9 @@
-// A message judged whole: the quick pass, then 8 and what 9 to 13 need, in one turn a field, then 14 over the texts. The calls on it: its
+// A message judged whole: the quick pass, then 8 and what 9 to 13 need, in one turn a field, then 14 over the texts, and 21. The calls on it: its
 // check, the part of one place, the kopecks and the date of 32A.
 pub mod check;
 pub mod content;
 mod facts;
+mod lengths;
 pub mod paid;
 mod parts;
 mod rules;

@@ -29,9 +29,10 @@ use Rattle.fields.proofs.PlaceLaws.{joined-length}
 use Rattle.contents.specs.Tests.{wordAndDigit, looksTax}
 use Rattle.contents.specs.Parts.{opensRpp}
 use Rattle.roles.specs.Role.{Part, copy, name, taxName, lineOf, shapeOf, cast}
-use Rattle.roles.specs.Speech.{Manner, asName, asTaxName, asDetails, Speech, speech, saidAt, nameSpeeches, laterText, detailsSpeech, codeSize, noteSpeeches, speeches}
+use Rattle.roles.specs.Speech.{Manner, asName, asTaxName, asDetails, Speech, speech, saidAt, nameSpeeches, laterText, detailsSpeech, codeSize, nzpSize, noteSpeeches, speeches}
 use Rattle.roles.specs.Rule14.{mute, hidden, isCyrillicInn, taxLike, clauses, breaks14, unheard, texts, speechesOf}
-use Rattle.roles.specs.Found.{muteIn, breaks14In, found, brokenIn, verdictAt}
+use Rattle.roles.specs.Found.{muteIn, breaks14In, found, brokenIn}
+use Rattle.roles.specs.Places.{verdictAt}
 use Rattle.roles.specs.declared.Shape.{Shape}
 use Rattle.roles.specs.declared.Shape.the-variants.{Plain, Payer, Payee, Agent, Details, Note103, Note202}
 use Rattle.roles.specs.declared.Spot.the-variants.{At}
@@ -115,16 +116,16 @@ details-moved front mark o i (l ∷ ls) = ap (λ (k : ℕ). speech asDetails k (
     go true = omega arith
     go false = omega arith
 
-note-moved : (s : Bool) (o i : ℕ) (ls : List (List ℕ)) → noteSpeeches s (o + i) ls ≡ map (moved o) (noteSpeeches s i ls)
+note-moved : (front o i : ℕ) (ls : List (List ℕ)) → noteSpeeches front (o + i) ls ≡ map (moved o) (noteSpeeches front i ls)
 unfolding noteSpeeches
-note-moved s o i [] = refl
-note-moved s o i (l ∷ ls) = go (opensRpp l)
+note-moved front o i [] = refl
+note-moved front o i (l ∷ ls) = go (opensRpp l)
   where
-    go : (q : Bool) → pick q (detailsSpeech (5 + codeSize s) 2 (o + i + length l + 2) ls) (detailsSpeech (5 + codeSize s) 2 (o + i) (l ∷ ls)) ≡ map (moved o) (pick q (detailsSpeech (5 + codeSize s) 2 (i + length l + 2) ls) (detailsSpeech (5 + codeSize s) 2 i (l ∷ ls)))
+    go : (q : Bool) → pick q (detailsSpeech front 2 (o + i + length l + 2) ls) (detailsSpeech front 2 (o + i) (l ∷ ls)) ≡ map (moved o) (pick q (detailsSpeech front 2 (i + length l + 2) ls) (detailsSpeech front 2 i (l ∷ ls)))
     go true =
         let z : o + i + length l + 2 ≡ o + (i + length l + 2) = omega arith in
-        ap (λ (k : ℕ). detailsSpeech (5 + codeSize s) 2 k ls) z ∙ details-moved (5 + codeSize s) 2 o (i + length l + 2) ls
-    go false = details-moved (5 + codeSize s) 2 o i (l ∷ ls)
+        ap (λ (k : ℕ). detailsSpeech front 2 k ls) z ∙ details-moved front 2 o (i + length l + 2) ls
+    go false = details-moved front 2 o i (l ∷ ls)
 
 pub speeches-moved : (s : Bool) (shape : Shape) (o i : ℕ) (ls : List (List ℕ)) → speeches s shape (o + i) ls ≡ map (moved o) (speeches s shape i ls)
 unfolding speeches
@@ -133,22 +134,22 @@ speeches-moved s Payer o i ls = names-moved o i (cast Payer ls)
 speeches-moved s Payee o i ls = names-moved o i (cast Payee ls)
 speeches-moved s Agent o i ls = names-moved o i (cast Agent ls)
 speeches-moved s Details o i ls = details-moved (codeSize s) 0 o i ls
-speeches-moved s Note103 o i ls = refl
-speeches-moved s Note202 o i ls = note-moved s o i ls
+speeches-moved s Note103 o i ls = note-moved nzpSize o i ls
+speeches-moved s Note202 o i ls = note-moved (nzpSize + codeSize s) o i ls
 
 -- ---- what is found is the rule
-found-unheard : (o : ℕ) (xs : List Speech) → unheard (map (moved o) xs) ≡ verdictAt o (found backTable xs)
+found-unheard : (o : ℕ) (xs : List Speech) → unheard (map (moved o) xs) ≡ verdictAt 14 o (found backTable xs)
 unfolding unheard found
 found-unheard o [] = refl
 found-unheard o (speech m p b ∷ xs) = ap (λ (q : Bool). pick q (Broken 14 (o + p)) (unheard (map (moved o) xs))) (sym (breaks-back m b)) ∙ go (breaks14In backTable m b) (found-unheard o xs)
   where
-    go : (q : Bool) → unheard (map (moved o) xs) ≡ verdictAt o (found backTable xs) → pick q (Broken 14 (o + p)) (unheard (map (moved o) xs)) ≡ verdictAt o (pick q (At p) (found backTable xs))
+    go : (q : Bool) → unheard (map (moved o) xs) ≡ verdictAt 14 o (found backTable xs) → pick q (Broken 14 (o + p)) (unheard (map (moved o) xs)) ≡ verdictAt 14 o (pick q (At p) (found backTable xs))
     go true e = refl
     go false e = e
 
 -- one field: its content is its lines with CR LF between them
 pub field-found : (form : Form) (o : ℕ) (t l : List ℕ) (ls : List (List ℕ)) → all (without 13) (l ∷ ls) ≡ true
-    → unheard (texts form o (field t (l ∷ ls))) ≡ verdictAt (startOf o (field t (l ∷ ls))) (brokenIn backTable form t (joined (l ∷ ls)))
+    → unheard (texts form o (field t (l ∷ ls))) ≡ verdictAt 14 (startOf o (field t (l ∷ ls))) (brokenIn backTable form t (joined (l ∷ ls)))
 unfolding brokenIn
 field-found form o t l ls e =
     let n : ℕ = startOf o (field t (l ∷ ls)) in
@@ -156,7 +157,7 @@ field-found form o t l ls e =
     ap (λ (k : ℕ). unheard (speeches true (shapeOf form t) k (l ∷ ls))) z
     ∙ ap unheard (speeches-moved true (shapeOf form t) n 0 (l ∷ ls))
     ∙ found-unheard n (speeches true (shapeOf form t) 0 (l ∷ ls))
-    ∙ ap (λ (k : List (List ℕ)). verdictAt n (found backTable (speeches true (shapeOf form t) 0 k))) (sym (lines-joined l ls e))
+    ∙ ap (λ (k : List (List ℕ)). verdictAt 14 n (found backTable (speeches true (shapeOf form t) 0 k))) (sym (lines-joined l ls e))
 
 -- the place found lies in the content, or just behind it
 pub spot-within : (form : Form) (t l : List ℕ) (ls : List (List ℕ)) (p : ℕ) → all (without 13) (l ∷ ls) ≡ true
@@ -164,7 +165,7 @@ pub spot-within : (form : Form) (t l : List ℕ) (ls : List (List ℕ)) (p : ℕ
 spot-within form t l ls p e u =
     let n : ℕ = startOf 0 (field t (l ∷ ls)) in
     let z = joined-length l ls in
-    let w = unheard-within (texts form 0 (field t (l ∷ ls))) n (n + linesSize (l ∷ ls) + 2) 14 (n + p) (speeches-within true (shapeOf form t) n (l ∷ ls)) (field-found form 0 t l ls e ∙ ap (verdictAt n) u) in
+    let w = unheard-within (texts form 0 (field t (l ∷ ls))) n (n + linesSize (l ∷ ls) + 2) 14 (n + p) (speeches-within true (shapeOf form t) n (l ∷ ls)) (field-found form 0 t l ls e ∙ ap (verdictAt 14 n) u) in
     omega (arith, w, z)
 
 -- field by field

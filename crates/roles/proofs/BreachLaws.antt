@@ -21,7 +21,7 @@ use Rattle.fields.proofs.PlaceLaws.{size-append}
 use Rattle.contents.specs.Tests.{looksTax}
 use Rattle.contents.specs.Parts.{opensRpp}
 use Rattle.roles.specs.Role.{Part, copy, name, taxName, lineOf, shapeOf, taxed, cast}
-use Rattle.roles.specs.Speech.{Manner, asName, asTaxName, asDetails, Speech, speech, saidAt, nameSpeeches, detailsSpeech, codeSize, noteSpeeches, speeches}
+use Rattle.roles.specs.Speech.{Manner, asName, asTaxName, asDetails, Speech, speech, saidAt, nameSpeeches, detailsSpeech, codeSize, nzpSize, noteSpeeches, speeches}
 use Rattle.types.specs.declared.Form.{Form}
 use Rattle.types.specs.Sign.{signOf}
 use Rattle.roles.specs.Rule14.{texts, mute, hidden, taxLike, clauses, breaks14, unheard, speechesOf, rule14}
@@ -230,22 +230,26 @@ details-within front mark o (l ∷ ls) h = go (ltb front (length l)) refl
     go true e = let g = ltb-true front (length l) e in (omega arith, omega arith)
     go false e = (omega arith, omega arith)
 
+note-within : (front o : ℕ) (ls : List (List ℕ)) → Rising o (o + linesSize ls + 2) (noteSpeeches front o ls)
+unfolding noteSpeeches
+note-within front o [] = omega arith
+note-within front o (l ∷ ls) = go (opensRpp l)
+  where
+    go : (q : Bool) → Rising o (o + linesSize (l ∷ ls) + 2) (pick q (detailsSpeech front 2 (o + length l + 2) ls) (detailsSpeech front 2 o (l ∷ ls)))
+    go true =
+        within-start (detailsSpeech front 2 (o + length l + 2) ls) o (o + length l + 2) (o + linesSize (l ∷ ls) + 2) (omega arith)
+        (within-end (detailsSpeech front 2 (o + length l + 2) ls) (o + length l + 2) (o + length l + 2 + linesSize ls + 2) (o + linesSize (l ∷ ls) + 2) (details-within front 2 (o + length l + 2) ls (omega arith)) (omega arith))
+    go false = details-within front 2 o (l ∷ ls) (omega arith)
+
 pub speeches-within : (s : Bool) (shape : Shape) (o : ℕ) (ls : List (List ℕ)) → Rising o (o + linesSize ls + 2) (speeches s shape o ls)
-unfolding speeches noteSpeeches
+unfolding speeches
 speeches-within s Plain o ls = omega arith
 speeches-within s Payer o ls = cast-within Payer o ls
 speeches-within s Payee o ls = cast-within Payee o ls
 speeches-within s Agent o ls = cast-within Agent o ls
 speeches-within s Details o ls = details-within (codeSize s) 0 o ls (omega arith)
-speeches-within s Note103 o ls = omega arith
-speeches-within s Note202 o [] = omega arith
-speeches-within s Note202 o (l ∷ ls) = go (opensRpp l)
-  where
-    go : (q : Bool) → Rising o (o + linesSize (l ∷ ls) + 2) (pick q (detailsSpeech (5 + codeSize s) 2 (o + length l + 2) ls) (detailsSpeech (5 + codeSize s) 2 o (l ∷ ls)))
-    go true =
-        within-start (detailsSpeech (5 + codeSize s) 2 (o + length l + 2) ls) o (o + length l + 2) (o + linesSize (l ∷ ls) + 2) (omega arith)
-        (within-end (detailsSpeech (5 + codeSize s) 2 (o + length l + 2) ls) (o + length l + 2) (o + length l + 2 + linesSize ls + 2) (o + linesSize (l ∷ ls) + 2) (details-within (5 + codeSize s) 2 (o + length l + 2) ls (omega arith)) (omega arith))
-    go false = details-within (5 + codeSize s) 2 o (l ∷ ls) (omega arith)
+speeches-within s Note103 o ls = note-within nzpSize o ls
+speeches-within s Note202 o ls = note-within (nzpSize + codeSize s) o ls
 
 pub speeches-none : (s : Bool) (shape : Shape) (o : ℕ) → speeches s shape o [] ≡ []
 unfolding speeches noteSpeeches detailsSpeech nameSpeeches cast

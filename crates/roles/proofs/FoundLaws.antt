@@ -20,10 +20,10 @@ use Rattle.fields.specs.Lines.{split, linesIn}
 use Rattle.contents.specs.Tests.{looksTax}
 use Rattle.contents.specs.Parts.{opensRpp}
 use Rattle.roles.specs.Role.{copy, name, taxName, shapeOf, taxed, cast}
-use Rattle.roles.specs.Speech.{asName, asTaxName, nameSpeeches, laterText, detailsStart, detailsSpeech, noteSpeeches, speeches}
-use Rattle.roles.specs.Found.{linesPast, muteIn, breaks14In, found, brokenIn, castFrom, lineBreaks, detailsText, muteAfter}
+use Rattle.roles.specs.Speech.{asName, asTaxName, nameSpeeches, laterText, detailsText, detailsStart, detailsSpeech, noteSpeeches, speeches}
+use Rattle.roles.specs.Found.{linesPast, muteIn, breaks14In, found, brokenIn, castFrom, lineBreaks, muteAfter}
 use Rattle.roles.specs.declared.Shape.{Shape}
-use Rattle.roles.specs.declared.Shape.the-variants.{Plain, Payer, Payee, Agent, Details, Note103, Note202}
+use Rattle.roles.specs.declared.Shape.the-variants.{Plain, Payer, Payee, Agent, Details}
 use Rattle.roles.specs.declared.Spot.{Spot}
 use Rattle.roles.specs.declared.Spot.the-variants.{Nowhere, At}
 use Rattle.roles.proofs.LineLaws.{past-none, past-some, past-at, lines-from, lines-head, line-length, line-behind, head-size}
@@ -117,23 +117,24 @@ module _ (t c : List ℕ) (e : ℕ) (q : e ≡ 0 + countUpTo 13 (drop 0 c)) wher
   unfolding speeches cast
   agent-names = sym (by-first Agent ∙ after-copy false)
 
-  -- 72 in 202
-  note-by : (r : Bool) → r ≡ opensRpp (take e c) → found t (speeches true Note202 0 (linesIn c)) ≡ found t (pick r (detailsSpeech 16 2 (e + 2) (linesPast c e)) (detailsSpeech 16 2 0 (linesIn c)))
-  unfolding speeches noteSpeeches
-  note-by r b =
-      by-first Note202
-      ∙ ap₂ (λ (u : Bool) (k : ℕ). found t (pick u (detailsSpeech 16 2 k (linesPast c e)) (detailsSpeech 16 2 0 (take e c ∷ linesPast c e)))) (sym b) width
-      ∙ ap (λ (ls : List (List ℕ)). found t (pick r (detailsSpeech 16 2 (e + 2) (linesPast c e)) (detailsSpeech 16 2 0 ls))) (sym (lines-head c e q))
+  -- 72, its text behind so many bytes of the first line
+  module _ (front : ℕ) where
+    note-by : (r : Bool) → r ≡ opensRpp (take e c) → found t (noteSpeeches front 0 (linesIn c)) ≡ found t (pick r (detailsSpeech front 2 (e + 2) (linesPast c e)) (detailsSpeech front 2 0 (linesIn c)))
+    unfolding noteSpeeches
+    note-by r b =
+        ap (λ (ls : List (List ℕ)). found t (noteSpeeches front 0 ls)) (lines-head c e q)
+        ∙ ap₂ (λ (u : Bool) (k : ℕ). found t (pick u (detailsSpeech front 2 k (linesPast c e)) (detailsSpeech front 2 0 (take e c ∷ linesPast c e)))) (sym b) width
+        ∙ ap (λ (ls : List (List ℕ)). found t (pick r (detailsSpeech front 2 (e + 2) (linesPast c e)) (detailsSpeech front 2 0 ls))) (sym (lines-head c e q))
 
-  pub note-none : false ≡ opensRpp (take e c) → found t (detailsSpeech 16 2 0 (linesIn c)) ≡ found t (speeches true Note202 0 (linesIn c))
-  note-none b = sym (note-by false b)
+    pub note-none : false ≡ opensRpp (take e c) → found t (detailsSpeech front 2 0 (linesIn c)) ≡ found t (noteSpeeches front 0 (linesIn c))
+    note-none b = sym (note-by false b)
 
-  pub note-alone : true ≡ opensRpp (take e c) → length c ≤ e → Nowhere ≡ found t (speeches true Note202 0 (linesIn c))
-  unfolding detailsSpeech found
-  note-alone b h = sym (note-by true b ∙ ap (λ (ls : List (List ℕ)). found t (detailsSpeech 16 2 (e + 2) ls)) (past-none c e h))
+    pub note-alone : true ≡ opensRpp (take e c) → length c ≤ e → Nowhere ≡ found t (noteSpeeches front 0 (linesIn c))
+    unfolding detailsSpeech found
+    note-alone b h = sym (note-by true b ∙ ap (λ (ls : List (List ℕ)). found t (detailsSpeech front 2 (e + 2) ls)) (past-none c e h))
 
-  pub note-more : true ≡ opensRpp (take e c) → e < length c → found t (detailsSpeech 16 2 (e + 2) (linesIn (drop (e + 2) c))) ≡ found t (speeches true Note202 0 (linesIn c))
-  note-more b h = sym (note-by true b ∙ ap (λ (ls : List (List ℕ)). found t (detailsSpeech 16 2 (e + 2) ls)) (past-some c e h))
+    pub note-more : true ≡ opensRpp (take e c) → e < length c → found t (detailsSpeech front 2 (e + 2) (linesIn (drop (e + 2) c))) ≡ found t (noteSpeeches front 0 (linesIn c))
+    note-more b h = sym (note-by true b ∙ ap (λ (ls : List (List ℕ)). found t (detailsSpeech front 2 (e + 2) ls)) (past-some c e h))
 
 -- ---- a text over lines, piece by piece
 mute-after : (some : Bool) (i n : ℕ) (p : Piece) → muteAfter some (pieceAfter i n p) ≡ muteAfter (some || not (eqb n 0)) p
@@ -153,28 +154,32 @@ pub mute-start : (p : Piece) → muteIn p ≡ muteAfter false p
 mute-start (Read n s) = refl
 mute-start (Stops k) = refl
 
-later-details : (mark : ℕ) (ls : List (List ℕ)) → laterText mark ls ≡ detailsText mark mark ls
+pub later-details : (mark : ℕ) (ls : List (List ℕ)) → laterText mark ls ≡ detailsText mark mark ls
 unfolding laterText
 later-details mark [] = refl
 later-details mark (l ∷ ls) = refl
 
+-- from behind the end on there is none
+pub text-past : (c : List ℕ) (from front mark : ℕ) → length c < from → detailsText front mark (linesIn (drop from c)) ≡ []
+unfolding laterText split
+text-past c from front mark h =
+    ap (λ (d : List ℕ). detailsText front mark (linesIn d)) (drop-of-length-le c {i = from} (omega arith)) ∙ ap (λ (d : List ℕ). d ++ []) (drop-nil front)
+
 pub mute-past : (t c : List ℕ) (from front mark : ℕ) → length c < from → true ≡ muteIn (pieceIn t false (detailsText front mark (linesIn (drop from c))))
-unfolding pieceIn laterText split
-mute-past t c from front mark h =
-    sym (ap (λ (d : List ℕ). muteIn (pieceIn t false (detailsText front mark (linesIn d)))) (drop-of-length-le c {i = from} (omega arith))
-    ∙ ap (λ (d : List ℕ). muteIn (pieceIn t false (d ++ []))) (drop-nil front))
+unfolding pieceIn
+mute-past t c from front mark h = sym (ap (λ (d : List ℕ). muteIn (pieceIn t false d)) (text-past c from front mark h))
 
 -- the line from at on ends at e, its text begins at b
-module _ (t c : List ℕ) (at d mark : ℕ) (latin some : Bool) (e b : ℕ) (q : e ≡ at + countUpTo 13 (drop at c)) (r : b ≡ at + min d (e - at)) where
-  text-line : detailsText d mark (linesIn (drop at c)) ≡ take (e - b) (drop b c) ++ detailsText mark mark (linesPast c e)
-  text-line =
-      ap (detailsText d mark) (lines-from c at e q)
-      ∙ ap₂ (λ (x y : List ℕ). x ++ y) (line-behind c at e d b (omega arith) r) (later-details mark (linesPast c e))
+pub text-line : (c : List ℕ) (at d mark e b : ℕ) → e ≡ at + countUpTo 13 (drop at c) → b ≡ at + min d (e - at) → detailsText d mark (linesIn (drop at c)) ≡ take (e - b) (drop b c) ++ detailsText mark mark (linesPast c e)
+text-line c at d mark e b q r =
+    ap (detailsText d mark) (lines-from c at e q)
+    ∙ ap₂ (λ (x y : List ℕ). x ++ y) (line-behind c at e d b (omega arith) r) (later-details mark (linesPast c e))
 
+module _ (t c : List ℕ) (at d mark : ℕ) (latin some : Bool) (e b : ℕ) (q : e ≡ at + countUpTo 13 (drop at c)) (r : b ≡ at + min d (e - at)) where
   piece-line : (p : Piece) → p ≡ pieceIn t latin (take (e - b) (drop b c))
       → pieceIn t latin (detailsText d mark (linesIn (drop at c))) ≡ pieceOn (length (take (e - b) (drop b c))) p (λ z. pieceIn t z (detailsText mark mark (linesPast c e)))
   piece-line p k =
-      ap (pieceIn t latin) text-line ∙ piece-append t latin (take (e - b) (drop b c)) (detailsText mark mark (linesPast c e))
+      ap (pieceIn t latin) (text-line c at d mark e b q r) ∙ piece-append t latin (take (e - b) (drop b c)) (detailsText mark mark (linesPast c e))
       ∙ ap (λ (x : Piece). pieceOn (length (take (e - b) (drop b c))) x (λ z. pieceIn t z (detailsText mark mark (linesPast c e)))) (sym k)
 
   pub mute-stops : (k : ℕ) → Stops k ≡ pieceIn t latin (take (e - b) (drop b c)) → true ≡ muteAfter some (pieceIn t latin (detailsText d mark (linesIn (drop at c))))
@@ -231,10 +236,6 @@ by-shape t form tag c s r e f = f ∙ ap (λ (z : Shape). found t (speeches true
 pub plain-none : (t : List ℕ) (ls : List (List ℕ)) → Nowhere ≡ found t (speeches true Plain 0 ls)
 unfolding speeches found
 plain-none t ls = refl
-
-pub note103-none : (t : List ℕ) (ls : List (List ℕ)) → Nowhere ≡ found t (speeches true Note103 0 ls)
-unfolding speeches found
-note103-none t ls = refl
 
 pub details-whole : (t c : List ℕ) → found t (detailsSpeech 11 0 0 (linesIn c)) ≡ found t (speeches true Details 0 (linesIn c))
 unfolding speeches

@@ -3,6 +3,9 @@ pub mod BreachLaws
 pub mod LineLaws
 pub mod ClauseLaws
 pub mod FoundLaws
+pub mod LengthLaws
+pub mod OverTheorems
 pub mod BackTableLaws
 pub mod CastLaws
 pub mod PartLaws
+pub mod RestLaws

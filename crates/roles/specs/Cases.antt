@@ -1,4 +1,4 @@
--- Worked examples of 14, as one list (T7, T8, T12, N14a-N14d). That they hold is proved in proofs/Examples.antt. Assumes nothing.
+-- Worked examples of 14 and 21, as one list (T7, T8, T12, N14a-N14d, N21, B7). That they hold is proved in proofs/Examples.antt. Assumes nothing.
 use Prim.Native.Nat.{ℕ}
 use Prim.Native.String.{String}
 use mathlib.Core.Path.{_≡_}
@@ -14,6 +14,7 @@ use Rattle.fields.specs.Cases.{of, texts}
 use Rattle.roles.specs.Role.{shapeOf, Part, copy, name, taxName, cast}
 use Rattle.roles.specs.Speech.{asDetails, Speech, speech, speeches}
 use Rattle.roles.specs.Rule14.{rule14}
+use Rattle.roles.specs.Rule21.{rule21}
 
 pub data Case : Type 0 where
   -- 14 takes these fields of a type, or refuses them at a place; the first field is 20 with the sign, so that the others stand from 13 on
@@ -27,6 +28,9 @@ pub data Case : Type 0 where
   says : Bool → ℕ → String → List String → List Speech → Case
   -- a text with the sign stops there
   stops : String → ℕ → Case
+  -- 21 takes these fields of a type behind a 20 with that content, or refuses them at a place
+  fits : String → ℕ → List Field → Case
+  exceeds : String → ℕ → List Field → ℕ → Case
 
 abbrev pub signed : List Field → List Field
 signed fs = of "20" ("+A" ∷ []) ∷ fs
@@ -38,10 +42,23 @@ Holds (silent s kind fs) = rule14 (formOf kind) (of "20" (s ∷ []) ∷ fs) ≡ 
 Holds (casts kind t ls ps) = cast (shapeOf (formOf kind) (bytes t)) (texts ls) ≡ ps
 Holds (says s kind t ls xs) = speeches s (shapeOf (formOf kind) (bytes t)) 0 (texts ls) ≡ xs
 Holds (stops b k) = reading true (bytes b) ≡ stuck k
+Holds (fits s kind fs) = rule21 (formOf kind) (of "20" (s ∷ []) ∷ fs) ≡ Fine
+Holds (exceeds s kind fs p) = rule21 (formOf kind) (of "20" (s ∷ []) ∷ fs) ≡ Broken 21 p
 
 -- one field, its content lines
 abbrev pub one : String → List String → List Field
 one t ls = of t ls ∷ []
+
+-- 70 as full as can be: its code and its text have 140 bytes, without the sign, and with it, some apostrophes idle
+abbrev pub full : Field
+full = of "70" ("(VO12345)AAAAAAAAAAAAAAAAAAAAAAAAAA" ∷ "AAAAAAAAAAAAAAAAAAAAAAAAAAAAAAAAAAA" ∷ "AAAAAAAAAAAAAAAAAAAAAAAAAAAAAAAAAAA" ∷ "AAAAAAAAAAAAAAAAAAAAAAAAAAAAAAAAAAA" ∷ [])
+
+abbrev pub fullSigned : Field
+fullSigned = of "70" ("'(VO12345)'''AAAAAAAAAAAAAAAAAAAAAA" ∷ "AAAAAAAAAAAAAAAAAAAAAAAAAAAAAAAAAAA" ∷ "''''AAAAAAAAAAAAAAAAAAAAAAAAAAAAAAA" ∷ "AAAAAAAAAAAAAAAAAAAAAAAAAAAAAAAAAAA" ∷ [])
+
+-- 72: /NZP/ with 30 bytes, // with 33, then these lines; 7 of the 210 are left for them
+abbrev pub upTo : List String → List String
+upTo ls = "/NZP/BBBBBBBBBBBBBBBBBBBBBBBBBBBBBB" ∷ "//BBBBBBBBBBBBBBBBBBBBBBBBBBBBBBBBB" ∷ ls
 
 unfoldable pub cases : List Case
 cases =
@@ -84,6 +101,20 @@ cases =
     ∷ refuses 202 (one "72" ("/NZP/'(VO10100)'" ∷ "//W" ∷ [])) 37
     ∷ refuses 202 (one "72" ("/RPP/1.240229.1.ELEK" ∷ "/NZP/'(VO10100)'" ∷ "//W" ∷ [])) 59
     ∷ takes 103 (one "72" ("/RPP/W" ∷ []))
+    -- 72 of a 103: no text in an RPP line; the rest of the details is one text over its lines, and a code there is part of it
+    ∷ says true 103 "72" ("/RPP/1.240229.1.ELEK" ∷ []) []
+    ∷ says true 103 "72" ("/NZP/A" ∷ "//B" ∷ []) (speech asDetails 5 (bytes "AB") ∷ [])
+    ∷ says false 103 "72" ("/NZP/(VO12345)" ∷ "//A" ∷ []) (speech asDetails 5 (bytes "(VO12345)A") ∷ [])
+    ∷ says true 103 "72" ("/RPP/1.240229.1.ELEK" ∷ "/NZP/'(VO12345)'A" ∷ []) (speech asDetails 27 (bytes "'(VO12345)'A") ∷ [])
+    ∷ takes 103 (one "72" ("/NZP/'W" ∷ "//W'" ∷ []))
+    ∷ refuses 103 (one "72" ("/NZP/W" ∷ [])) 22
+    ∷ refuses 103 (one "72" ("/NZP/''" ∷ [])) 22
+    ∷ refuses 103 (one "72" ("/NZP/A" ∷ "//'B" ∷ [])) 22
+    ∷ refuses 103 (one "72" ("/RPP/1.240229.1.ELEK" ∷ "/NZP/A" ∷ "//W" ∷ [])) 44
+    -- each half is a text by itself, and 70 stands before 72
+    ∷ refuses 103 (of "70" ("'(VO12345)''A" ∷ []) ∷ of "72" ("/NZP/B'" ∷ []) ∷ []) 28
+    ∷ refuses 103 (of "70" ("'(VO12345)''A'" ∷ []) ∷ of "72" ("/NZP/B'" ∷ []) ∷ []) 42
+    ∷ takes 103 (of "70" ("'(VO12345)''A'" ∷ []) ∷ of "72" ("/NZP/'B'" ∷ []) ∷ [])
     -- N14a: an empty reading, no reading; T7: a name ends on the Russian side by itself, details at their end
     ∷ refuses 103 (one "50K" ("''" ∷ [])) 18
     ∷ refuses 103 (one "50K" ("A" ∷ "W" ∷ [])) 21
@@ -116,4 +147,18 @@ cases =
     ∷ refuses 103 (of "50K" ("A" ∷ "B" ∷ []) ∷ of "59" ("W" ∷ []) ∷ []) 28
     ∷ silent "A+" 103 (one "50K" ("W" ∷ []))
     ∷ silent "A" 103 (of "20" ("+A" ∷ []) ∷ of "50K" ("W" ∷ []) ∷ [])
+    -- 21: 210 bytes and 211, at /NZP/; an RPP line in front does not count, and one alone has no text
+    ∷ fits "A" 103 (full ∷ of "72" (upTo ("//CCCCCCC" ∷ [])) ∷ [])
+    ∷ exceeds "A" 103 (full ∷ of "72" (upTo ("//CCCCCCCC" ∷ [])) ∷ []) 168
+    ∷ fits "A" 103 (full ∷ of "72" ("/RPP/1.240229.1.ELEK" ∷ upTo ("//CCCCCCC" ∷ [])) ∷ [])
+    ∷ exceeds "A" 103 (full ∷ of "72" ("/RPP/1.240229.1.ELEK" ∷ upTo ("//CCCCCCCC" ∷ [])) ∷ []) 190
+    ∷ fits "A" 103 (full ∷ of "72" ("/RPP/1.240229.1.ELEK" ∷ []) ∷ [])
+    -- with the sign, every byte as it stands: an apostrophe that changes nothing, too
+    ∷ fits "+A" 103 (fullSigned ∷ of "72" (upTo ("//CCC''''" ∷ [])) ∷ [])
+    ∷ exceeds "+A" 103 (fullSigned ∷ of "72" (upTo ("//CCCC''''" ∷ [])) ∷ []) 169
+    -- the code is counted once, in 70; what looks like one in 72 is text
+    ∷ fits "A" 103 (full ∷ of "72" ("/NZP/(VO12345)BBBBBBBBBBBBBBBBBBBBB" ∷ "//BBBBBBBBBBBBBBBBBBBBBBBBBBBBBBBBB" ∷ "//CCCCCCC" ∷ []) ∷ [])
+    ∷ exceeds "A" 103 (full ∷ of "72" ("/NZP/(VO12345)BBBBBBBBBBBBBBBBBBBBB" ∷ "//BBBBBBBBBBBBBBBBBBBBBBBBBBBBBBBBB" ∷ "//CCCCCCCC" ∷ []) ∷ []) 168
+    -- in a 202 never
+    ∷ fits "A" 202 (full ∷ of "72" (upTo ("//CCCCCCCC" ∷ [])) ∷ [])
     ∷ []

@@ -2,20 +2,18 @@
 -- it is the rule (proofs/BackTableLaws). Assumes nothing.
 use Prim.Native.Nat.{ℕ, _+_}
 use mathlib.Core.Bool.{Bool, true, false, _||_, _&&_, not}
-use mathlib.Core.List.{List, [], _∷_, _++_, map}
+use mathlib.Core.List.{List, [], _∷_, map}
 use lib.Dec.{eqb, ltb}
 use lib.ListN.{length, drop}
 use Rattle.types.specs.declared.Form.{Form}
 use Rattle.base.specs.Choice.{pick}
-use Rattle.base.specs.declared.Verdict.{Verdict}
-use Rattle.base.specs.declared.Verdict.the-variants.{Fine, Broken}
 use Rattle.alphabets.specs.Pieces.{pieceIn, charactersFrom}
 use Rattle.alphabets.specs.declared.pieces.Piece.{Piece}
 use Rattle.alphabets.specs.declared.pieces.Piece.the-variants.{Read, Stops}
 use Rattle.fields.specs.Lines.{linesIn}
 use Rattle.contents.specs.Tests.{looksTax}
 use Rattle.roles.specs.Role.{Part, name, shapeOf, taxed}
-use Rattle.roles.specs.Speech.{Manner, asName, asTaxName, Speech, speech, laterText, speeches}
+use Rattle.roles.specs.Speech.{Manner, asName, asTaxName, Speech, speech, speeches}
 use Rattle.roles.specs.Rule14.{clauses}
 use Rattle.roles.specs.declared.Spot.{Spot}
 use Rattle.roles.specs.declared.Spot.the-variants.{Nowhere, At}
@@ -39,11 +37,6 @@ found t (speech m o b ∷ xs) = pick (breaks14In t m b) (At o) (found t xs)
 unfoldable pub brokenIn : List ℕ → Form → List ℕ → List ℕ → Spot
 brokenIn t form tag c = found t (speeches true (shapeOf form tag) 0 (linesIn c))
 
--- as a verdict, the content at o
-abbrev pub verdictAt : ℕ → Spot → Verdict
-verdictAt o Nowhere = Fine
-verdictAt o (At p) = Broken 14 (o + p)
-
 -- ---- words of the contracts of private functions
 -- names, the first line of them in the tax place or not
 abbrev pub castFrom : Bool → List (List ℕ) → List Part
@@ -52,11 +45,6 @@ castFrom false ls = map name ls
 
 unfoldable pub lineBreaks : List ℕ → Bool → List ℕ → Bool
 lineBreaks t tax l = pick tax (pick (looksTax l) false (breaks14In t asTaxName l)) (breaks14In t asName l)
-
--- the text of details
-abbrev pub detailsText : ℕ → ℕ → List (List ℕ) → List ℕ
-detailsText front mark [] = []
-detailsText front mark (l ∷ ls) = drop front l ++ laterText mark ls
 
 -- mute behind a text that has some characters or none
 abbrev pub muteAfter : Bool → Piece → Bool

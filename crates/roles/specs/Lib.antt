@@ -1,6 +1,8 @@
 pub mod Role
 pub mod Speech
+pub mod Places
 pub mod Rule14
+pub mod Rule21
 pub mod Cases
 pub mod Sentences
 pub mod Found

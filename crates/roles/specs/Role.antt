@@ -30,7 +30,7 @@ shapeFor holds.BeneficiaryBank = Payee
 shapeFor holds.Beneficiary = Payee
 shapeFor holds.Details = Details
 shapeFor holds.Charges = Plain
-shapeFor holds.Document = Note103
+shapeFor holds.DocumentAndRest = Note103
 shapeFor holds.DocumentAndDetails = Note202
 shapeFor holds.Regulatory = Plain
 

@@ -1,12 +1,21 @@
--- What 14 comes to, clause by clause and over placed texts, as statements. Assumes nothing.
-use Prim.Native.Nat.{ℕ, _≤_}
+-- What 14 comes to, clause by clause and over placed texts, and 21, as statements. Assumes nothing.
+use Prim.Native.Nat.{ℕ, _+_, _≤_, _<_}
 use mathlib.Core.Path.{_≡_}
 use mathlib.Core.Bool.{true, false}
 use mathlib.Core.List.{List, [], _∷_, _++_}
+use lib.ListN.{length}
+use Rattle.base.specs.Bytes.{same}
 use Rattle.base.specs.Calls.{said, stuck}
+use Rattle.base.specs.Examples.{AllHold}
+use Rattle.base.specs.Quoted.{bytes}
 use Rattle.alphabets.specs.Bank.{reading}
+use Rattle.fields.specs.Field.{Field, field, tagOf}
+use Rattle.fields.specs.Places.{startOf}
+use Rattle.types.specs.Sentences.{endOfFields}
+use Rattle.contents.specs.Parts.{opensRpp}
 use Rattle.roles.specs.Speech.{Manner, asName, asTaxName, Speech, speech}
 use Rattle.roles.specs.Rule14.{hidden, taxLike, breaks14}
+use Rattle.roles.specs.Rule21.{most, size72}
 
 -- a text breaks 14 in one of these ways
 pub data Breach : Manner → List ℕ → Type 0 where
@@ -43,3 +52,22 @@ Rising a e (speech m p b ∷ xs) = (a ≤ p) × Rising p e xs
 abbrev pub NoneBefore : ℕ → List Speech → Type 0
 NoneBefore p [] = Unit {0}
 NoneBefore p (speech m q b ∷ xs) = (breaks14 m b ≡ true → p ≤ q) × NoneBefore p xs
+
+-- ---- 21
+-- the lines of a 72 from its /NZP/ line on, and where they begin in it: at its start, or behind an RPP line
+pub data Rest : List (List ℕ) → ℕ → List (List ℕ) → Type 0 where
+  alone : (l : List ℕ) (ls : List (List ℕ)) → opensRpp l ≡ false → Rest (l ∷ ls) 0 (l ∷ ls)
+  behindRpp : (r l : List ℕ) (ls : List (List ℕ)) → opensRpp r ≡ true → Rest (r ∷ l ∷ ls) (length r + 2) (l ∷ ls)
+
+-- the first 72 has a rest of the details, at p; its text and n bytes are too many. The first colon at o
+pub record Over (n o : ℕ) (fs : List Field) (p : ℕ) : Type 0 where
+  pub before : List Field
+  pub behind : List Field
+  pub lines : List (List ℕ)
+  pub list : fs ≡ before ++ field (bytes "72") lines ∷ behind
+  pub first : AllHold (λ (f : Field). same (tagOf f) (bytes "72") ≡ false) before
+  pub from : ℕ
+  pub rest : List (List ℕ)
+  pub has : Rest lines from rest
+  pub many : most < n + size72 rest
+  pub place : p ≡ startOf (endOfFields o before) (field (bytes "72") lines) + from

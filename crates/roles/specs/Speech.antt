@@ -5,6 +5,7 @@ use mathlib.Core.List.{List, [], _∷_, _++_}
 use lib.Dec.{ltb}
 use lib.ListN.{length, drop}
 use Rattle.base.specs.Choice.{pick}
+use Rattle.base.specs.Quoted.{bytes}
 use Rattle.contents.specs.Parts.{opensRpp}
 use Rattle.roles.specs.Role.{Part, copy, name, taxName, lineOf, cast}
 use Rattle.roles.specs.declared.Shape.{Shape}
@@ -32,23 +33,34 @@ unfoldable pub laterText : ℕ → List (List ℕ) → List ℕ
 laterText mark [] = []
 laterText mark (l ∷ ls) = drop mark l ++ laterText mark ls
 
+abbrev pub detailsText : ℕ → ℕ → List (List ℕ) → List ℕ
+detailsText front mark [] = []
+detailsText front mark (l ∷ ls) = drop front l ++ laterText mark ls
+
 -- where the front ends its line, the text begins in the next
 abbrev pub detailsStart : ℕ → ℕ → ℕ → List ℕ → ℕ
 detailsStart front mark o l = pick (ltb front (length l)) (o + front) (o + (length l + 2 + mark))
 
 unfoldable pub detailsSpeech : ℕ → ℕ → ℕ → List (List ℕ) → List Speech
 detailsSpeech front mark o [] = []
-detailsSpeech front mark o (l ∷ ls) = speech asDetails (detailsStart front mark o l) (drop front l ++ laterText mark ls) ∷ []
+detailsSpeech front mark o (l ∷ ls) = speech asDetails (detailsStart front mark o l) (detailsText front mark (l ∷ ls)) ∷ []
 
 -- the VO code, with the sign and without
 abbrev pub codeSize : Bool → ℕ
 codeSize true = 11
 codeSize false = 9
 
--- 72 in 202: perhaps an RPP line, then details behind /NZP/ and //
-unfoldable pub noteSpeeches : Bool → ℕ → List (List ℕ) → List Speech
-noteSpeeches s o [] = []
-noteSpeeches s o (l ∷ ls) = pick (opensRpp l) (detailsSpeech (5 + codeSize s) 2 (o + length l + 2) ls) (detailsSpeech (5 + codeSize s) 2 o (l ∷ ls))
+-- 72: the marks in front of the first line's text and of a later line's
+abbrev pub nzpSize : ℕ
+nzpSize = length (bytes "/NZP/")
+
+abbrev pub laterSize : ℕ
+laterSize = length (bytes "//")
+
+-- perhaps an RPP line, then one text, behind `front` bytes of its first line
+unfoldable pub noteSpeeches : ℕ → ℕ → List (List ℕ) → List Speech
+noteSpeeches front o [] = []
+noteSpeeches front o (l ∷ ls) = pick (opensRpp l) (detailsSpeech front laterSize (o + length l + 2) ls) (detailsSpeech front laterSize o (l ∷ ls))
 
 -- ---- the texts of a field's lines, which stand from o on; s: with the sign
 unfoldable pub speeches : Bool → Shape → ℕ → List (List ℕ) → List Speech
@@ -57,5 +69,5 @@ speeches s Payer o ls = nameSpeeches o (cast Payer ls)
 speeches s Payee o ls = nameSpeeches o (cast Payee ls)
 speeches s Agent o ls = nameSpeeches o (cast Agent ls)
 speeches s Details o ls = detailsSpeech (codeSize s) 0 o ls
-speeches s Note103 o ls = []
-speeches s Note202 o ls = noteSpeeches s o ls
+speeches s Note103 o ls = noteSpeeches nzpSize o ls
+speeches s Note202 o ls = noteSpeeches (nzpSize + codeSize s) o ls

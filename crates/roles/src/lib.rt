@@ -1,5 +1,6 @@
-// Which lines of a field are copied, names or details, and what 14 says of its texts.
+// Which lines of a field are copied, names or details, and what 14 says of its texts; and 21.
 pub mod clauses;
+pub mod lengths;
 pub mod parts;
 pub mod shapes;
 pub mod texts;
@@ -26,7 +27,7 @@ pub enum Role {
     Names,
 }
 
-// Where the first text of a content that breaks 14 begins.
+// A place in a content: of the first text that breaks 14, or of the /NZP/ of 21.
 pub enum Spot {
     Nowhere,
     At(usize),

@@ -26,7 +26,7 @@ fn shape_for(content: Content) -> Shape
         Content::Beneficiary => Shape::Payee,
         Content::Details => Shape::Details,
         Content::Charges => Shape::Plain,
-        Content::Document => Shape::Note103,
+        Content::DocumentAndRest => Shape::Note103,
         Content::DocumentAndDetails => Shape::Note202,
         Content::Regulatory => Shape::Plain,
     }

@@ -8,9 +8,9 @@ ghost use Rattle.base.specs.Choice.{pick};
 ghost use Rattle.fields.specs.Shapes.{unpack};
 ghost use Rattle.alphabets.specs.Pieces.{pieceIn};
 ghost use Rattle.fields.specs.Lines.{linesIn};
-ghost use Rattle.roles.specs.declared.Shape.the-variants.{Payer, Payee, Agent, Note202};
-ghost use Rattle.roles.specs.Speech.{nameSpeeches, detailsSpeech, speeches};
-ghost use Rattle.roles.specs.Found.{linesPast, castFrom, detailsText, muteIn, found, brokenIn};
+ghost use Rattle.roles.specs.declared.Shape.the-variants.{Payer, Payee, Agent};
+ghost use Rattle.roles.specs.Speech.{nameSpeeches, detailsText, detailsSpeech, noteSpeeches, speeches};
+ghost use Rattle.roles.specs.Found.{linesPast, castFrom, muteIn, found, brokenIn};
 use super::Shape;
 use super::Spot;
 use super::clauses::breaks_line;
@@ -20,6 +20,10 @@ use alphabets::pieces::Piece;
 use alphabets::pieces::read_piece;
 use base::marks::mark_at;
 use contents::pieces::opens_rpp;
+use contents::whole::LATER;
+use contents::whole::NZP;
+use contents::whole::NZP_SIGNED;
+use contents::whole::SIGNED_CODE;
 use fields::lines::next_line;
 use types::Form;
 
@@ -81,7 +85,7 @@ fn is_silent(latin: bool, some: bool) -> bool
 }
 
 // Behind the first d bytes of a line, or its end.
-fn cut_at(at: usize, d: usize, e: usize) -> usize
+pub(crate) fn cut_at(at: usize, d: usize, e: usize) -> usize
     requires { ⌜ at ≤ e ⌝ }
     ensures { λ r. ⌜ r ≡ at + min d (e - at) ⌝ }
 {
@@ -133,17 +137,18 @@ fn in_details(back: &[u8; 256], c: &[u8], at: usize, front: usize, mark: usize) 
     Spot::At(e + 2 + mark)
 }
 
-fn in_note(back: &[u8; 256], c: &[u8]) -> Spot
-    ensures { λ r. ⌜ r ≡ found (now (back .entry)) (speeches true Note202 0 (linesIn (now (c .entry)))) ⌝ }
+// The lines of 72: perhaps an RPP line, then one text, behind `front` bytes of its first line.
+fn in_note(back: &[u8; 256], c: &[u8], front: usize) -> Spot
+    ensures { λ r. ⌜ r ≡ found (now (back .entry)) (noteSpeeches front 0 (linesIn (now (c .entry)))) ⌝ }
 {
     let e = mark_at(13, c, 0);
     if !opens_rpp(&c[..e]) {
-        return in_details(back, c, 0, 16, 2);
+        return in_details(back, c, 0, front, LATER);
     }
     if c.len() <= e {
         return Spot::Nowhere;
     }
-    in_details(back, c, e + 2, 16, 2)
+    in_details(back, c, e + 2, front, LATER)
 }
 
 // The first text that breaks 14 in the content of a field with that packed tag, of a message with the sign.
@@ -155,8 +160,8 @@ pub fn broken_text(back: &[u8; 256], form: Form, tag: u32, content: &[u8]) -> Sp
         Shape::Payer => in_party(back, content, true),
         Shape::Payee => in_party(back, content, false),
         Shape::Agent => in_agent(back, content),
-        Shape::Details => in_details(back, content, 0, 11, 0),
-        Shape::Note103 => Spot::Nowhere,
-        Shape::Note202 => in_note(back, content),
+        Shape::Details => in_details(back, content, 0, SIGNED_CODE, 0),
+        Shape::Note103 => in_note(back, content, NZP),
+        Shape::Note202 => in_note(back, content, NZP_SIGNED),
     }
 }

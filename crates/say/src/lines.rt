@@ -1,18 +1,28 @@
-// A bank text as details: the lines that it makes behind a VO code in 70 and in the 72 of a 202, and the room left.
+// A bank text as details: the lines that it makes behind a VO code in 70 and in the 72 of a 202, and the room left; and, where 70 can't hold it,
+// how it runs on into the 72 of a 103.
 use crate::words::tell_bytes;
+use crate::words::tell_characters;
 use crate::words::tell_number;
 use crate::words::tell_text;
+use alphabets::write_text;
+use base::Outcome;
 use base::bytes::front;
+use base::bytes::past;
 use base::bytes::put;
 use details::DetailsField;
 use details::Size;
 use details::lay;
 use details::room_from;
 use details::size_of;
+use runon::Run;
+use runon::run_on;
 use stored::behind;
 use stored::line_at;
 use stored::up_to;
 use streams::write_output;
+
+// Code and texts that run on may come to so many bytes.
+const MOST: usize = 210;
 
 // The last of the lines laid: which one, counted from 0, and its bytes, the mark counted.
 struct Last {
@@ -110,23 +120,74 @@ fn tell_fields(least: usize, text: &[u8]) {
     tell_fit(DetailsField::BehindRpp, least, text, in72);
 }
 
-// The longest bank text goes behind the longer code.
-fn tell_behind(code: &[u8], bank: &[u8]) {
-    let mut text = [0u8; 10011];
+// A half of a text that is cut, behind the code or nothing, in the lines of its field; answers how many bytes they have, marks left out.
+fn tell_half(sign: bool, into: DetailsField, code: &[u8], half: &[u8]) -> usize {
+    let mut bank = [0u8; 250];
+    let o = write_text(sign, half, &mut bank);
+    let Outcome::Done(n) = o else {
+        return 0;
+    };
+    let spelt = front(&bank, n);
+    let mut text = [0u8; 250];
     put(&mut text, 0, code);
-    put(&mut text, code.len(), bank);
-    tell_fields(code.len(), front(&text, code.len() + bank.len()));
+    put(&mut text, code.len(), spelt);
+    let size = code.len() + spelt.len();
+    tell_laid(into, code.len(), front(&text, size));
+    size
+}
+
+// Both halves, the second in the lines of 72.
+fn tell_halves(sign: bool, note: DetailsField, code: &[u8], one: &[u8], two: &[u8]) {
+    write_output(b"cut behind ");
+    tell_characters(one.len());
+    write_output(b":\n");
+    let size = tell_half(sign, DetailsField::In70, code, one);
+    let more = tell_half(sign, note, b"", two);
+    write_output(b"it fits, with ");
+    tell_bytes(less(less(MOST, size), more));
+    write_output(b" left of 210\n");
+}
+
+fn tell_run(sign: bool, note: DetailsField, code: &[u8], desk: &[u8]) {
+    match run_on(sign, code, note, desk) {
+        Run::Cut(k) => tell_halves(sign, note, code, front(desk, k), past(desk, k)),
+        Run::Whole => write_output(b"it goes into field 70 whole\n"),
+        Run::Unfit => write_output(b"it can't be cut so that both fit\n"),
+        Run::Stuck(_) => {}
+    }
+}
+
+// Where 70 can't hold the text, it runs on.
+fn tell_runs(sign: bool, code: &[u8], desk: &[u8], text: &[u8]) {
+    let size = size_of(DetailsField::In70, code.len(), text);
+    if let Size::Bytes(_) = size {
+        return;
+    }
+    write_output(b"in a 103, run on into field 72, ");
+    tell_run(sign, DetailsField::In72, code, desk);
+    write_output(b"and behind an RPP line, ");
+    tell_run(sign, DetailsField::BehindRpp, code, desk);
+}
+
+// The longest bank text goes behind the longer code.
+fn tell_behind(sign: bool, code: &[u8], desk: &[u8], bank: &[u8]) {
+    let mut room = [0u8; 10011];
+    put(&mut room, 0, code);
+    put(&mut room, code.len(), bank);
+    let text = front(&room, code.len() + bank.len());
+    tell_fields(code.len(), text);
+    tell_runs(sign, code, desk, text);
 }
 
 // Details have a byte at least behind their code.
-pub(crate) fn tell_details(sign: bool, bank: &[u8]) {
+pub(crate) fn tell_details(sign: bool, desk: &[u8], bank: &[u8]) {
     if bank.len() == 0 {
         write_output(b"no details: behind the code there must be a text\n");
         return;
     }
     if sign {
-        tell_behind(b"'(VO00000)'", bank);
+        tell_behind(sign, b"'(VO00000)'", desk, bank);
         return;
     }
-    tell_behind(b"(VO00000)", bank);
+    tell_behind(sign, b"(VO00000)", desk, bank);
 }

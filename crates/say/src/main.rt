@@ -34,21 +34,21 @@ fn tell_back(sign: bool, bank: &[u8]) {
     tell_text(front(&desk, n));
 }
 
-fn tell_bank(sign: bool, bank: &[u8]) {
+fn tell_bank(sign: bool, desk: &[u8], bank: &[u8]) {
     write_output(b"bank text");
     tell_text(bank);
     write_output(b"its length\t");
     tell_bytes(bank.len());
     write_output(b"\n");
     tell_back(sign, bank);
-    tell_details(sign, bank);
+    tell_details(sign, desk, bank);
 }
 
 fn measure(sign: bool, desk: &[u8]) {
     let mut bank = [0u8; 10000];
     let o = write_text(sign, desk, &mut bank);
     match o {
-        Outcome::Done(n) => tell_bank(sign, front(&bank, n)),
+        Outcome::Done(n) => tell_bank(sign, desk, front(&bank, n)),
         Outcome::Refused { number, place } => tell_refusal(number, place, desk),
     }
     write_output(b"\n");

@@ -16,6 +16,15 @@ pub(crate) fn tell_bytes(n: usize) {
     write_output(b" bytes");
 }
 
+pub(crate) fn tell_characters(n: usize) {
+    tell_number(n);
+    if n == 1 {
+        write_output(b" character");
+        return;
+    }
+    write_output(b" characters");
+}
+
 // The rest of a line: a tab and a text.
 pub(crate) fn tell_text(text: &[u8]) {
     write_output(b"\t");

@@ -17,13 +17,16 @@ use Rattle.base.proofs.Room.{over-sets, puts-by}
 use Rattle.base.specs.Bytes.{begins}
 use Rattle.alphabets.specs.Steps.{backTable}
 use Rattle.fields.specs.Field.{fields}
+use Rattle.fields.specs.Lines.{linesIn}
 use Rattle.types.specs.declared.Form.{Form}
 use Rattle.types.specs.Walk.{rule18}
+use Rattle.types.specs.Sign.{signOf}
 use Rattle.frame.specs.declared.Frame.{Frame}
 use Rattle.frame.specs.Frame.{frameBy}
 use Rattle.frame.proofs.CallLaws.{taken}
 use Rattle.contents.proofs.RuleLaws.{firstOf}
 use Rattle.message.specs.Message.{messageRules, verdictOf, judgedOf}
+use Rattle.message.specs.Parts.{Settled}
 use Rattle.message.proofs.JudgeLaws.{sign-is}
 use Rattle.message.proofs.FieldLaws.{settled}
 use Rattle.message.proofs.RuleLaws.{accepted-rules}
@@ -31,7 +34,8 @@ use Rattle.message.proofs.VerdictTheorems.{frame-clean, judged-by, judged-found
 use Rattle.records.specs.Record.{line}
 use Rattle.sheets.specs.Gather.{typeRecord, sheetOf}
 use Rattle.sheets.specs.Calls.{readRules, SheetTo}
-use Rattle.sheets.specs.Steps.{sheetBy, Sound}
+use Rattle.sheets.specs.Steps.{restText, runsOn, sheetBy, Sound}
+use Rattle.sheets.proofs.TagLaws.{two-fields}
 use Rattle.sheets.proofs.ReadLaws.{sheet-same}
 use Rattle.sheets.proofs.SizeLaws.{sheet-no-longer}
 
@@ -70,11 +74,19 @@ module _ (form : Form) (m out : List ℕ) where
     sheet-at-once h p = sheet-done p (omega (arith, sized p, sheet-no-longer form m v)) p
 
 -- what is put is the sheet
-pub sheet-put : (form : Form) (m : List ℕ) → verdictOf form m ≡ Fine → {b : List ℕ} → b ≡ backTable → {g : Bool} → g ≡ begins 43 (firstOf (fields m)) → {out after : List ℕ} {r : ℕ}
-    → Puts (line (typeRecord form) ++ 10 ∷ sheetBy b form g (fields m)) out 0 r after → Puts (sheetOf form m) out 0 r after
-sheet-put form m v k i p =
+pub sheet-put : (form : Form) (m : List ℕ) → verdictOf form m ≡ Fine → {b : List ℕ} → b ≡ backTable → {g : Bool} → g ≡ begins 43 (firstOf (fields m))
+    → {spots : List ℕ} {n : ℕ} → Settled m spots → n ≡ length (fields m) → {rest : List ℕ} → rest ≡ runsOn form m spots n → {out after : List ℕ} {r : ℕ}
+    → Puts (line (typeRecord form) ++ 10 ∷ sheetBy b form g (restText b g (linesIn rest)) (fields m)) out 0 r after → Puts (sheetOf form m) out 0 r after
+sheet-put form m v k i {spots} z e {rest} q p =
     let t = taken form m (frame-clean form m v) in
-    puts-by (ap₂ (λ (x : List ℕ) (s : Bool). line (typeRecord form) ++ 10 ∷ sheetBy x form s (fields m)) k (sign-is form m (t .walk-fine) i) ∙ sheet-same form m v) p
+    puts-by
+    (ap₂ (λ (x : List ℕ) (s : Bool). line (typeRecord form) ++ 10 ∷ sheetBy x form s (restText x s (linesIn rest)) (fields m)) k (sign-is form m (t .walk-fine) i)
+    ∙ ap (λ (x : List ℕ). line (typeRecord form) ++ 10 ∷ sheetBy backTable form (signOf (fields m)) (restText backTable (signOf (fields m)) (linesIn x)) (fields m)) (q ∙ ap (runsOn form m spots) e)
+    ∙ sheet-same form m v z) p
+
+-- there are two fields at least
+pub sound-two : {form : Form} {m spots : List ℕ} {n : ℕ} → Sound form m spots n → 2 ≤ n
+sound-two {form} {m} d = omega (arith, d .count, two-fields form (accepted-rules form m (d .fine) .pass .type) (taken form m (frame-clean form m (d .fine)) .sound))
 
 -- ---- what a judged message says
 module _ (form : Form) (m : List ℕ) where

@@ -1,7 +1,7 @@
 -- The steps of a field as a record, and of the whole sheet. Assumes nothing.
 use Prim.Native.Nat.{ℕ, suc, _+_, _-_, _*_, _≤_, _<_}
 use mathlib.Core.Path.{_≡_, refl, sym, ap, ap₂, subst, _∙_}
-use mathlib.Core.Bool.{Bool, true, false, false≢true}
+use mathlib.Core.Bool.{Bool, true, false, _&&_, false≢true}
 use mathlib.Core.List.{List, [], _∷_, _++_, append-assoc}
 use native.Mathlib.Omega.{arith}
 use lib.Dec.{eqb}
@@ -10,7 +10,7 @@ use lib.Seq.{take-append-seam, length-take-le}
 use native.Mathlib.Nat.{zero-add}
 use borrow.Author.Tests.{eq-eqb, ne-eqb}
 use Rattle.base.specs.Choice.{pick, all}
-use Rattle.base.specs.Bytes.{byte, capital, without}
+use Rattle.base.specs.Bytes.{byte, capital, without, empty}
 use Rattle.base.specs.Calls.{placed, Puts}
 use Rattle.base.proofs.Room.{puts-put, puts-on, puts-by, puts-none, Leads, leads-on}
 use Rattle.base.specs.declared.Verdict.the-variants.{Fine}
@@ -27,6 +27,7 @@ use Rattle.fields.proofs.PlaceLaws.{field-bytes, crlf-joined}
 use Rattle.types.specs.declared.Form.{Form}
 use Rattle.types.specs.declared.Form.the-variants.{Other}
 use Rattle.types.specs.Walk.{rule18}
+use Rattle.types.specs.Sign.{firstLine}
 use Rattle.fields.specs.Lines.{linesIn}
 use Rattle.fields.proofs.ContentLaws.{lines-joined}
 use Rattle.fields.proofs.PlaceLaws.{joined-length}
@@ -36,8 +37,9 @@ use Rattle.message.specs.Parts.{Settled}
 use Rattle.message.proofs.FieldLaws.{Stands, stands}
 use Rattle.records.specs.Record.{tabbed, line}
 use Rattle.sheets.specs.Gather.{typeRecord}
-use Rattle.sheets.specs.Steps.{contentBy, tagEnd, fieldIn, Part, recordBy, recordLine, sheetBy}
+use Rattle.sheets.specs.Steps.{contentBy, joinedParts, isNote, rppPart, tagEnd, tagIn, contentIn, fieldIn, Part, partAt, recordLine, sheetBy}
 use Rattle.sheets.proofs.TextLaws.{take-few}
+use Rattle.sheets.proofs.RestLaws.{left-out}
 
 -- ---- a field
 pub tag-short : (f : List ℕ) → byte f 3 ≡ 58 → 3 ≡ tagEnd f
@@ -48,22 +50,39 @@ pub tag-long : (f : List ℕ) → (byte f 3 ≡ 58 → ⊥) → 4 ≡ tagEnd f
 unfolding tagEnd
 tag-long f e = sym (ap (λ (b : Bool). pick b 3 4) (ne-eqb (byte f 3) 58 e))
 
-module _ (b : List ℕ) (form : Form) (s : Bool) (f : List ℕ) {t : ℕ} (e : t ≡ tagEnd f) where
-  abbrev tag : List ℕ
-  tag = take (t - 1) (drop 1 f)
+module _ (b : List ℕ) (s : Bool) (two f : List ℕ) where
+  module _ (sh : roles.Shape) {t : ℕ} (e : t ≡ tagEnd f) where
+    abbrev tag : List ℕ
+    tag = take (t - 1) (drop 1 f)
 
-  abbrev content : List ℕ
-  content = take (length f - (t + 1)) (drop (t + 1) f)
+    abbrev content : List ℕ
+    content = take (length f - (t + 1)) (drop (t + 1) f)
 
-  pub field-put : {sh : roles.Shape} {g : ℕ} → g ≡ packed f → sh ≡ shapeOf form (unpack g) → Part f → {out mid now after : List ℕ} {at i n : ℕ} → mid ≡ placed out at tag → i ≡ at + length tag
-      → Puts (tabbed (contentBy b s sh (linesIn content))) mid i n now → after ≡ placed now n (10 ∷ []) → Puts (recordLine b form s (fieldIn f)) out at (n + 1) after
-  field-put {sh} {g} h k o m x p a =
-      let u : List ℕ = tabbed (contentBy b s sh (linesIn content)) in
-      let w : sh ≡ shapeOf form tag = k ∙ ap (shapeOf form) (ap unpack h ∙ o .tag-is ∙ ap (λ (j : ℕ). take (j - 1) (drop 1 f)) (sym e)) in
-      let v : u ≡ tabbed (contentBy b s (shapeOf form tag) (linesIn (drop (t + 1) f))) = ap₂ (λ (z : roles.Shape) (d : List ℕ). tabbed (contentBy b s z (linesIn d))) w (past-in f (t + 1)) in
-      puts-by
-      (ap (λ (z : List ℕ). (tag ++ z) ++ 10 ∷ []) v ∙ ap (λ (j : ℕ). recordLine b form s (field (take (j - 1) (drop 1 f)) (linesIn (drop (j + 1) f)))) e)
-      (puts-on (tag ++ u) (10 ∷ []) (puts-on tag u (puts-put {u = tag} x m) p) (puts-put refl a))
+    abbrev parts : List ℕ → List ℕ
+    parts c = tabbed (joinedParts sh two (contentBy b s sh (linesIn c)))
+
+    pub record-put : {out mid now after : List ℕ} {at i n : ℕ} → mid ≡ placed out at tag → i ≡ at + length tag → Puts (parts content) mid i n now → after ≡ placed now n (10 ∷ [])
+        → Puts ((tagIn f ++ parts (contentIn f)) ++ 10 ∷ []) out at (n + 1) after
+    record-put m x p a =
+        puts-by
+        (ap (λ (c : List ℕ). (tag ++ parts c) ++ 10 ∷ []) (past-in f (t + 1)) ∙ ap (λ (j : ℕ). (take (j - 1) (drop 1 f) ++ parts (drop (j + 1) f)) ++ 10 ∷ []) e)
+        (puts-on (tag ++ parts content) (10 ∷ []) (puts-on tag (parts content) (puts-put {u = tag} x m) p) (puts-put refl a))
+
+  -- the record, or nothing
+  module _ (form : Form) {g : ℕ} (h : g ≡ packed f) {sh : roles.Shape} (k : sh ≡ shapeOf form (unpack g)) (o : Part f) {z : Bool} (y : z ≡ (isNote sh && empty (rppPart (contentIn f)))) where
+    abbrev record-line : roles.Shape → Bool → List ℕ
+    record-line x d = pick d [] ((tagIn f ++ tabbed (joinedParts x two (contentBy b s x (linesIn (contentIn f))))) ++ 10 ∷ [])
+
+    line-is : record-line sh z ≡ recordLine b form s two (fieldIn f)
+    line-is =
+        ap (record-line sh) (y ∙ left-out b s sh (contentIn f))
+        ∙ ap (λ (x : roles.Shape). record-line x (isNote x && empty (firstLine (contentBy b s x (linesIn (contentIn f)))))) (k ∙ ap (shapeOf form) (ap unpack h ∙ o .tag-is))
+
+    pub field-none : {out : List ℕ} {at : ℕ} → z ≡ true → Puts (recordLine b form s two (fieldIn f)) out at at out
+    field-none e = puts-by (ap (record-line sh) (sym e) ∙ line-is) puts-none
+
+    pub field-some : {out after : List ℕ} {at r : ℕ} → z ≡ false → Puts (record-line sh false) out at r after → Puts (recordLine b form s two (fieldIn f)) out at r after
+    field-some e p = puts-by (ap (record-line sh) (sym e) ∙ line-is) p
 
 pub tag-some : {t : ℕ} → 3 ≤ t → 1 ≤ t
 tag-some h = omega arith
@@ -71,8 +90,8 @@ tag-some h = omega arith
 pub tag-within : {f : List ℕ} → Part f → {t : ℕ} → t ≡ tagEnd f → t < length f
 tag-within o e = omega (arith, o .closed)
 
-pub field-small : (f : List ℕ) (at t : ℕ) {n : ℕ} → 1 ≤ t → t < length f → n ≤ at + t - 1 + length (take (length f - (t + 1)) (drop (t + 1) f)) + 8 → n + 1 ≤ at + length f + 7
-field-small f at t h k l = omega (arith, take-few (length f - (t + 1)) (drop (t + 1) f))
+pub field-small : (f : List ℕ) (at t z : ℕ) {n : ℕ} → 1 ≤ t → t < length f → n ≤ at + t - 1 + length (take (length f - (t + 1)) (drop (t + 1) f)) + 8 + z → n + 1 ≤ at + length f + 7 + z
+field-small f at t z h k l = omega (arith, take-few (length f - (t + 1)) (drop (t + 1) f))
 
 pub tag-place : (f : List ℕ) (at t : ℕ) → 1 ≤ t → t < length f → at + t - 1 ≡ at + length (take (t - 1) (drop 1 f))
 tag-place f at t h k = omega (arith, length-take-le (t - 1) (drop 1 f) (omega (arith, length-drop 1 f)))
@@ -113,8 +132,8 @@ field-is t l ls e n =
 
 -- the field at k of a message, and its part
 module _ {m spots : List ℕ} (z : Settled m spots) (k : ℕ) (h : k < length (fields m)) where
-  abbrev pub part : List ℕ
-  part = take (byte spots (k + 1) - 2 - byte spots k) (drop (byte spots k) m)
+  abbrev part : List ℕ
+  part = partAt m spots k
 
   part-is : (w : Stands m spots k) → part ≡ whole (w .tag) (w .line) (w .more)
   part-is w =
@@ -130,7 +149,7 @@ module _ {m spots : List ℕ} (z : Settled m spots) (k : ℕ) (h : k < length (f
       omega (arith, w .next, length-append t (58 ∷ j), length-append t (58 ∷ w .line), joined-length (w .line) (w .more)) in
       ap₂ (λ (i : ℕ) (x : List ℕ). take i x) n d ∙ take-append-seam (58 ∷ (t ++ 58 ∷ j)) (13 ∷ 10 ∷ r)
 
-  field-step : fieldIn part ∷ drop (k + 1) (fields m) ≡ drop k (fields m)
+  pub field-step : fieldIn part ∷ drop (k + 1) (fields m) ≡ drop k (fields m)
   field-step = go (stands z k h)
     where
       go : Stands m spots k → fieldIn part ∷ drop (k + 1) (fields m) ≡ drop k (fields m)
@@ -159,24 +178,23 @@ module _ {m spots : List ℕ} (z : Settled m spots) (k : ℕ) (h : k < length (f
             tag-is = subst (λ (f : List ℕ). unpack (packed f) ≡ take (tagEnd f - 1) (drop 1 f)) (sym (part-is w)) (tag-of t j (w .shape));
           }
 
-  -- places stay small: a record is counted as at most five bytes more than its field (by SizeLaws it has no more)
-  pub at-on : {at r : ℕ} → at ≤ byte spots k + 2 + 5 * k → r ≤ at + length part + 7 → r ≤ byte spots (k + 1) + 2 + 5 * (k + 1)
-  at-on a b = let w = stands z k h in omega (arith, take-few (byte spots (k + 1) - 2 - byte spots k) (drop (byte spots k) m), w .far)
+  -- places stay small: a record is counted as at most so many bytes more than its field, those of the rest and a few (by SizeLaws it has no more)
+  pub at-on : {p : List ℕ} {at r z : ℕ} → p ≡ part → z ≤ limit → at ≤ byte spots k + 2 + 10005 * k → r ≤ at + length p + 7 + z → r ≤ byte spots (k + 1) + 2 + 10005 * (k + 1)
+  at-on q y a b = let w = stands z k h in omega (arith, ap length q, take-few (byte spots (k + 1) - 2 - byte spots k) (drop (byte spots k) m), w .far)
 
   -- ---- the sheet, record by record
-  pub sheet-on : (b : List ℕ) (form : Form) (g : Bool) {u out now mid : List ℕ} {at n r : ℕ} → Leads u out at (sheetBy b form g (drop k (fields m))) now n
-      → Puts (recordLine b form g (fieldIn part)) now n r mid → Leads u out at (sheetBy b form g (drop (k + 1) (fields m))) mid r
-  sheet-on b form g f p =
-      let l = line (recordBy b form g (fieldIn part)) in
-      let u = sheetBy b form g (drop (k + 1) (fields m)) in
-      leads-on (l ++ 10 ∷ []) u (append-assoc l (10 ∷ []) u ∙ ap (sheetBy b form g) field-step) f p
+  pub sheet-on : (b : List ℕ) (form : Form) (g : Bool) (two : List ℕ) {p u out now mid : List ℕ} {at n r : ℕ} → p ≡ part → Leads u out at (sheetBy b form g two (drop k (fields m))) now n
+      → Puts (recordLine b form g two (fieldIn p)) now n r mid → Leads u out at (sheetBy b form g two (drop (k + 1) (fields m))) mid r
+  sheet-on b form g two {p = p} q f d =
+      let u = sheetBy b form g two (drop (k + 1) (fields m)) in
+      leads-on (recordLine b form g two (fieldIn p)) u (ap (λ (x : List ℕ). recordLine b form g two (fieldIn x) ++ u) q ∙ ap (sheetBy b form g two) field-step) f d
 
-pub sheet-end : (m : List ℕ) (k n : ℕ) → n ≡ length (fields m) → n ≤ k → (b : List ℕ) (form : Form) (g : Bool) {out mid now : List ℕ} {at j : ℕ} → Puts (line (typeRecord form) ++ 10 ∷ []) out 0 at mid
-    → Leads (sheetBy b form g (fields m)) mid at (sheetBy b form g (drop k (fields m))) now j → Puts (line (typeRecord form) ++ 10 ∷ sheetBy b form g (fields m)) out 0 j now
-sheet-end m k n e h b form g {now = now} {j = j} p f =
-    let u = sheetBy b form g (fields m) in
+pub sheet-end : (m : List ℕ) (k n : ℕ) → n ≡ length (fields m) → n ≤ k → (b : List ℕ) (form : Form) (g : Bool) (two : List ℕ) {out mid now : List ℕ} {at j : ℕ} → Puts (line (typeRecord form) ++ 10 ∷ []) out 0 at mid
+    → Leads (sheetBy b form g two (fields m)) mid at (sheetBy b form g two (drop k (fields m))) now j → Puts (line (typeRecord form) ++ 10 ∷ sheetBy b form g two (fields m)) out 0 j now
+sheet-end m k n e h b form g two {now = now} {j = j} p f =
+    let u = sheetBy b form g two (fields m) in
     let l = line (typeRecord form) in
-    puts-by (append-assoc l (10 ∷ []) u) (puts-on (l ++ 10 ∷ []) u p (f j now (puts-by (ap (sheetBy b form g) (sym (drop-of-length-le (fields m) {i = k} (omega arith)))) puts-none)))
+    puts-by (append-assoc l (10 ∷ []) u) (puts-on (l ++ 10 ∷ []) u p (f j now (puts-by (ap (sheetBy b form g two) (sym (drop-of-length-le (fields m) {i = k} (omega arith)))) puts-none)))
 
 -- ---- the type
 pub type-put : (form : Form) {to : Form} {u out after : List ℕ} → form ≡ to → u ≡ line (typeRecord to) ++ 10 ∷ [] → 7 ≡ length u → after ≡ placed out 0 u → Puts (line (typeRecord form) ++ 10 ∷ []) out 0 7 after

@@ -1,5 +1,8 @@
 pub mod Examples
 pub mod TextLaws
+pub mod RestLaws
+pub mod TagLaws
+pub mod JoinLaws
 pub mod ContentLaws
 pub mod FieldLaws
 pub mod ReadLaws
@@ -7,3 +10,4 @@ pub mod SizeLaws
 pub mod NumberLaws
 pub mod CallLaws
 pub mod ToSheetTheorems
+pub mod JoinTheorems

@@ -26,6 +26,7 @@ use Rattle.contents.proofs.RuleLaws.{own-number}
 use Rattle.values.proofs.RuleLaws.{broken9, broken10, broken11, broken12, broken13}
 use Rattle.roles.specs.Rule14.{unheard, speechesOf, rule14}
 use Rattle.roles.proofs.BreachLaws.{unheard-number}
+use Rattle.roles.proofs.OverTheorems.{rule21-within}
 use Rattle.message.specs.Message.{verdictOf}
 use Rattle.message.proofs.RuleLaws.{verdict-holds}
 
@@ -91,5 +92,6 @@ verdict-never form m =
         parties = λ p e. omega (arith, broken12 form fs 17 p .0 e .0);
         taxes = λ p e. omega (arith, broken13 form fs 17 p .0 e .0);
         texts = pick-never (signOf fs) (unheard (speechesOf form 5 fs)) Fine (λ p e. omega (arith, unheard-number (speechesOf form 5 fs) 17 p e)) fine-never;
+        lengths = λ p e. omega (arith, rule21-within form fs 17 p e .0);
       };
     })

@@ -23,8 +23,12 @@ use Rattle.alphabets.proofs.PartTheorems.{text-append, text-whole}
 use Rattle.alphabets.proofs.Theorems.{plain-iff, plain-only}
 use Rattle.fields.specs.Field.{Field, field, fields, linesOf}
 use Rattle.fields.specs.Places.{startOf, nextOf}
+use Rattle.fields.specs.Lines.{linesIn}
 use Rattle.fields.proofs.FieldLaws.{fields-in}
 use Rattle.types.specs.declared.Form.{Form}
+use Rattle.types.specs.declared.Form.the-variants.{Mt103}
+use Rattle.types.specs.Form.{placesOf}
+use Rattle.types.specs.Sentences.{AllRight}
 use Rattle.types.specs.Sign.{signOf}
 use Rattle.frame.proofs.CallLaws.{taken}
 use Rattle.contents.specs.Tests.{looksTax}
@@ -32,7 +36,7 @@ use Rattle.contents.specs.Parts.{opensRpp}
 use Rattle.roles.specs.Role.{shapeOf, Part, copy, name, taxName, lineOf, cast}
 use Rattle.roles.specs.Parts.{castBy, isNameBy, nextRole}
 use Rattle.roles.specs.Speech as speech
-use Rattle.roles.specs.Speech.{Manner, asDetails, asTaxName, Speech, nameSpeeches, laterText, codeSize, speeches}
+use Rattle.roles.specs.Speech.{Manner, asDetails, asTaxName, Speech, nameSpeeches, laterText, codeSize, nzpSize, laterSize, speeches}
 use Rattle.roles.specs.Rule14.{mute, clauses, breaks14, speechesOf as texts}
 use Rattle.roles.specs.Sentences.{Heard}
 use Rattle.roles.specs.declared.Shape.{Shape}
@@ -42,11 +46,15 @@ use Rattle.roles.specs.declared.Role.the-variants.{Copies, OfPayer, OfPayee, Of
 use Rattle.roles.proofs.PartLaws.{firstPart, cast-none, cast-cons}
 use Rattle.roles.proofs.BreachLaws.{first-clause, same-lines, rule14-fine}
 use Rattle.message.specs.Message.{verdictOf}
+use Rattle.message.specs.Parts.{Settled}
 use Rattle.message.proofs.RuleLaws.{accepted-rules}
 use Rattle.message.proofs.VerdictTheorems.{frame-clean}
 use Rattle.records.specs.Record.{Record, line, sheet}
-use Rattle.sheets.specs.Gather.{partFor, codeDigits, detailsParts, noteParts, contentParts, recordFor, gather, typeRecord, recordsOf, sheetOf}
-use Rattle.sheets.specs.Steps.{saidBy, sideOf, sideBy, partsBy, textPieces, overBy, detailsBy, noteBy, contentBy, recordBy, sheetBy}
+use Rattle.runon.specs.RunOn.{tag72, partsOf, secondPart, join}
+use Rattle.sheets.specs.Gather.{partFor, codeDigits, detailsParts, restParts, noteParts, contentParts, recordFor, gather, typeRecord, recordsOf, sheetOf}
+use Rattle.sheets.specs.Steps.{saidBy, sideOf, sideBy, partsBy, textPieces, overBy, detailsBy, restText, restBy, contentBy, runsOn, recordBy, sheetBy}
+use Rattle.sheets.proofs.TagLaws.{two-fields}
+use Rattle.sheets.proofs.JoinLaws.{join-sheet, runs-text}
 
 -- ---- a text that reads
 abbrev pub Speaks : Bool → List ℕ → Type 0
@@ -168,22 +176,36 @@ abbrev pub DetailsSpeak : Bool → ℕ → ℕ → List (List ℕ) → Type 0
 DetailsSpeak s front mark [] = Unit {0}
 DetailsSpeak s front mark (l ∷ ls) = Speaks s (drop front l ++ laterText mark ls)
 
+text-same : (s : Bool) (front mark : ℕ) (l : List ℕ) (ls : List (List ℕ)) → Speaks s (drop front l ++ laterText mark ls)
+    → overBy backTable s false (textPieces front mark (l ∷ ls)) ≡ textOf (reading s (drop front l ++ laterText mark ls))
+text-same s front mark l ls w =
+    let e : drop front l ++ laterText mark ls ≡ run (textPieces front mark (l ∷ ls)) = ap (λ (x : List ℕ). drop front l ++ x) (behind-run mark ls) in
+    over-reads s (textPieces front mark (l ∷ ls)) (subst (Speaks s) e w) ∙ ap (λ (x : List ℕ). textOf (reading s x)) (sym e)
+
 details-same : (s : Bool) (first mark : ℕ) (ls : List (List ℕ)) → DetailsSpeak s (first + codeSize s) mark ls → detailsBy backTable s first mark ls ≡ detailsParts s first mark ls
 details-same s first mark [] w = refl
-details-same s first mark (l ∷ ls) w =
-    let e : drop (first + codeSize s) l ++ laterText mark ls ≡ run (textPieces (first + codeSize s) mark (l ∷ ls)) = ap (λ (x : List ℕ). drop (first + codeSize s) l ++ x) (behind-run mark ls) in
-    ap (λ (x : List ℕ). codeDigits s (drop first l) ∷ x ∷ []) (over-reads s (textPieces (first + codeSize s) mark (l ∷ ls)) (subst (Speaks s) e w) ∙ ap (λ (x : List ℕ). textOf (reading s x)) (sym e))
+details-same s first mark (l ∷ ls) w = ap (λ (x : List ℕ). codeDigits s (drop first l) ∷ x ∷ []) (text-same s (first + codeSize s) mark l ls w)
 
-pub record Noted (s : Bool) (l : List ℕ) (ls : List (List ℕ)) : Type 0 where
-  pub behind-rpp : opensRpp l ≡ true → DetailsSpeak s (5 + codeSize s) 2 ls
-  pub from-first : opensRpp l ≡ false → DetailsSpeak s (5 + codeSize s) 2 (l ∷ ls)
+rest-same : (s : Bool) (ls : List (List ℕ)) → DetailsSpeak s nzpSize laterSize ls → restBy backTable s ls ≡ restParts s ls
+rest-same s [] w = refl
+rest-same s (l ∷ ls) w = ap (λ (x : List ℕ). x ∷ []) (text-same s nzpSize laterSize l ls w)
 
-note-same : (s : Bool) (l : List ℕ) (ls : List (List ℕ)) → Noted s l ls → noteBy backTable s (l ∷ ls) ≡ noteParts s (l ∷ ls)
-note-same s l ls w = go (opensRpp l) refl
+-- 72: what stands behind an RPP line, or all of it, reads behind `front` bytes
+pub record Noted (s : Bool) (front : ℕ) (l : List ℕ) (ls : List (List ℕ)) : Type 0 where
+  pub behind-rpp : opensRpp l ≡ true → DetailsSpeak s front laterSize ls
+  pub from-first : opensRpp l ≡ false → DetailsSpeak s front laterSize (l ∷ ls)
+
+note-same : (s : Bool) (front : ℕ) (f g : List (List ℕ) → List (List ℕ)) → ((ls : List (List ℕ)) → DetailsSpeak s front laterSize ls → f ls ≡ g ls)
+    → (l : List ℕ) (ls : List (List ℕ)) → Noted s front l ls → noteParts f (l ∷ ls) ≡ noteParts g (l ∷ ls)
+note-same s front f g h l ls w = go (opensRpp l) refl
   where
-    go : (b : Bool) → opensRpp l ≡ b → pick b (drop 5 l ∷ detailsBy backTable s 5 2 ls) ([] ∷ detailsBy backTable s 5 2 (l ∷ ls)) ≡ pick b (drop 5 l ∷ detailsParts s 5 2 ls) ([] ∷ detailsParts s 5 2 (l ∷ ls))
-    go true e = ap (λ (x : List (List ℕ)). drop 5 l ∷ x) (details-same s 5 2 ls (w .behind-rpp e))
-    go false e = ap (λ (x : List (List ℕ)). [] ∷ x) (details-same s 5 2 (l ∷ ls) (w .from-first e))
+    go : (b : Bool) → opensRpp l ≡ b → pick b (drop 5 l ∷ f ls) ([] ∷ f (l ∷ ls)) ≡ pick b (drop 5 l ∷ g ls) ([] ∷ g (l ∷ ls))
+    go true e = ap (λ (x : List (List ℕ)). drop 5 l ∷ x) (h ls (w .behind-rpp e))
+    go false e = ap (λ (x : List (List ℕ)). [] ∷ x) (h (l ∷ ls) (w .from-first e))
+
+abbrev pub NoteSpeaks : Bool → ℕ → List (List ℕ) → Type 0
+NoteSpeaks s front [] = Unit {0}
+NoteSpeaks s front (l ∷ ls) = Noted s front l ls
 
 abbrev pub Readable : Bool → Shape → List (List ℕ) → Type 0
 Readable s Plain ls = Unit {0}
@@ -191,9 +213,8 @@ Readable s Payer ls = AllRead s (cast Payer ls)
 Readable s Payee ls = AllRead s (cast Payee ls)
 Readable s Agent ls = AllRead s (cast Agent ls)
 Readable s Details ls = DetailsSpeak s (codeSize s) 0 ls
-Readable s Note103 ls = Unit {0}
-Readable s Note202 [] = Unit {0}
-Readable s Note202 (l ∷ ls) = Noted s l ls
+Readable s Note103 ls = NoteSpeaks s nzpSize ls
+Readable s Note202 ls = NoteSpeaks s (nzpSize + codeSize s) ls
 
 content-same : (s : Bool) (sh : Shape) (ls : List (List ℕ)) → Readable s sh ls → contentBy backTable s sh ls ≡ contentParts s sh ls
 unfolding contentBy contentParts cast
@@ -203,9 +224,10 @@ content-same s Payee ls w = parts-cast s OfPayee ls w
 content-same s Agent ls w = parts-cast s OfAgent ls w
 content-same true Details ls w = details-same true 0 0 ls w
 content-same false Details ls w = details-same false 0 0 ls w
-content-same s Note103 ls w = copies s (map (drop 5) ls)
+content-same s Note103 [] w = refl
+content-same s Note103 (l ∷ ls) w = note-same s nzpSize (restBy backTable s) (restParts s) (rest-same s) l ls w
 content-same s Note202 [] w = refl
-content-same s Note202 (l ∷ ls) w = note-same s l ls w
+content-same s Note202 (l ∷ ls) w = note-same s (nzpSize + codeSize s) (detailsBy backTable s nzpSize laterSize) (detailsParts s nzpSize laterSize) (details-same s nzpSize laterSize) l ls w
 
 -- ---- with the sign every text reads, by 14
 heard-speaks : (m : Manner) (b : List ℕ) → breaks14 m b ≡ false → Speaks true b
@@ -228,19 +250,26 @@ unfolding speech.detailsSpeech
 details-heard front mark o [] h = tt
 details-heard front mark o (l ∷ ls) h = heard-speaks asDetails (drop front l ++ laterText mark ls) (h .0)
 
+note-heard : (front o : ℕ) (ls : List (List ℕ)) → Heard (speech.noteSpeeches front o ls) → NoteSpeaks true front ls
+unfolding speech.noteSpeeches
+note-heard front o [] h = tt
+note-heard front o (l ∷ ls) h = record {
+  behind-rpp = λ e. details-heard front laterSize (o + length l + 2) ls (by e);
+  from-first = λ e. details-heard front laterSize o (l ∷ ls) (by e);
+}
+  where
+    by : {b : Bool} → opensRpp l ≡ b → Heard (pick b (speech.detailsSpeech front laterSize (o + length l + 2) ls) (speech.detailsSpeech front laterSize o (l ∷ ls)))
+    by e = subst (λ (b : Bool). Heard (pick b (speech.detailsSpeech front laterSize (o + length l + 2) ls) (speech.detailsSpeech front laterSize o (l ∷ ls)))) e h
+
 signed-readable : (sh : Shape) (o : ℕ) (ls : List (List ℕ)) → Heard (speeches true sh o ls) → Readable true sh ls
-unfolding speeches speech.noteSpeeches
+unfolding speeches
 signed-readable Plain o ls h = tt
 signed-readable Payer o ls h = names-read o (cast Payer ls) h
 signed-readable Payee o ls h = names-read o (cast Payee ls) h
 signed-readable Agent o ls h = names-read o (cast Agent ls) h
 signed-readable Details o ls h = details-heard 11 0 o ls h
-signed-readable Note103 o ls h = tt
-signed-readable Note202 o [] h = tt
-signed-readable Note202 o (l ∷ ls) h = record {
-  behind-rpp = λ e. details-heard 16 2 (o + length l + 2) ls (subst (λ (b : Bool). Heard (pick b (speech.detailsSpeech 16 2 (o + length l + 2) ls) (speech.detailsSpeech 16 2 o (l ∷ ls)))) e h);
-  from-first = λ e. details-heard 16 2 o (l ∷ ls) (subst (λ (b : Bool). Heard (pick b (speech.detailsSpeech 16 2 (o + length l + 2) ls) (speech.detailsSpeech 16 2 o (l ∷ ls)))) e h);
-}
+signed-readable Note103 o ls h = note-heard nzpSize o ls h
+signed-readable Note202 o ls h = note-heard (nzpSize + codeSize true) o ls h
 
 -- ---- without it, by 3
 plain-speaks : (b : List ℕ) → all xset b ≡ true → Speaks false b
@@ -270,15 +299,18 @@ details-in front mark (l ∷ ls) e =
 cast-in : (sh : Shape) (ls : List (List ℕ)) → all (all xset) ls ≡ true → AllRead false (cast sh ls)
 cast-in sh ls e = lines-read (cast sh ls) (ap (all (all xset)) (same-lines sh ls) ∙ e)
 
+note-in : (front : ℕ) (ls : List (List ℕ)) → all (all xset) ls ≡ true → NoteSpeaks false front ls
+note-in front [] e = tt
+note-in front (l ∷ ls) e = record { behind-rpp = λ _. details-in front laterSize ls (right (all xset l) _ e); from-first = λ _. details-in front laterSize (l ∷ ls) e }
+
 plain-readable : (sh : Shape) (ls : List (List ℕ)) → all (all xset) ls ≡ true → Readable false sh ls
 plain-readable Plain ls e = tt
 plain-readable Payer ls e = cast-in Payer ls e
 plain-readable Payee ls e = cast-in Payee ls e
 plain-readable Agent ls e = cast-in Agent ls e
 plain-readable Details ls e = details-in 9 0 ls e
-plain-readable Note103 ls e = tt
-plain-readable Note202 [] e = tt
-plain-readable Note202 (l ∷ ls) e = record { behind-rpp = λ _. details-in 14 2 ls (right (all xset l) _ e); from-first = λ _. details-in 14 2 (l ∷ ls) e }
+plain-readable Note103 ls e = note-in nzpSize ls e
+plain-readable Note202 ls e = note-in (nzpSize + codeSize false) ls e
 
 -- ---- the fields
 abbrev pub AllReadable : Form → Bool → List Field → Type 0
@@ -318,7 +350,19 @@ module _ (form : Form) (m : List ℕ) (v : verdictOf form m ≡ Fine) where
   readable true e = fields-heard form 5 (fields m) (rule14-fine form (fields m) .0 (accepted-rules form m v .inside .texts) e)
   readable false e = let t = taken form m (frame-clean form m v) in fields-plain form (fields m) (fields-in m (t .frame-fine) (t .bytes-fine) (t .lines-fine))
 
-  pub sheet-same : line (typeRecord form) ++ 10 ∷ sheetBy backTable form (signOf (fields m)) (fields m) ≡ sheetOf form m
+  -- with what runs on, found at the fields' spots
+  pub sheet-same : {spots : List ℕ} → Settled m spots
+      → line (typeRecord form) ++ 10 ∷ sheetBy backTable form (signOf (fields m)) (restText backTable (signOf (fields m)) (linesIn (runsOn form m spots (length (fields m))))) (fields m) ≡ sheetOf form m
   unfolding sheetOf recordsOf gather
-  sheet-same =
-      ap (λ (rs : List Record). line (typeRecord form) ++ 10 ∷ sheet rs) (records-same form (signOf (fields m)) (fields m) (readable (signOf (fields m)) refl))
+  sheet-same {spots} z =
+      let s = signOf (fields m) in
+      let two : List ℕ = restText backTable s (linesIn (runsOn form m spots (length (fields m)))) in
+      ap (λ (x : List ℕ). line (typeRecord form) ++ 10 ∷ x)
+      (join-sheet backTable s two form (fields m) (found s z)
+      ∙ ap (λ (rs : List Record). sheet (join form rs)) (records-same form s (fields m) (readable s refl)))
+    where
+      found : (s : Bool) → Settled m spots → form ≡ Mt103 → restText backTable s (linesIn (runsOn form m spots (length (fields m)))) ≡ secondPart (partsOf tag72 (map (recordBy backTable Mt103 s) (fields m)))
+      found s z e =
+          let t = taken form m (frame-clean form m v) in
+          ap (λ (x : Form). restText backTable s (linesIn (runsOn x m spots (length (fields m))))) e
+          ∙ runs-text backTable s z (subst (λ (x : Form). AllRight (placesOf x) 0 (fields m)) e (t .right)) (two-fields form (accepted-rules form m v .pass .type) (t .sound))

@@ -1,4 +1,5 @@
 pub mod Gather
+pub mod Sentences
 pub mod Calls
 pub mod Cases
 pub mod Steps

@@ -1,5 +1,6 @@
 // A message read into its sheet.
 mod built;
 mod parts;
+mod rest;
 mod texts;
 pub mod to_sheet;

@@ -1,5 +1,5 @@
--- A message read and written again: its sheet is written, and the message then has the same sheet; or 16 refuses it, and then for field 70 of a
--- 103 with the sign (D2e, K7, O2). The way from a sheet and back stands in BackLaws. Assumes nothing.
+-- A message read and written again: its sheet is written, and the message then has the same sheet; or 16 refuses it, and then for details of a 103
+-- with the sign that run on behind an RPP line (D2e, K7, O2). The way from a sheet and back stands in BackLaws. Assumes nothing.
 use Prim.Native.Nat.{ℕ, _≤_}
 use mathlib.Core.Path.{_≡_, refl, sym, ap, ap₂, _∙_, subst}
 use mathlib.Core.Bool.{Bool}
@@ -36,10 +36,10 @@ use Rattle.written.specs.Sentences.{OneByOne}
 use Rattle.records.specs.Record.{records}
 use Rattle.sheets.specs.Gather.{recordFor, gather, sheetOf}
 use Rattle.sheets.specs.Calls.{readRules, SheetTo}
-use Rattle.trips.specs.Again.{Crowded70, Returns, back, crowded}
+use Rattle.trips.specs.Again.{CrowdedBehindRpp, Returns, back, crowded}
 use Rattle.trips.proofs.Held as held
 use Rattle.trips.specs.Shown as shown
-use Rattle.trips.specs.Shown.{LineByLine, Shown}
+use Rattle.trips.specs.Shown.{LineByLine, Shown, ShownSheet}
 use Rattle.trips.proofs.Held.{Held, HeldField, DetailsOrRpp, Sheeted, SheetedField}
 use Rattle.trips.proofs.NameLaws.{sheeted-names}
 use Rattle.trips.proofs.DetailRecordLaws.{sheeted-details}
@@ -79,14 +79,14 @@ module _ (form : Form) (m : List ℕ) (e : verdictOf form m ≡ Fine) where
   each : AllHold (SheetedField form (signOf (fields m))) (fields m)
   each = all-sheeted form (signOf (fields m)) (fields m) (all-held form m e)
 
-  -- the rules of writing let its sheet pass, or 16 refuses it, and then for field 70 of a 103 with the sign
-  pub sheet-passes : Clean (sheetRules (sheetOf form m)) ⊎ ((first (sheetRules (sheetOf form m)) ≡ Broken 16 0) × Crowded70 form (signOf (fields m)) (fields m))
+  -- the rules of writing let its sheet pass, or 16 refuses it, and then for details of a 103 with the sign that run on behind an RPP line
+  pub sheet-passes : Clean (sheetRules (sheetOf form m)) ⊎ ((first (sheetRules (sheetOf form m)) ≡ Broken 16 0) × CrowdedBehindRpp form (signOf (fields m)) (fields m))
   sheet-passes = accepted-passes form m e each
 
-  -- each record of its sheet behind the first says what its field does
-  pub sheet-shows : OneByOne (Shown form (signOf (fields m))) (fields m) (tail (records (sheetOf form m)))
+  -- the records of its sheet behind the first say what its fields do, in a 103 joined
+  pub sheet-shows : ShownSheet form (signOf (fields m)) (fields m) (tail (records (sheetOf form m)))
   unfolding gather
-  sheet-shows = subst (OneByOne (Shown form (signOf (fields m))) (fields m)) (sym (accepted-records form m e each)) (all-shown form (signOf (fields m)) (fields m) each)
+  sheet-shows = record { apart = gather form (signOf (fields m)) (fields m); each = all-shown form (signOf (fields m)) (fields m) each; joined = accepted-records form m e each }
 
   module _ (c : Clean (sheetRules (sheetOf form m))) where
     -- the message built from it is accepted again
@@ -108,7 +108,7 @@ module _ (form : Form) (m : List ℕ) (e : verdictOf form m ≡ Fine) where
 pub passes-202 : (m : List ℕ) → verdictOf Mt202 m ≡ Fine → Clean (sheetRules (sheetOf Mt202 m))
 passes-202 m e = go (sheet-passes Mt202 m e)
   where
-    go : Clean (sheetRules (sheetOf Mt202 m)) ⊎ ((first (sheetRules (sheetOf Mt202 m)) ≡ Broken 16 0) × Crowded70 Mt202 (signOf (fields m)) (fields m)) → Clean (sheetRules (sheetOf Mt202 m))
+    go : Clean (sheetRules (sheetOf Mt202 m)) ⊎ ((first (sheetRules (sheetOf Mt202 m)) ≡ Broken 16 0) × CrowdedBehindRpp Mt202 (signOf (fields m)) (fields m)) → Clean (sheetRules (sheetOf Mt202 m))
     go (inl c) = c
     go (inr f) = absurd (omega (arith, ap typeOf (f .1 .type)))
 
@@ -130,7 +130,7 @@ module _ (form : Form) (m room : List ℕ) (e : verdictOf form m ≡ Fine) (r : 
       back (length built) (g .answers ∙ ap (λ (v : Verdict). outcome v (length built)) f) (ap (verdictOf form) t ∙ accepted-again form m e c) (ap (sheetOf form) t ∙ same-sheet form m e c)
       (q ∙ ap (λ (x : List ℕ). x ++ drop (length built) room) (sym t))
 
-  stops : MessageTo sheet room r b → first (sheetRules sheet) ≡ Broken 16 0 → Crowded70 form (signOf (fields m)) (fields m) → Returns form m room r b
+  stops : MessageTo sheet room r b → first (sheetRules sheet) ≡ Broken 16 0 → CrowdedBehindRpp form (signOf (fields m)) (fields m) → Returns form m room r b
   unfolding MessageTo
   stops g f n =
       let k : first (writeRules sheet room) ≡ Broken 16 0 = first-append (sheetRules sheet) (short built room ∷ ownRule sheet ∷ []) ∙ ap (λ (v : Verdict). then v (first (short built room ∷ ownRule sheet ∷ []))) f in
@@ -139,7 +139,7 @@ module _ (form : Form) (m room : List ℕ) (e : verdictOf form m ≡ Fine) (r : 
   returns : MessageTo sheet room r b → Returns form m room r b
   returns g = go (sheet-passes form m e)
     where
-      go : Clean (sheetRules sheet) ⊎ ((first (sheetRules sheet) ≡ Broken 16 0) × Crowded70 form (signOf (fields m)) (fields m)) → Returns form m room r b
+      go : Clean (sheetRules sheet) ⊎ ((first (sheetRules sheet) ≡ Broken 16 0) × CrowdedBehindRpp form (signOf (fields m)) (fields m)) → Returns form m room r b
       go (inl c) = passes g c
       go (inr f) = stops g (f .0) (f .1)
 
@@ -153,9 +153,9 @@ module _ (form : Form) (m out a : List ℕ) (n : ℕ) (g : SheetTo form m out (D
         ap₂ (λ (i : ℕ) (x : List ℕ). take i x) (w .count) (w .filled) ∙ take-append-seam (sheetOf form m) (drop (length (sheetOf form m)) out),
       )
 
-  -- each record left behind the first says what its field does
-  pub read-shows : OneByOne (Shown form (signOf (fields m))) (fields m) (tail (records (take n a)))
-  read-shows = subst (λ (x : List ℕ). OneByOne (Shown form (signOf (fields m))) (fields m) (tail (records x))) (sym (read-fine .1)) (sheet-shows form m (read-fine .0))
+  -- the records left behind the first say what its fields do, in a 103 joined
+  pub read-shows : ShownSheet form (signOf (fields m)) (fields m) (tail (records (take n a)))
+  read-shows = subst (λ (x : List ℕ). ShownSheet form (signOf (fields m)) (fields m) (tail (records x))) (sym (read-fine .1)) (sheet-shows form m (read-fine .0))
 
   -- and handed to `to_message` it comes back, with room for the message that is written
   module _ (room : List ℕ) (r : Outcome) (b : List ℕ) (h : MessageTo (take n a) room r b) where

@@ -2,7 +2,7 @@
 -- N17). Assumes nothing.
 use Prim.Native.Nat.{ℕ, _+_, _*_, _-_, _/_, _%_, _≤_, _<_}
 use mathlib.Core.Path.{_≡_, refl, sym, ap, ap₂, _∙_, subst}
-use mathlib.Core.Bool.{Bool, true, false, false≢true}
+use mathlib.Core.Bool.{Bool, true, false, not, false≢true}
 use mathlib.Core.List.{List, [], _∷_, _++_, map, tail}
 use native.Mathlib.Omega.{arith}
 use lib.Arith.{digits-mod}
@@ -12,7 +12,7 @@ use lib.Seq.{take-append-le, drop-append-le, take-at}
 use borrow.Author.Tests.{eqb-true}
 use Rattle.types.specs.Walk.{rule18}
 use Rattle.base.specs.Choice.{all, pick}
-use Rattle.base.specs.Bytes.{digit, same}
+use Rattle.base.specs.Bytes.{digit, empty, same}
 use Rattle.base.specs.Quoted.{bytes}
 use Rattle.base.specs.Rules.{Clean}
 use Rattle.base.specs.Calls.{textOf, over}
@@ -25,6 +25,7 @@ use Rattle.base.proofs.RuleLaws.{fine-broken}
 use Rattle.alphabets.specs.Bank.{reading}
 use Rattle.alphabets.specs.Best.{writing}
 use Rattle.alphabets.proofs.Theorems.{reads-back}
+use Rattle.alphabets.proofs.SaidLaws.{said-is}
 use Rattle.fields.specs.Field.{Field, field, fields, upto, past}
 use Rattle.types.specs.declared.Form.{Form}
 use Rattle.types.specs.declared.Form.the-variants.{Other, Mt103, Mt202}
@@ -32,30 +33,34 @@ use Rattle.types.specs.Form.{formOf}
 use Rattle.types.specs.Sign.{signOf}
 use Rattle.roles.specs.Role.{shapeOf, Part, copy, name, taxName, lineOf, cast}
 use Rattle.roles.specs.Speech as speech
-use Rattle.roles.specs.Speech.{Speech, speech, codeSize}
+use Rattle.roles.specs.Speech.{Speech, speech, codeSize, nzpSize, laterSize}
 use Rattle.roles.specs.declared.Shape.{Shape}
 use Rattle.roles.specs.declared.Shape.the-variants.{Plain, Payer, Payee, Agent}
 use Rattle.roles.proofs.BreachLaws.{same-lines}
 use Rattle.message.specs.Message.{verdictOf}
 use Rattle.records.specs.Record.{Record, sheet, records}
-use Rattle.records.specs.Rule19.{isDigits, typeNumber, sheetForm, sheetSign}
+use Rattle.records.specs.Rule19.{isDigits, typeNumber, good, sheetForm, sheetSign}
 use Rattle.records.specs.Sentences.{RightParts, plain, agent, payer, payee, details, note103, note202, SoundSheet}
 use Rattle.records.proofs.RuleLaws.{fine-sound, named}
 use Rattle.records.proofs.SoundLaws.{sound-sheet, sound-type}
 use Rattle.details.specs.Lines.{together}
-use Rattle.details.specs.Layouts.{layout, linesFor, sizeFor}
+use Rattle.details.specs.Layouts.{layout, linesFor}
 use Rattle.details.specs.declared.DetailsField.{DetailsField}
 use Rattle.details.specs.declared.DetailsField.the-variants.{In70, In72, BehindRpp}
 use Rattle.details.specs.Front.{code, noteField}
-use Rattle.writer.specs.Spread.{castParts, lineFor, codeAndText, noteLines, contentLines, spread}
-use Rattle.writer.specs.Sheet.{isUnfit, crowded, fieldsOf, messageFor, sheetRules, MessageTo}
+use Rattle.details.proofs.LaidLaws.{Laid}
+use Rattle.runon.specs.Run.{fitsIn}
+use Rattle.runon.specs.RunOn.{runOn, join}
+use Rattle.runon.proofs.JoinLaws.{join-run}
+use Rattle.writer.specs.Spread.{castParts, lineFor, laidLines, detailsLines, rppLines, restLines, noteLines, contentLines, spread}
+use Rattle.writer.specs.Sheet.{crowded, fieldsOf, messageFor, sheetRules, MessageTo}
 use Rattle.writer.proofs.RuleLaws.{sheet-rules}
-use Rattle.written.proofs.SpeltLaws.{said-is}
-use Rattle.written.proofs.ReadyLaws.{speaks, Laid, laid, Ready}
-use Rattle.written.proofs.CastLaws.{turned, cast-again, frontOf, nextOf, details-again}
-use Rattle.written.proofs.BuiltLaws.{AllPass, records-pass, built-fields, built-sign}
+use Rattle.written.proofs.ReadyLaws.{speaks, RunParts, own, withRest, Ready, fits-lines, lone-rpp}
+use Rattle.written.proofs.CastLaws.{turned, cast-again, code-size, frontOf, nextOf, details-again}
+use Rattle.writer.proofs.CrowdLaws.{good-plain}
+use Rattle.written.proofs.BuiltLaws.{AllPass, runsAs, records-pass, fine-good, built-fields, built-sign}
 use Rattle.written.proofs.ToMessageTheorems as writer
-use Rattle.sheets.specs.Gather.{partFor, codeDigits, detailsParts, noteParts, contentParts, gather, typeName, typeRecord, recordsOf, sheetOf}
+use Rattle.sheets.specs.Gather.{partFor, codeDigits, detailsParts, restParts, noteParts, contentParts, gather, typeName, typeRecord, recordsOf, sheetOf}
 use Rattle.sheets.specs.Calls.{SheetTo}
 use Rattle.sheets.proofs.ToSheetTheorems.{sheet-kept, sheet-narrow, sheet-wide}
 use Rattle.trips.specs.Back.{typeIn, kindIn}
@@ -107,67 +112,101 @@ textIn (speech m o t ∷ xs) = t
 -- the bytes of the mark before the first line
 abbrev markOf : DetailsField → ℕ
 markOf In70 = 0
-markOf In72 = 5
-markOf BehindRpp = 5
+markOf In72 = nzpSize
+markOf BehindRpp = nzpSize
 
 mark-dropped : (p : DetailsField) (l : List ℕ) → drop (markOf p) (layout p .mark ++ l) ≡ l
 mark-dropped In70 l = refl
 mark-dropped In72 l = refl
 mark-dropped BehindRpp l = refl
 
-mark-and-code : (p : DetailsField) (s : Bool) → markOf p + codeSize s ≡ frontOf p s
-mark-and-code In70 true = refl
-mark-and-code In70 false = refl
-mark-and-code In72 true = refl
-mark-and-code In72 false = refl
-mark-and-code BehindRpp true = refl
-mark-and-code BehindRpp false = refl
+mark-and-front : (p : DetailsField) (n : ℕ) → markOf p + n ≡ frontOf p n
+mark-and-front In70 n = omega arith
+mark-and-front In72 n = refl
+mark-and-front BehindRpp n = refl
 
-code-text-back : (p : DetailsField) (s : Bool) (vo w : List ℕ) → isDigits 5 vo ≡ true → Laid p (codeSize s) (code s vo ++ w)
-    → detailsParts s (markOf p) (nextOf p) (linesFor p (codeSize s) (code s vo ++ w)) ≡ vo ∷ textOf (reading s w) ∷ []
+-- a text in its lines, behind their marks and its front
+text-over : (p : DetailsField) (front w : List ℕ) (h : Laid p (length front) (front ++ w))
+    → drop (frontOf p (length front)) (layout p .mark ++ h .front) ++ speech.laterText (nextOf p) (map (λ (k : List ℕ). layout p .next ++ k) (h .behind)) ≡ w
 unfolding speech.detailsSpeech
+text-over p front w h = ap textIn (ap (speech.detailsSpeech (frontOf p (length front)) (nextOf p) 0) (sym (h .is)) ∙ details-again p front w 0 h .1)
+
+code-text-back : (p : DetailsField) (s : Bool) (vo w : List ℕ) → isDigits 5 vo ≡ true → Laid p (length (code s vo)) (code s vo ++ w)
+    → detailsParts s (markOf p) (nextOf p) (linesFor p (length (code s vo)) (code s vo ++ w)) ≡ vo ∷ textOf (reading s w) ∷ []
 code-text-back p s vo w d h =
     let l : List ℕ = layout p .mark ++ h .front in
     let ls : List (List ℕ) = map (λ (k : List ℕ). layout p .next ++ k) (h .behind) in
+    let c : length (code s vo) ≡ codeSize s = code-size s vo d in
     let digits : codeDigits s (drop (markOf p) l) ≡ vo =
-    ap (codeDigits s) (mark-dropped p (h .front)) ∙ digits-in s (h .front) (together (h .behind)) (h .code) ∙ ap (codeDigits s) (h .joins) ∙ digits-back s vo w d in
-    let text : drop (frontOf p s) l ++ speech.laterText (nextOf p) ls ≡ w =
-    ap textIn (ap (speech.detailsSpeech (frontOf p s) (nextOf p) 0) (sym (h .is)) ∙ details-again p s vo w 0 d h .1) in
+    ap (codeDigits s) (mark-dropped p (h .front)) ∙ digits-in s (h .front) (together (h .behind)) (omega (arith, h .code)) ∙ ap (codeDigits s) (h .joins) ∙ digits-back s vo w d in
     ap (detailsParts s (markOf p) (nextOf p)) (h .is)
-    ∙ ap (λ (n : ℕ). codeDigits s (drop (markOf p) l) ∷ textOf (reading s (drop n l ++ speech.laterText (nextOf p) ls)) ∷ []) (mark-and-code p s)
-    ∙ ap₂ (λ (v t : List ℕ). v ∷ textOf (reading s t) ∷ []) digits text
+    ∙ ap (λ (n : ℕ). codeDigits s (drop (markOf p) l) ∷ textOf (reading s (drop n l ++ speech.laterText (nextOf p) ls)) ∷ [])
+    (ap (λ (k : ℕ). markOf p + k) (sym c) ∙ mark-and-front p (length (code s vo)))
+    ∙ ap₂ (λ (v t : List ℕ). v ∷ textOf (reading s t) ∷ []) digits (text-over p (code s vo) w h)
+
+-- the rest of them has no code
+rest-text-back : (b s : Bool) (w : List ℕ) → Laid (pick b In72 BehindRpp) 0 w → restParts s (linesFor (pick b In72 BehindRpp) 0 w) ≡ textOf (reading s w) ∷ []
+rest-text-back true s w h = ap (restParts s) (h .is) ∙ ap (λ (t : List ℕ). textOf (reading s t) ∷ []) (text-over In72 [] w h)
+rest-text-back false s w h = ap (restParts s) (h .is) ∙ ap (λ (t : List ℕ). textOf (reading s t) ∷ []) (text-over BehindRpp [] w h)
 
 -- with the text that is written
-spelt-back : (p : DetailsField) (s : Bool) (vo t : List ℕ) → isDigits 5 vo ≡ true → all (speaks s) (copy vo ∷ name t ∷ []) ≡ true
-    → isUnfit (sizeFor p (codeSize s) (codeAndText s (vo ∷ t ∷ []))) ≡ false
-    → detailsParts s (markOf p) (nextOf p) (linesFor p (codeSize s) (codeAndText s (vo ∷ t ∷ []))) ≡ vo ∷ t ∷ []
+spelt-back : (p : DetailsField) (s : Bool) (vo t : List ℕ) → isDigits 5 vo ≡ true → all (speaks s) (copy vo ∷ name t ∷ []) ≡ true → not (fitsIn s p (code s vo) t) ≡ false
+    → detailsParts s (markOf p) (nextOf p) (laidLines s p (code s vo) t) ≡ vo ∷ t ∷ []
 spelt-back p s vo t d a u =
-    code-text-back p s vo (textOf (writing s t)) d (laid p (codeSize s) (codeAndText s (vo ∷ t ∷ [])) u)
+    code-text-back p s vo (textOf (writing s t)) d (fits-lines s p (code s vo) t u)
     ∙ ap (λ (k : List ℕ). vo ∷ k ∷ []) (text-back s t (left (speaks s (name t)) _ (right (speaks s (copy vo)) _ a)))
 
--- 72 of a 202: with and without an RPP line
-note-back : (s : Bool) (r vo t : List ℕ) → isDigits 5 vo ≡ true → all (speaks s) (copy vo ∷ name t ∷ []) ≡ true
-    → isUnfit (sizeFor (noteField r) (codeSize s) (codeAndText s (vo ∷ t ∷ []))) ≡ false → noteParts s (noteLines s (r ∷ vo ∷ t ∷ [])) ≡ r ∷ vo ∷ t ∷ []
+-- 72, with and without an RPP line
+note-split : (behind : List (List ℕ) → List (List ℕ)) (r front w : List ℕ) → Laid (noteField r) (length front) (front ++ w)
+    → noteParts behind (rppLines r ++ linesFor (noteField r) (length front) (front ++ w)) ≡ r ∷ behind (linesFor (noteField r) (length front) (front ++ w))
 unfolding same
-note-back s [] vo t d a u =
-    let h : Laid In72 (codeSize s) (codeAndText s (vo ∷ t ∷ [])) = laid In72 (codeSize s) (codeAndText s (vo ∷ t ∷ [])) u in
-    ap (noteParts s) (h .is) ∙ ap (λ (k : List (List ℕ)). [] ∷ detailsParts s 5 2 k) (sym (h .is)) ∙ ap (λ (k : List (List ℕ)). [] ∷ k) (spelt-back In72 s vo t d a u)
-note-back s (x ∷ r) vo t d a u = ap (λ (k : List (List ℕ)). (x ∷ r) ∷ k) (spelt-back BehindRpp s vo t d a u)
+note-split behind [] front w h = ap (noteParts behind) (h .is) ∙ ap (λ (k : List (List ℕ)). [] ∷ behind k) (sym (h .is))
+note-split behind (x ∷ r) front w h = refl
+
+-- of a 202: the code and the text
+note-202 : (b s : Bool) (vo t : List ℕ) → isDigits 5 vo ≡ true → all (speaks s) (copy vo ∷ name t ∷ []) ≡ true → not (fitsIn s (pick b In72 BehindRpp) (code s vo) t) ≡ false
+    → detailsParts s nzpSize laterSize (laidLines s (pick b In72 BehindRpp) (code s vo) t) ≡ vo ∷ t ∷ []
+note-202 true s vo t d a u = spelt-back In72 s vo t d a u
+note-202 false s vo t d a u = spelt-back BehindRpp s vo t d a u
+
+note-back : (s : Bool) (r vo t : List ℕ) → isDigits 5 vo ≡ true → all (speaks s) (copy vo ∷ name t ∷ []) ≡ true → not (fitsIn s (noteField r) (code s vo) t) ≡ false
+    → noteParts (detailsParts s nzpSize laterSize) (noteLines (detailsLines s) (r ∷ vo ∷ t ∷ [])) ≡ r ∷ vo ∷ t ∷ []
+note-back s r vo t d a u =
+    note-split (detailsParts s nzpSize laterSize) r (code s vo) (textOf (writing s t)) (fits-lines s (noteField r) (code s vo) t u)
+    ∙ ap (λ (k : List (List ℕ)). r ∷ k) (note-202 (empty r) s vo t d a u)
+
+-- of a 103: the RPP part, perhaps an empty one, and the rest; or an RPP line alone
+rest-back : (s : Bool) (r t : List ℕ) → speaks s (name t) ≡ true → not (fitsIn s (noteField r) [] t) ≡ false
+    → noteParts (restParts s) (noteLines (restLines s) (r ∷ t ∷ [])) ≡ r ∷ t ∷ []
+rest-back s r t a u =
+    let h = fits-lines s (noteField r) [] t u in
+    note-split (restParts s) r [] (textOf (writing s t)) h
+    ∙ ap (λ (k : List (List ℕ)). r ∷ k) (rest-text-back (empty r) s (textOf (writing s t)) h)
+    ∙ ap (λ (k : List ℕ). r ∷ k ∷ []) (text-back s t a)
+
+rpp-back : (s : Bool) (r : List ℕ) → empty r ≡ false → noteParts (restParts s) (noteLines (restLines s) (r ∷ [])) ≡ r ∷ []
+unfolding same
+rpp-back s r e = ap (noteParts (restParts s)) (lone-rpp r e)
 
 -- ---- a record that 19, 15 and 16 let pass
 pub content-back : (s : Bool) (sh : Shape) (ps : List (List ℕ)) → Ready s sh ps → contentParts s sh (contentLines s sh ps) ≡ ps
 unfolding contentParts contentLines crowded
 content-back s sh ps w = go (w .is-right) (w .says) (w .fits)
   where
-    go : {sh : Shape} {ps : List (List ℕ)} → RightParts s sh ps → all (speaks s) (castParts sh ps) ≡ true → crowded s sh ps ≡ false
+    right-back : {sh : Shape} {ps : List (List ℕ)} → RightParts s sh ps → all (speaks s) (castParts sh ps) ≡ true → crowded s sh ps ≡ false
         → contentParts s sh (contentLines s sh ps) ≡ ps
-    go (plain p ps e g) a u = cast-back s Plain (p ∷ ps) (plain p ps e g) a
-    go (agent p ps e g) a u = cast-back s Agent (p ∷ ps) (agent p ps e g) a
-    go (payer p ps e g n) a u = cast-back s Payer (p ∷ ps) (payer p ps e g n) a
-    go (payee p ps e g n) a u = cast-back s Payee (p ∷ ps) (payee p ps e g n) a
-    go (details v t d e) a u = spelt-back In70 s v t d a u
-    go (note103 r e) a u = refl
-    go (note202 r v t d e) a u = note-back s r v t d (right (speaks s (copy r)) _ a) u
+    right-back (plain p ps e g) a u = cast-back s Plain (p ∷ ps) (plain p ps e g) a
+    right-back (agent p ps e g) a u = cast-back s Agent (p ∷ ps) (agent p ps e g) a
+    right-back (payer p ps e g n) a u = cast-back s Payer (p ∷ ps) (payer p ps e g n) a
+    right-back (payee p ps e g n) a u = cast-back s Payee (p ∷ ps) (payee p ps e g n) a
+    right-back (details v t d e) a u = spelt-back In70 s v t d a u
+    right-back (note103 r e) a u = rpp-back s r e
+    right-back (note202 r v t d e) a u = note-back s r v t d (right (speaks s (copy r)) _ a) u
+
+    go : {sh : Shape} {ps : List (List ℕ)} → RunParts s sh ps → all (speaks s) (castParts sh ps) ≡ true → crowded s sh ps ≡ false
+        → contentParts s sh (contentLines s sh ps) ≡ ps
+    go (own r) a u = right-back r a u
+    go (withRest r t e) a u = rest-back s r t (left (speaks s (name t)) _ (right (speaks s (copy r)) _ a)) u
 
 -- ---- records and the first of them
 pub gather-back : (form : Form) (s : Bool) (rs : List Record) → AllPass form s rs → gather form s (spread form s rs) ≡ rs
@@ -175,6 +214,13 @@ unfolding gather spread
 gather-back form s [] w = refl
 gather-back form s (field t ps ∷ rs) w =
     ap₂ (λ (k : List (List ℕ)) (l : List Record). field t k ∷ l) (content-back s (shapeOf form t) ps (w .0 .1)) (gather-back form s rs (w .1))
+
+-- what runs on is joined again
+join-back : (form : Form) (s : Bool) (rs : List Record) → all (good form s) rs ≡ true → join form (runOn form s rs) ≡ rs
+unfolding join runOn
+join-back Mt103 s rs g = join-run Mt103 s rs (good-plain s rs g)
+join-back Mt202 s rs g = refl
+join-back Other s rs g = refl
 
 -- three digits of a number
 abbrev threeDigits : ℕ → List ℕ
@@ -234,11 +280,13 @@ module _ (s : List ℕ) (c : Clean (sheetRules s)) where
       let f = sound-type s is-sound ∙ n .worth in
       ap typeRecord f ∙ ap (λ (p : List ℕ). field (bytes "MT") (p ∷ [])) (named-back (n .type) (n .three) (ap rule18 (sym f) ∙ sheet-rules s c .type)) ∙ sym (n .is)
 
-  records-back : gather (sheetForm s) (signOf (fields (messageFor s))) (fields (messageFor s)) ≡ is-sound .behind
+  records-back : join (sheetForm s) (gather (sheetForm s) (signOf (fields (messageFor s))) (fields (messageFor s))) ≡ is-sound .behind
   unfolding fieldsOf
   records-back =
-      ap (λ (fs : List Field). gather (sheetForm s) (signOf fs) fs) (built-fields s c) ∙ ap (λ (b : Bool). gather (sheetForm s) b (fieldsOf s)) (built-sign s c)
-      ∙ gather-back (sheetForm s) (sheetSign s) (tail (records s)) (records-pass s c) ∙ ap tail (is-sound .list)
+      ap (join (sheetForm s))
+      (ap (λ (fs : List Field). gather (sheetForm s) (signOf fs) fs) (built-fields s c) ∙ ap (λ (b : Bool). gather (sheetForm s) b (fieldsOf s)) (built-sign s c)
+      ∙ gather-back (sheetForm s) (sheetSign s) (runsAs s c) (records-pass s c))
+      ∙ join-back (sheetForm s) (sheetSign s) (tail (records s)) (fine-good s (sheet-rules s c .sound)) ∙ ap tail (is-sound .list)
 
   -- the sheet of its message is the sheet
   pub sheet-back : sheetOf (sheetForm s) (messageFor s) ≡ s

@@ -1,7 +1,7 @@
 -- Details that are right are the code and a text over the lines of their field, and what is broken into such lines is right: the code whole in
 -- the first line behind its mark, text there or on a later line; and perhaps an RPP line before (B1-B3, C70, C72, Cdetails, Crpp). Assumes
 -- nothing.
-use Prim.Native.Nat.{ℕ, zero, suc, _+_, _≤_}
+use Prim.Native.Nat.{ℕ, zero, suc, _+_, _≤_, _<_}
 use Prim.Native.String.{String}
 use mathlib.Core.Path.{_≡_, refl, sym, ap, ap₂, _∙_}
 use mathlib.Core.Bool.{Bool, true, false, not, _&&_, _||_, true≢false}
@@ -22,16 +22,14 @@ use Rattle.fields.specs.Shapes.{goesOn}
 use Rattle.contents.specs.Words.{Size, join, withMark}
 use Rattle.contents.specs.Lines.{codeOpening, codeClosing}
 use Rattle.contents.specs.Fields as fields
-use Rattle.contents.specs.Fields.{One, IsRpp, Details, RppAndDetails}
-use Rattle.roles.specs.Speech.{codeSize}
+use Rattle.contents.specs.Fields.{IsRpp, Details, RppAndDetails, Rest, InRest, RppAndRest}
 use Rattle.records.specs.Rule19.{isDigits}
 use Rattle.details.specs.Lines.{together, Later, none, line, Division, lines}
 use Rattle.details.specs.Breaking.{opens}
-use Rattle.details.specs.Layouts.{layout, marked}
+use Rattle.details.specs.Layouts.{layout, marked, DivisionIn}
 use Rattle.details.specs.declared.DetailsField.{DetailsField}
 use Rattle.details.specs.declared.DetailsField.the-variants.{In70, In72, BehindRpp}
 use Rattle.details.specs.Front.{code, rppLine}
-use Rattle.written.proofs.CastLaws.{code-size}
 
 -- ---- details by their place: in 70; in 72 of a 202; there behind an RPP line
 abbrev pub IsIn : DetailsField → Bool → List (List ℕ) → Type 0
@@ -40,7 +38,7 @@ IsIn In72 s ls = fields.In72 s 6 ls
 IsIn BehindRpp s ls = fields.In72 s 5 ls
 
 -- what the grammar says of a place is its layout: the marks, the room behind them, and how many lines may follow
-record As (p : DetailsField) (first later : String) (room rest more : ℕ) : Type 0 where
+pub record As (p : DetailsField) (first later : String) (room rest more : ℕ) : Type 0 where
   mark : layout p .mark ≡ bytes first
   next : layout p .next ≡ bytes later
   widths : layout p .widths ≡ room ∷ replicate more rest
@@ -49,10 +47,10 @@ record As (p : DetailsField) (first later : String) (room rest more : ℕ) : Typ
 as-70 : As In70 "" "" 35 35 3
 as-70 = record { mark = refl; next = refl; widths = refl; wide = refl }
 
-as-72 : As In72 "/NZP/" "//" 30 33 5
+pub as-72 : As In72 "/NZP/" "//" 30 33 5
 as-72 = record { mark = refl; next = refl; widths = refl; wide = refl }
 
-as-behind : As BehindRpp "/NZP/" "//" 30 33 4
+pub as-behind : As BehindRpp "/NZP/" "//" 30 33 4
 as-behind = record { mark = refl; next = refl; widths = refl; wide = refl }
 
 -- the code
@@ -169,15 +167,14 @@ rpp-line l (number, date, turn, way, value, d) =
     go [] b h = absurd (omega arith)
     go (x ∷ a) b h = refl
 
-pub rpp-alone : (ls : List (List ℕ)) → One IsRpp ls → (r : List ℕ) × (ls ≡ rppLine r ∷ []) × (empty r ≡ false)
-rpp-alone [] d = absurd d
-rpp-alone (l ∷ []) d = let w = rpp-line l d in (w .0, ap (λ (k : List ℕ). k ∷ []) (w .1), w .2)
-rpp-alone (l ∷ k ∷ ls) d = absurd d
-
 -- 72 of a 202
 pub data Note (s : Bool) (ls : List (List ℕ)) : Type 0 where
   with-rpp : (r : List ℕ) (ks : List (List ℕ)) → ls ≡ rppLine r ∷ ks → empty r ≡ false → DetailsOver BehindRpp s ks → Note s ls
   without : DetailsOver In72 s ls → Note s ls
+
+on : (ls : List (List ℕ)) → all goesOn ls ≡ true → all goesOn (tail ls) ≡ true
+on [] g = refl
+on (l ∷ ls) g = right (goesOn l) _ g
 
 pub note-lines : (s : Bool) (ls : List (List ℕ)) → RppAndDetails s ls → all goesOn (tail ls) ≡ true → Note s ls
 note-lines s ls (inl d) g = without (details-lines In72 s ls d g)
@@ -185,14 +182,68 @@ note-lines s [] (inr d) g = absurd d
 note-lines s (l ∷ ls) (inr d) g =
     let w = rpp-line l (d .0) in
     with-rpp (w .0) ls (ap (λ (k : List ℕ). k ∷ ls) (w .1)) (w .2) (details-lines BehindRpp s ls (d .1) (on ls g))
-  where
-    on : (ls : List (List ℕ)) → all goesOn ls ≡ true → all goesOn (tail ls) ≡ true
-    on [] g = refl
-    on (l ∷ ls) g = right (goesOn l) _ g
+
+-- ---- 72 of a 103: the rest of the details has no code
+pub record RestOver (p : DetailsField) (ls : List (List ℕ)) : Type 0 where
+  pub text : List ℕ
+  pub texts : List (List ℕ)
+  pub is : ls ≡ (bytes "/NZP/" ++ text) ∷ map (λ (k : List ℕ). bytes "//" ++ k) texts
+  pub divides : DivisionIn (layout p) 0 (text ++ together texts) (text ∷ texts)
+  pub some : empty (text ++ together texts) ≡ false
+
+-- an RPP line, or the rest, or both
+pub data Note103 (ls : List (List ℕ)) : Type 0 where
+  alone : (r : List ℕ) → ls ≡ rppLine r ∷ [] → empty r ≡ false → IsRpp (rppLine r) → Note103 ls
+  rest : RestOver In72 ls → Note103 ls
+  after : (r : List ℕ) (ks : List (List ℕ)) → ls ≡ rppLine r ∷ ks → empty r ≡ false → IsRpp (rppLine r) → RestOver BehindRpp ks → Note103 ls
+
+rest-by : {p : DetailsField} {more : ℕ} → As p "/NZP/" "//" 30 33 more → {t : List ℕ} {ts ls : List (List ℕ)} → Rest (suc more) t ts ls → all goesOn (tail ls) ≡ true → RestOver p ls
+rest-by {p} {more} a {t} {ts} {ls} d g =
+    let n = length-map ts (λ (k : List ℕ). bytes "//" ++ k) in
+    let f = d .front in
+    let o : all goesOn (map (λ (k : List ℕ). layout p .next ++ k) ts) ≡ true = rw (a .next) (rw (d .lines) at g) in
+    let z : 0 < length t = omega (arith, f .least) in
+    let c : 0 ≤ length t = omega arith in
+    let m : Later (opens (layout p .barred)) (replicate more 33) ts = later-of p more 33 ts (d .back) (omega (arith, d .count, ap length (d .lines))) o in
+    record {
+      text = t;
+      texts = ts;
+      is = d .lines;
+      divides = rw (a .widths) (lines z c (f .most) m refl);
+      some = some-text 33 t ts (d .back) (λ x. omega (arith, f .least, ap length (x .0)));
+    }
+
+pub lines-103 : (ls : List (List ℕ)) → RppAndRest ls → all goesOn (tail ls) ≡ true → Note103 ls
+lines-103 [] (inl d) g = absurd d
+lines-103 (l ∷ []) (inl d) g = let w = rpp-line l d in alone (w .0) (ap (λ (k : List ℕ). k ∷ []) (w .1)) (w .2) (rw (w .1) at d)
+lines-103 (l ∷ k ∷ ls) (inl d) g = absurd d
+lines-103 ls (inr (inl (t, ts, d))) g = rest (rest-by as-72 d g)
+lines-103 [] (inr (inr d)) g = absurd d
+lines-103 (l ∷ ls) (inr (inr (i, (t, ts, d)))) g =
+    let w = rpp-line l i in
+    after (w .0) ls (ap (λ (k : List ℕ). k ∷ ls) (w .1)) (w .2) (rw (w .1) at i) (rest-by as-behind d (on ls g))
 
 -- ---- details broken into lines are right
 pub divided-pass : (p : DetailsField) (s : Bool) (vo : List ℕ) → isDigits 5 vo ≡ true → {ws : List ℕ} {ls : List (List ℕ)} (text : List ℕ) → empty text ≡ false → ws ≡ layout p .widths
-    → Division (opens (layout p .barred)) (codeSize s) (code s vo ++ text) ws ls → IsIn p s (marked (layout p) ls)
-divided-pass In70 s vo f text e i d = pass-by as-70 s vo text f (code-size s vo f) e i d
-divided-pass In72 s vo f text e i d = pass-by as-72 s vo text f (code-size s vo f) e i d
-divided-pass BehindRpp s vo f text e i d = pass-by as-behind s vo text f (code-size s vo f) e i d
+    → Division (opens (layout p .barred)) (length (code s vo)) (code s vo ++ text) ws ls → IsIn p s (marked (layout p) ls)
+divided-pass In70 s vo f text e i d = pass-by as-70 s vo text f refl e i d
+divided-pass In72 s vo f text e i d = pass-by as-72 s vo text f refl e i d
+divided-pass BehindRpp s vo f text e i d = pass-by as-behind s vo text f refl e i d
+
+-- and so is the rest of them
+pub rest-pass : {p : DetailsField} {more : ℕ} → As p "/NZP/" "//" 30 33 more → (text : List ℕ) {ws : List ℕ} {ls : List (List ℕ)} → ws ≡ layout p .widths
+    → Division (opens (layout p .barred)) 0 text ws ls → InRest (suc more) (marked (layout p) ls)
+rest-pass {p} {more} a text i (lines {w} {ws} {l} {ls} o c h m j) =
+    let q : w ∷ ws ≡ 30 ∷ replicate more 33 = i ∙ a .widths in
+    let b : w ≡ 30 = cc in
+    let g : ws ≡ replicate more 33 = cc in
+    let y = later-each more 33 (rw g at m) in (
+      l,
+      ls,
+      record {
+        lines = rw (a .mark, a .next);
+        front = record { least = omega arith; most = omega arith };
+        back = y .0;
+        count = omega (arith, y .1, length-map ls (λ (k : List ℕ). layout p .next ++ k));
+      },
+    )

@@ -10,48 +10,54 @@ use lib.ListN.{length, take, drop, length-append}
 use lib.Seq.{take-at, drop-append-seam, drop-append-add}
 use borrow.Author.Tests.{eqb-true}
 use Rattle.types.specs.declared.Form.{Form}
+use Rattle.types.specs.Sign.{firstLine}
 use Rattle.base.specs.Choice.{all}
 use Rattle.base.specs.Bytes.{byte, empty, xset, same}
 use Rattle.base.specs.Quoted.{bytes}
-use Rattle.base.specs.Calls.{Answer, said, textOf}
+use Rattle.base.specs.Calls.{Answer, textOf}
 use Rattle.base.proofs.Bools.{left, right, both, all-append, all-behind}
-use Rattle.alphabets.specs.Bank.{plainly, reading}
+use Rattle.alphabets.specs.Bank.{reading}
 use Rattle.alphabets.specs.Best.{writing}
-use Rattle.alphabets.proofs.Theorems.{plain-only, no-shorter}
+use Rattle.alphabets.proofs.Theorems.{no-shorter}
+use Rattle.alphabets.proofs.SaidLaws.{said-is, says-written, plain-said}
 use Rattle.fields.specs.Field.{field}
 use Rattle.contents.specs.declared.Content.{Content}
 use Rattle.contents.specs.declared.Content.the-variants as holds
 use Rattle.contents.specs.Fields.{Right}
 use Rattle.contents.specs.Tags.{heldBy}
 use Rattle.contents.proofs.RuleLaws.{field-says}
-use Rattle.roles.specs.Role.{shapeFor, shapeOf, cast}
+use Rattle.roles.specs.Role.{shapeFor, shapeOf}
 use Rattle.roles.specs.Speech as speech
-use Rattle.roles.specs.Speech.{codeSize, speeches}
+use Rattle.roles.specs.Speech.{codeSize, nzpSize, laterSize, speeches}
 use Rattle.roles.specs.Rule14.{breaks14}
+use Rattle.roles.specs.Rule21.{size72}
 use Rattle.roles.specs.Sentences.{Heard}
 use Rattle.roles.specs.declared.Shape.{Shape}
 use Rattle.roles.specs.declared.Shape.the-variants.{Details, Note103, Note202}
 use Rattle.records.specs.Record.{plainText}
 use Rattle.records.specs.Rule19.{isDigits, detailed, sound}
 use Rattle.details.specs.Lines.{together, lines}
-use Rattle.details.specs.Layouts.{layout, DivisionIn, marked, sizeFor}
+use Rattle.details.specs.Layouts.{layout, DivisionIn, marked, sizeFor, isUnfit}
 use Rattle.details.specs.declared.DetailsField.{DetailsField}
 use Rattle.details.specs.declared.DetailsField.the-variants.{In70, In72, BehindRpp}
 use Rattle.details.specs.declared.Size.{Size}
 use Rattle.details.specs.declared.Size.the-variants.{Bytes, Unfit}
 use Rattle.details.proofs.DivisionTheorems.{less-divided, unfit-none}
 use Rattle.details.specs.Front.{code, rppLine, noteField}
-use Rattle.writer.specs.Spread.{castParts, coded, codeAndText}
-use Rattle.writer.specs.Sheet.{isUnfit, crowded}
-use Rattle.written.proofs.SpeltLaws.{said-is}
+use Rattle.runon.specs.Run.{fitsIn}
+use Rattle.writer.specs.Spread.{coded}
+use Rattle.writer.specs.Sheet.{crowded}
 use Rattle.written.proofs.ReadyLaws.{speaks}
 use Rattle.written.proofs.CastLaws.{behind-code, code-size, unmarked}
-use Rattle.sheets.specs.Gather.{codeDigits, detailsParts, noteParts, contentParts}
+use Rattle.sheets.specs.Gather.{codeDigits, detailsParts, restParts, noteParts, contentParts}
+use Rattle.sheets.specs.Steps.{isNote}
+use Rattle.sheets.proofs.TagLaws.{isJoined}
 use Rattle.trips.specs.Shown.{ShownDetails, Shows}
 use Rattle.trips.specs.Shown as shown
-use Rattle.trips.proofs.Held.{Held, DetailsOrRpp, Sheeted}
-use Rattle.trips.proofs.DetailLaws.{DetailsOver, details-lines, rpp-alone, Note, with-rpp, without, note-lines}
-use Rattle.trips.proofs.SaidLaws.{Means, says-plain, says-signed, says-written, plain-said, set-text, says-text, digits-set}
+use Rattle.trips.proofs.Held.{Held, DetailsOrRpp, Own, Sheeted}
+use Rattle.trips.proofs.DetailLaws as note
+use Rattle.trips.proofs.DetailLaws.{DetailsOver, details-lines, RestOver, Note, with-rpp, without, note-lines}
+use Rattle.trips.proofs.SaidLaws.{Means, says-plain, says-signed, set-text, says-text, digits-set}
 
 -- ---- details: code and text over their lines
 code-least : (s : Bool) → 9 ≤ codeSize s
@@ -62,7 +68,7 @@ vo-five : (vo : List ℕ) → isDigits 5 vo ≡ true → length vo ≡ 5
 unfolding isDigits
 vo-five vo d = eqb-true (length vo) 5 (left (eqb (length vo) 5) _ d)
 
-vo-set : (vo : List ℕ) → isDigits 5 vo ≡ true → all xset vo ≡ true
+pub vo-set : (vo : List ℕ) → isDigits 5 vo ≡ true → all xset vo ≡ true
 unfolding isDigits
 vo-set vo d = digits-set vo (right (eqb (length vo) 5) _ d)
 
@@ -90,7 +96,7 @@ widths-of In72 = (refl, refl)
 widths-of BehindRpp = (refl, refl)
 
 module _ {p : DetailsField} {s : Bool} {ls : List (List ℕ)} (w : DetailsOver p s ls) where
-  abbrev whole : List ℕ
+  abbrev pub whole : List ℕ
   whole = w .text ++ together (w .texts)
 
   front-text : drop (markSize p + codeSize s) (layout p .mark ++ (code s (w .vo) ++ w .text)) ≡ w .text
@@ -117,7 +123,7 @@ module _ {p : DetailsField} {s : Bool} {ls : List (List ℕ)} (w : DetailsOver p
       (marks-set (layout p .next) (w .texts) (right (all xset (layout p .mark ++ (code s (w .vo) ++ w .text))) _ f))
 
   -- the lines divide code and text as the field's place asks
-  details-divides : DivisionIn (layout p) (codeSize s) (code s (w .vo) ++ whole) ((code s (w .vo) ++ w .text) ∷ w .texts)
+  pub details-divides : DivisionIn (layout p) (codeSize s) (code s (w .vo) ++ whole) ((code s (w .vo) ++ w .text) ∷ w .texts)
   details-divides =
       let n : length (code s (w .vo) ++ w .text) ≡ codeSize s + length (w .text) = length-append (code s (w .vo)) (w .text) ∙ ap (λ (k : ℕ). k + length (w .text)) (code-size s (w .vo) (w .five)) in
       let a : 0 < length (code s (w .vo) ++ w .text) = omega (arith, code-least s) in
@@ -126,13 +132,13 @@ module _ {p : DetailsField} {s : Bool} {ls : List (List ℕ)} (w : DetailsOver p
       rw (widths-of p .0) (lines a b c (w .later) (append-assoc (code s (w .vo)) (w .text) (together (w .texts))))
 
 -- ---- their parts: digits, and what the text says
-record Gathered (p : DetailsField) (s : Bool) (ls : List (List ℕ)) (vo d : List ℕ) : Type 0 where
-  parts : detailsParts s (markSize p) (nextSize p) ls ≡ vo ∷ d ∷ []
+pub record Gathered (p : DetailsField) (s : Bool) (ls : List (List ℕ)) (vo d : List ℕ) : Type 0 where
+  pub parts : detailsParts s (markSize p) (nextSize p) ls ≡ vo ∷ d ∷ []
   right-parts : detailed (vo ∷ d ∷ []) ≡ true
   written : all (speaks s) (coded (vo ∷ d ∷ [])) ≡ true
   plain : all plainText (vo ∷ d ∷ []) ≡ true
 
-gathered : {p : DetailsField} {s : Bool} {ls : List (List ℕ)} (w : DetailsOver p s ls) (h : Means s (whole w)) → Gathered p s ls (w .vo) (h .desk)
+pub gathered : {p : DetailsField} {s : Bool} {ls : List (List ℕ)} (w : DetailsOver p s ls) (h : Means s (whole w)) → Gathered p s ls (w .vo) (h .desk)
 gathered {p} {s} {ls} w h = record {
   parts = details-parts w ∙ ap (λ (a : Answer). w .vo ∷ textOf a ∷ []) (h .reads);
   right-parts = both (w .five) (ap not (h .means));
@@ -146,16 +152,50 @@ details-says : {p : DetailsField} (s : Bool) {ls : List (List ℕ)} (w : Details
 details-says true w o e h = says-signed (whole w) (details-heard w o (h refl))
 details-says false w o e h = says-plain (whole w) (details-set w e) (w .some)
 
--- and so the lines say the digits and the text
-shown-details : {p : DetailsField} {s : Bool} {ls : List (List ℕ)} (w : DetailsOver p s ls) (h : Means s (whole w)) → ShownDetails s p ls (w .vo) (h .desk)
+-- and so the lines say the code and the text
+shown-details : {p : DetailsField} {s : Bool} {ls : List (List ℕ)} (w : DetailsOver p s ls) (h : Means s (whole w)) → ShownDetails s p (code s (w .vo)) ls (h .desk)
 shown-details {p} {s} w h = record {
   spelt = whole w;
   rows = (code s (w .vo) ++ w .text) ∷ w .texts;
   marks = w .is;
-  number = w .five;
   spells = append-assoc (code s (w .vo)) (w .text) (together (w .texts));
   reads = h .reads;
+  means = h .means;
 }
+
+-- ---- the rest of details that run on
+module _ {p : DetailsField} {ls : List (List ℕ)} (w : RestOver p ls) where
+  abbrev pub restWhole : List ℕ
+  restWhole = w .text ++ together (w .texts)
+
+  rest-text : drop nzpSize (bytes "/NZP/" ++ w .text) ++ speech.laterText laterSize (map (λ (k : List ℕ). bytes "//" ++ k) (w .texts)) ≡ restWhole
+  rest-text = ap (λ (x : List ℕ). w .text ++ x) (unmarked (bytes "//") (w .texts))
+
+  pub rest-size : size72 ls ≡ length restWhole
+  rest-size = ap size72 (w .is) ∙ ap length rest-text
+
+  rest-parts : (s : Bool) → restParts s ls ≡ textOf (reading s restWhole) ∷ []
+  rest-parts s = ap (restParts s) (w .is) ∙ ap (λ (x : List ℕ). textOf (reading s x) ∷ []) rest-text
+
+  rest-heard : (o : ℕ) → Heard (speech.detailsSpeech nzpSize laterSize o ls) → breaks14 speech.asDetails restWhole ≡ false
+  unfolding speech.detailsSpeech
+  rest-heard o h = ap (breaks14 speech.asDetails) (sym rest-text) ∙ (rw (w .is) at h) .0
+
+  rest-set : all (all xset) ls ≡ true → all xset restWhole ≡ true
+  rest-set e =
+      let f : all (all xset) ((bytes "/NZP/" ++ w .text) ∷ map (λ (k : List ℕ). bytes "//" ++ k) (w .texts)) ≡ true = rw (w .is) at e in
+      all-append xset (w .text) (together (w .texts)) (all-behind xset (bytes "/NZP/") (w .text) (left (all xset (bytes "/NZP/" ++ w .text)) _ f))
+      (marks-set (bytes "//") (w .texts) (right (all xset (bytes "/NZP/" ++ w .text)) _ f))
+
+  rest-says : (s : Bool) (o : ℕ) → all (all xset) ls ≡ true → (s ≡ true → Heard (speech.detailsSpeech nzpSize laterSize o ls)) → Means s restWhole
+  rest-says true o e h = says-signed restWhole (rest-heard o (h refl))
+  rest-says false o e h = says-plain restWhole (rest-set e) (w .some)
+
+shown-72 : {s : Bool} {ls : List (List ℕ)} (w : RestOver In72 ls) (h : Means s (restWhole w)) → ShownDetails s In72 [] ls (h .desk)
+shown-72 w h = record { spelt = restWhole w; rows = w .text ∷ w .texts; marks = w .is; spells = refl; reads = h .reads; means = h .means }
+
+shown-behind : {s : Bool} {ls : List (List ℕ)} (w : RestOver BehindRpp ls) (h : Means s (restWhole w)) → ShownDetails s BehindRpp [] ls (h .desk)
+shown-behind w h = record { spelt = restWhole w; rows = w .text ∷ w .texts; marks = w .is; spells = refl; reads = h .reads; means = h .means }
 
 -- ---- whether they fit
 never-unfit : (p : DetailsField) (least : ℕ) (text : List ℕ) {ls : List (List ℕ)} → DivisionIn (layout p) least text ls → isUnfit (sizeFor p least text) ≡ false
@@ -165,20 +205,8 @@ never-unfit p least text d = go (sizeFor p least text) refl
     go (Bytes n) e = refl
     go Unfit e = absurd (unfit-none p least text e d)
 
--- without the sign a text is written as it stood
-text-same : (vo b d : List ℕ) → reading false b ≡ said d → codeAndText false (vo ∷ d ∷ []) ≡ code false vo ++ b
-text-same vo b d r =
-    let f : d ≡ b = sym (plain-only b d r) in
-    ap (λ (x : List ℕ). code false vo ++ textOf (plainly x)) f ∙ ap (λ (a : Answer). code false vo ++ textOf a) r ∙ ap (λ (x : List ℕ). code false vo ++ x) f
-
--- so what does not fit has the sign
-unfit-signed : {p : DetailsField} (s : Bool) {ls : List (List ℕ)} (w : DetailsOver p s ls) (h : Means s (whole w)) → isUnfit (sizeFor p (codeSize s) (codeAndText s (w .vo ∷ h .desk ∷ []))) ≡ true → s ≡ true
-unfit-signed true w h q = refl
-unfit-signed {p} false w h q =
-    absurd (false≢true (sym (never-unfit p 9 (code false (w .vo) ++ whole w) (details-divides w)) ∙ ap (λ (x : List ℕ). isUnfit (sizeFor p 9 x)) (sym (text-same (w .vo) (whole w) (h .desk) (h .reads))) ∙ q))
-
--- with it a text may be another, but is no longer: that is enough where no byte is barred
-free-fits : {p : DetailsField} {s : Bool} {ls : List (List ℕ)} (w : DetailsOver p s ls) (h : Means s (whole w)) → layout p .barred ≡ [] → isUnfit (sizeFor p (codeSize s) (codeAndText s (w .vo ∷ h .desk ∷ []))) ≡ false
+-- a text that is written again is no longer: that is enough where no byte is barred
+free-fits : {p : DetailsField} {s : Bool} {ls : List (List ℕ)} (w : DetailsOver p s ls) (h : Means s (whole w)) → layout p .barred ≡ [] → not (fitsIn s p (code s (w .vo)) (h .desk)) ≡ false
 free-fits {p} {s} w h e =
     let t : List ℕ = textOf (writing s (h .desk)) in
     let n : length t ≤ length (whole w) = no-shorter s (h .desk) t (whole w) (said-is (writing s (h .desk)) (says-written s (whole w) (h .desk) (h .reads))) (h .reads) in
@@ -186,67 +214,98 @@ free-fits {p} {s} w h e =
     let a = length-append (code s (w .vo)) t in
     let b = length-append (code s (w .vo)) (whole w) in
     let d = less-divided (layout p .barred) (codeSize s) (code s (w .vo) ++ whole w) (code s (w .vo) ++ t) e (details-divides w) (omega arith) (omega (arith, code-least s)) (omega arith) in
-    never-unfit p (codeSize s) (code s (w .vo) ++ t) (d .1)
+    ap (λ (k : ℕ). not (not (isUnfit (sizeFor p k (code s (w .vo) ++ t))))) c ∙ ap (λ (q : Bool). not (not q)) (never-unfit p (codeSize s) (code s (w .vo) ++ t) (d .1))
 
 -- as in 72 of a 202
-note-free : (r : List ℕ) → layout (noteField r) .barred ≡ []
+pub note-free : (r : List ℕ) → layout (noteField r) .barred ≡ []
 note-free [] = refl
 note-free (x ∷ r) = refl
 
 -- ---- the record
 -- from the parts that it comes to
 sheeted-as : (form : Form) (s : Bool) (t : List ℕ) (ls : List (List ℕ)) (sh : Shape) (ps : List (List ℕ)) → shapeOf form t ≡ sh → contentParts s sh ls ≡ ps → Shows s sh ls ps
-    → sound s sh ps ≡ true → all (speaks s) (castParts sh ps) ≡ true → all plainText ps ≡ true → (crowded s sh ps ≡ true → (s ≡ true) × (sh ≡ Details))
-    → Sheeted form s t ls
-sheeted-as form s t ls sh ps e f y a b c g = record {
-  shows = rw (e, f) y;
-  is-sound = rw (e, f) a;
-  says = rw (e, f) b;
-  textual = rw (e, f) c;
-  fits = rw (e, f) g;
-}
+    → (isNote sh ≡ false → Own s sh ps) → (isNote sh ≡ true → all xset (firstLine ps) ≡ true) → (isJoined sh ≡ false → crowded s sh ps ≡ false) → Sheeted form s t ls
+sheeted-as form s t ls sh ps e f y a b g = record { shows = rw (e, f) y; own = rw (e, f) a; rpp = rw (e, f) b; fits = rw (e, f) g }
 
 module _ (form : Form) (s : Bool) (t : List ℕ) (ls : List (List ℕ)) (h : Held form s t ls) where
   heard-as : {sh : Shape} → shapeOf form t ≡ sh → s ≡ true → Heard (speeches true sh 0 ls)
   heard-as e p = rw e at (h .heard p)
 
+  pub says-70 : shapeOf form t ≡ Details → (w : DetailsOver In70 s ls) → Means s (whole w)
+  unfolding speeches
+  says-70 e w = details-says s w 0 (h .fair .inside) (heard-as e)
+
   sheeted-70 : shapeOf form t ≡ Details → DetailsOver In70 s ls → Sheeted form s t ls
-  unfolding contentParts sound crowded speeches
+  unfolding contentParts sound
   sheeted-70 e w =
-      let y : Means s (whole w) = details-says s w 0 (h .fair .inside) (heard-as e) in
+      let y : Means s (whole w) = says-70 e w in
       let g = gathered w y in
-      sheeted-as form s t ls Details (w .vo ∷ y .desk ∷ []) e (g .parts) (shown.details (shown-details w y)) (g .right-parts) (g .written) (g .plain) (λ q. (unfit-signed s w y q, refl))
+      sheeted-as form s t ls Details (w .vo ∷ y .desk ∷ []) e (g .parts) (shown.details (w .five) (shown-details w y)) (λ q. record { is-sound = g .right-parts; says = g .written; textual = g .plain })
+      (λ q. absurd (false≢true q)) (λ q. absurd (true≢false q))
 
-  sheeted-103 : shapeOf form t ≡ Note103 → (r : List ℕ) → ls ≡ rppLine r ∷ [] → empty r ≡ false → Sheeted form s t ls
-  unfolding contentParts sound crowded cast
-  sheeted-103 e r i z =
-      let x : all xset r ≡ true = all-behind xset (bytes "/RPP/") r (left (all xset (rppLine r)) true (rw i at (h .fair .inside))) in
-      sheeted-as form s t ls Note103 (r ∷ []) e (ap (map (drop 5)) i) (subst (λ (k : List (List ℕ)). Shows s Note103 k (r ∷ [])) (sym i) shown.note103) (ap not z) (both (plain-said r x) refl) (both (set-text r x) refl) (λ q. absurd (false≢true q))
+  -- 72 of a 103
+  note-as : {r : List ℕ} {ps : List (List ℕ)} → shapeOf form t ≡ Note103 → contentParts s Note103 ls ≡ r ∷ ps → Shows s Note103 ls (r ∷ ps) → all xset r ≡ true → Sheeted form s t ls
+  note-as {r} {ps} e f y x = sheeted-as form s t ls Note103 (r ∷ ps) e f y (λ q. absurd (true≢false q)) (λ q. x) (λ q. absurd (true≢false q))
 
-  -- r is what follows /RPP/, or nothing
+  rpp-set : {r : List ℕ} {ks : List (List ℕ)} → ls ≡ rppLine r ∷ ks → (all xset r ≡ true) × (all (all xset) ks ≡ true)
+  rpp-set {r} {ks} i =
+      let f : all (all xset) (rppLine r ∷ ks) ≡ true = rw i at (h .fair .inside) in
+      (all-behind xset (bytes "/RPP/") r (left (all xset (rppLine r)) _ f), right (all xset (rppLine r)) _ f)
+
+  pub says-72 : shapeOf form t ≡ Note103 → (w : RestOver In72 ls) → Means s (restWhole w)
+  unfolding speeches speech.noteSpeeches same
+  says-72 e w =
+      rest-says w s 0 (h .fair .inside) (λ q. subst Heard (ap (speech.noteSpeeches nzpSize 0) (w .is) ∙ ap (speech.detailsSpeech nzpSize laterSize 0) (sym (w .is))) (heard-as e q))
+
+  pub says-behind : shapeOf form t ≡ Note103 → {r : List ℕ} {ks : List (List ℕ)} → ls ≡ rppLine r ∷ ks → (w : RestOver BehindRpp ks) → Means s (restWhole w)
+  unfolding speeches speech.noteSpeeches same
+  says-behind e {r} i w = rest-says w s (0 + length (rppLine r) + 2) (rpp-set i .1) (λ q. subst Heard (ap (speech.noteSpeeches nzpSize 0) i) (heard-as e q))
+
+  pub parts-alone : {r : List ℕ} → ls ≡ rppLine r ∷ [] → contentParts s Note103 ls ≡ r ∷ []
+  unfolding contentParts same
+  parts-alone i = ap (noteParts (restParts s)) i
+
+  pub parts-72 : (w : RestOver In72 ls) (y : Means s (restWhole w)) → contentParts s Note103 ls ≡ [] ∷ y .desk ∷ []
+  unfolding contentParts same
+  parts-72 w y =
+      ap (noteParts (restParts s)) (w .is) ∙ ap (λ (k : List (List ℕ)). [] ∷ restParts s k) (sym (w .is)) ∙ ap (λ (k : List (List ℕ)). [] ∷ k) (rest-parts w s)
+      ∙ ap (λ (a : Answer). [] ∷ textOf a ∷ []) (y .reads)
+
+  pub parts-behind : {r : List ℕ} {ks : List (List ℕ)} → ls ≡ rppLine r ∷ ks → (w : RestOver BehindRpp ks) (y : Means s (restWhole w)) → contentParts s Note103 ls ≡ r ∷ y .desk ∷ []
+  unfolding contentParts same
+  parts-behind {r} i w y = ap (noteParts (restParts s)) i ∙ ap (λ (k : List (List ℕ)). r ∷ k) (rest-parts w s) ∙ ap (λ (a : Answer). r ∷ textOf a ∷ []) (y .reads)
+
+  sheeted-103 : shapeOf form t ≡ Note103 → note.Note103 ls → Sheeted form s t ls
+  sheeted-103 e (note.alone r i z d) = note-as e (parts-alone i) (subst (λ (k : List (List ℕ)). Shows s Note103 k (r ∷ [])) (sym i) (shown.note103 z)) (rpp-set i .0)
+  sheeted-103 e (note.rest w) = let y = says-72 e w in note-as e (parts-72 w y) (shown.rest (shown-72 w y)) refl
+  sheeted-103 e (note.after r ks i z d w) =
+      let y = says-behind e i w in
+      note-as e (parts-behind i w y) (subst (λ (k : List (List ℕ)). Shows s Note103 k (r ∷ y .desk ∷ [])) (sym i) (shown.restBehind z (shown-behind w y))) (rpp-set i .0)
+
+  -- 72 of a 202; r is what follows /RPP/, or nothing
   note-by : shapeOf form t ≡ Note202 → (r : List ℕ) (ks : List (List ℕ)) (w : DetailsOver (noteField r) s ks) (y : Means s (whole w)) → Shows s Note202 ls (r ∷ w .vo ∷ y .desk ∷ [])
-      → noteParts s ls ≡ r ∷ detailsParts s (markSize (noteField r)) (nextSize (noteField r)) ks → all xset r ≡ true → Sheeted form s t ls
+      → noteParts (detailsParts s nzpSize laterSize) ls ≡ r ∷ detailsParts s (markSize (noteField r)) (nextSize (noteField r)) ks → all xset r ≡ true → Sheeted form s t ls
   unfolding contentParts sound crowded
   note-by e r ks w y v i x =
       let g = gathered w y in
-      sheeted-as form s t ls Note202 (r ∷ w .vo ∷ y .desk ∷ []) e (i ∙ ap (λ (ps : List (List ℕ)). r ∷ ps) (g .parts)) v (g .right-parts)
-      (both (plain-said r x) (g .written)) (both (set-text r x) (g .plain)) (λ q. absurd (true≢false (sym q ∙ free-fits w y (note-free r))))
+      sheeted-as form s t ls Note202 (r ∷ w .vo ∷ y .desk ∷ []) e (i ∙ ap (λ (ps : List (List ℕ)). r ∷ ps) (g .parts)) v
+      (λ q. record { is-sound = g .right-parts; says = both (plain-said r x) (g .written); textual = both (set-text r x) (g .plain) }) (λ q. absurd (false≢true q)) (λ q. free-fits w y (note-free r))
 
   sheeted-202 : shapeOf form t ≡ Note202 → Note s ls → Sheeted form s t ls
   unfolding same speeches speech.noteSpeeches
   sheeted-202 e (without w) =
-      let u : s ≡ true → Heard (speech.detailsSpeech 16 2 0 ls) = λ q. subst Heard (ap (speech.noteSpeeches true 0) (w .is) ∙ ap (speech.detailsSpeech 16 2 0) (sym (w .is))) (heard-as e q) in
-      let i : noteParts s ls ≡ [] ∷ detailsParts s 5 2 ls = ap (noteParts s) (w .is) ∙ ap (λ (k : List (List ℕ)). [] ∷ detailsParts s 5 2 k) (sym (w .is)) in
+      let u : s ≡ true → Heard (speech.detailsSpeech (nzpSize + codeSize true) laterSize 0 ls) = λ q. subst Heard (ap (speech.noteSpeeches (nzpSize + codeSize true) 0) (w .is) ∙ ap (speech.detailsSpeech (nzpSize + codeSize true) laterSize 0) (sym (w .is))) (heard-as e q) in
+      let i : noteParts (detailsParts s nzpSize laterSize) ls ≡ [] ∷ detailsParts s nzpSize laterSize ls = ap (noteParts (detailsParts s nzpSize laterSize)) (w .is) ∙ ap (λ (k : List (List ℕ)). [] ∷ detailsParts s nzpSize laterSize k) (sym (w .is)) in
       let y : Means s (whole w) = details-says s w 0 (h .fair .inside) u in
-      note-by e [] ls w y (shown.note202 (shown-details w y)) i refl
+      note-by e [] ls w y (shown.note202 (w .five) (shown-details w y)) i refl
   sheeted-202 e (with-rpp r ks j z w) =
       let o : ℕ = 0 + length (rppLine r) + 2 in
-      let f : all (all xset) (rppLine r ∷ ks) ≡ true = rw j at (h .fair .inside) in
-      let y : Means s (whole w) = details-says s w o (right (all xset (rppLine r)) _ f) (λ q. subst Heard (ap (speech.noteSpeeches true 0) j) (heard-as e q)) in
-      by r z (ap (noteParts s) j) (all-behind xset (bytes "/RPP/") r (left (all xset (rppLine r)) _ f)) w y
-      (subst (λ (x : List (List ℕ)). Shows s Note202 x (r ∷ w .vo ∷ y .desk ∷ [])) (sym j) (shown.behindRpp z (shown-details w y)))
+      let f = rpp-set j in
+      let y : Means s (whole w) = details-says s w o (f .1) (λ q. subst Heard (ap (speech.noteSpeeches (nzpSize + codeSize true) 0) j) (heard-as e q)) in
+      by r z (ap (noteParts (detailsParts s nzpSize laterSize)) j) (f .0) w y
+      (subst (λ (x : List (List ℕ)). Shows s Note202 x (r ∷ w .vo ∷ y .desk ∷ [])) (sym j) (shown.behindRpp z (w .five) (shown-details w y)))
     where
-      by : (r : List ℕ) {ks : List (List ℕ)} → empty r ≡ false → noteParts s ls ≡ r ∷ detailsParts s 5 2 ks → all xset r ≡ true
+      by : (r : List ℕ) {ks : List (List ℕ)} → empty r ≡ false → noteParts (detailsParts s nzpSize laterSize) ls ≡ r ∷ detailsParts s nzpSize laterSize ks → all xset r ≡ true
           → (w : DetailsOver BehindRpp s ks) (y : Means s (whole w)) → Shows s Note202 ls (r ∷ w .vo ∷ y .desk ∷ []) → Sheeted form s t ls
       by [] z i x w y v = absurd (true≢false z)
       by (c ∷ r) {ks} z i x w y v = note-by e (c ∷ r) ks w y v i x
@@ -254,7 +313,7 @@ module _ (form : Form) (s : Bool) (t : List ℕ) (ls : List (List ℕ)) (h : Hel
   -- by what the field holds
   held-sheeted : (c : Content) → shapeOf form t ≡ shapeFor c → DetailsOrRpp (shapeFor c) → Right c s ls → Sheeted form s t ls
   held-sheeted holds.Details e n r = sheeted-70 e (details-lines In70 s ls r (h .fair .on))
-  held-sheeted holds.Document e n r = let w = rpp-alone ls r in sheeted-103 e (w .0) (w .1) (w .2)
+  held-sheeted holds.DocumentAndRest e n r = sheeted-103 e (note.lines-103 ls r (h .fair .on))
   held-sheeted holds.DocumentAndDetails e n r = sheeted-202 e (note-lines s ls r (h .fair .on))
 
 pub sheeted-details : (form : Form) (s : Bool) (t : List ℕ) (ls : List (List ℕ)) → DetailsOrRpp (shapeOf form t) → Held form s t ls → Sheeted form s t ls

@@ -6,8 +6,9 @@ use mathlib.Core.Bool.{Bool, true, false}
 use mathlib.Core.List.{List}
 use lib.ListN.{length}
 use Rattle.types.specs.declared.Form.{Form}
+use Rattle.types.specs.Sign.{firstLine}
 use Rattle.base.specs.Choice.{all}
-use Rattle.base.specs.Bytes.{begins, empty}
+use Rattle.base.specs.Bytes.{begins, empty, xset}
 use Rattle.base.specs.Calls.{said, textOf}
 use Rattle.alphabets.specs.Bank.{reading}
 use Rattle.fields.specs.Field.{Field, field}
@@ -25,6 +26,8 @@ use Rattle.writer.specs.Spread.{castParts}
 use Rattle.writer.specs.Sheet.{crowded}
 use Rattle.written.proofs.ReadyLaws.{Fair, speaks}
 use Rattle.sheets.specs.Gather.{contentParts}
+use Rattle.sheets.specs.Steps.{isNote}
+use Rattle.sheets.proofs.TagLaws.{isJoined}
 use Rattle.trips.specs.Again.{again}
 use Rattle.trips.specs.Shown.{Shows}
 
@@ -65,13 +68,19 @@ pub data DetailsOrRpp : Shape → Type 0 where
   note103 : DetailsOrRpp Note103
   note202 : DetailsOrRpp Note202
 
--- ---- its record: it says what the field does; right by 19, written by 15, without tab and LF; it fits, but for details with the sign
+-- ---- its record: right by 19, written by 15, without tab and LF
+pub record Own (s : Bool) (sh : Shape) (ps : List (List ℕ)) : Type 0 where
+  pub is-sound : sound s sh ps ≡ true
+  pub says : all (speaks s) (castParts sh ps) ≡ true
+  pub textual : all plainText ps ≡ true
+
+-- it says what the field does; but for 72 of a 103 it is such a record by itself, and there the RPP part is copied; it fits, but for the details of a
+-- 103
 pub record Sheeted (form : Form) (s : Bool) (t : List ℕ) (ls : List (List ℕ)) : Type 0 where
   pub shows : Shows s (shapeOf form t) ls (contentParts s (shapeOf form t) ls)
-  pub is-sound : sound s (shapeOf form t) (contentParts s (shapeOf form t) ls) ≡ true
-  pub says : all (speaks s) (castParts (shapeOf form t) (contentParts s (shapeOf form t) ls)) ≡ true
-  pub textual : all plainText (contentParts s (shapeOf form t) ls) ≡ true
-  pub fits : crowded s (shapeOf form t) (contentParts s (shapeOf form t) ls) ≡ true → (s ≡ true) × (shapeOf form t ≡ Details)
+  pub own : isNote (shapeOf form t) ≡ false → Own s (shapeOf form t) (contentParts s (shapeOf form t) ls)
+  pub rpp : isNote (shapeOf form t) ≡ true → all xset (firstLine (contentParts s (shapeOf form t) ls)) ≡ true
+  pub fits : isJoined (shapeOf form t) ≡ false → crowded s (shapeOf form t) (contentParts s (shapeOf form t) ls) ≡ false
 
 abbrev pub SheetedField : Form → Bool → Field → Type 0
 SheetedField form s (field t ls) = Sheeted form s t ls

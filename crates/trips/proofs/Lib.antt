@@ -7,7 +7,9 @@ pub mod DetailRecordLaws
 pub mod ShownLaws
 pub mod HeldLaws
 pub mod ValueLaws
+pub mod HeardLaws
 pub mod BackLaws
+pub mod JoinedLaws
 pub mod SheetLaws
 pub mod DetailAgainLaws
 pub mod NameAgainLaws

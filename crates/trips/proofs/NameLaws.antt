@@ -2,7 +2,7 @@
 -- S6, S7). Assumes nothing.
 use Prim.Native.Nat.{ℕ, _+_}
 use mathlib.Core.Path.{_≡_, refl, sym, ap, ap₂, _∙_, subst}
-use mathlib.Core.Bool.{Bool, true, false, not, _&&_, true≢false}
+use mathlib.Core.Bool.{Bool, true, false, not, _&&_, true≢false, false≢true}
 use mathlib.Core.List.{List, [], _∷_, map, tail}
 use lib.Dec.{eqb}
 use lib.ListN.{length}
@@ -13,6 +13,7 @@ use Rattle.base.specs.Quoted.{bytes}
 use Rattle.base.proofs.Bools.{left, right, both, isnt}
 use Rattle.base.specs.Examples.{AllHold}
 use Rattle.alphabets.proofs.Theorems.{plain-iff, no-shorter}
+use Rattle.alphabets.proofs.SaidLaws.{isSaid}
 use Rattle.fields.specs.Shapes.{goesOn}
 use Rattle.types.specs.declared.Form.{Form}
 use Rattle.types.specs.Sign.{firstLine}
@@ -32,9 +33,10 @@ use Rattle.records.specs.Rule19.{general, taxPart, sound}
 use Rattle.writer.specs.Spread.{lineFor, castParts, contentLines}
 use Rattle.writer.specs.Sheet.{crowded}
 use Rattle.written.specs.Sentences.{OneByOne}
-use Rattle.written.proofs.SpeltLaws.{isSaid, plain-same, slash, colon, dash, spelt-head, spelt-empty, spelt-tax}
+use Rattle.written.proofs.SpeltLaws.{plain-same, slash, colon, dash, spelt-head, spelt-empty, spelt-tax}
 use Rattle.written.proofs.ReadyLaws.{Fair, speaks}
 use Rattle.sheets.specs.Gather.{partFor, contentParts}
+use Rattle.sheets.specs.Steps.{isNote}
 use Rattle.trips.specs.Again.{again, lineAgain}
 use Rattle.trips.specs.Shown.{LineByLine, plain, payer, payee, agent, ReadPart, Shows}
 use Rattle.trips.specs.Shown as shown
@@ -303,6 +305,12 @@ module _ (s : Bool) where
   not-crowded _ ps payee = refl
   not-crowded _ ps agent = refl
 
+not-note : (sh : Shape) → LineByLine sh → isNote sh ≡ false
+not-note _ plain = refl
+not-note _ payer = refl
+not-note _ payee = refl
+not-note _ agent = refl
+
 pub sheeted-names : (form : Form) (s : Bool) (t : List ℕ) (ls : List (List ℕ)) → LineByLine (shapeOf form t) → Held form s t ls → Sheeted form s t ls
 sheeted-names form s t ls v h =
     let sh : Shape = shapeOf form t in
@@ -313,8 +321,12 @@ sheeted-names form s t ls v h =
     let is : castParts sh ps ≡ map (turned (readAs s)) xs = cast-parts sh ps v ∙ ap (cast sh) i ∙ cast-read s sh ls w in
     record {
       shows = subst (Shows s sh ls) (sym i) (shown.each v (parts-shown s xs w));
-      is-sound = ap (sound s sh) i ∙ parts-sound s sh ls v (h .fair) (right-nonempty form s t ls (h .right)) w;
-      says = ap (all (speaks s)) is ∙ parts-say s xs w;
-      textual = ap (all plainText) i ∙ parts-textual s xs w;
-      fits = λ q. absurd (true≢false (sym q ∙ not-crowded s sh ps v));
+      own = λ q.
+          record {
+            is-sound = ap (sound s sh) i ∙ parts-sound s sh ls v (h .fair) (right-nonempty form s t ls (h .right)) w;
+            says = ap (all (speaks s)) is ∙ parts-say s xs w;
+            textual = ap (all plainText) i ∙ parts-textual s xs w;
+          };
+      rpp = λ q. absurd (false≢true (sym (not-note sh v) ∙ q));
+      fits = λ q. not-crowded s sh ps v;
     }

@@ -16,12 +16,13 @@ use Rattle.alphabets.specs.Best.{writing}
 use Rattle.alphabets.proofs.GridLaws.{write-read}
 use Rattle.alphabets.proofs.Shortest.{Came, turned, signed, came}
 use Rattle.alphabets.proofs.Theorems.{plain-iff}
+use Rattle.alphabets.proofs.SaidLaws.{said-is, says-written}
 use Rattle.contents.specs.Tests.{looksTax}
 use Rattle.roles.specs.Speech.{asName, asTaxName}
 use Rattle.roles.specs.Rule14.{mute, hidden, isCyrillicInn, taxLike, clauses, breaks14}
 use Rattle.records.specs.Record.{plainText}
-use Rattle.trips.proofs.SaidLaws.{says-written, says-text}
-use Rattle.written.proofs.SpeltLaws.{said-is, Mark, slash, colon, dash, mark-kind, mark-character, not-apostrophe, not-none}
+use Rattle.trips.proofs.SaidLaws.{says-text}
+use Rattle.written.proofs.SpeltLaws.{Mark, slash, colon, dash, mark-kind, mark-character, not-apostrophe, not-none}
 
 -- ---- the first byte
 -- a sign of the Russian side is one of the three marks exactly if its byte is

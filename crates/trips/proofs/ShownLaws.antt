@@ -6,9 +6,14 @@ use mathlib.Core.List.{List, [], _∷_, _++_, map}
 use native.Mathlib.Omega.{arith}
 use lib.ListN.{length, drop}
 use lib.Seq.{drop-append-seam}
-use Rattle.base.specs.Bytes.{byte}
-use Rattle.base.specs.Calls.{textOf}
-use Rattle.alphabets.specs.Bank.{reading}
+use Rattle.base.specs.Bytes.{byte, empty}
+use Rattle.base.specs.Calls.{said, textOf}
+use Rattle.alphabets.specs.Bank.{plainly, reads, reading}
+use Rattle.fields.specs.Field.{Field, field}
+use Rattle.types.specs.declared.Form.{Form}
+use Rattle.records.specs.Record.{Record}
+use Rattle.records.specs.Rule19.{isDigits}
+use Rattle.runon.specs.RunOn.{join}
 use Rattle.types.specs.Sign.{firstLine}
 use Rattle.roles.specs.Role.{Part, copy, name, taxName, cast}
 use Rattle.roles.specs.declared.Shape.{Shape}
@@ -20,7 +25,7 @@ use Rattle.details.specs.declared.DetailsField.the-variants.{In72}
 use Rattle.details.specs.Front.{code, rppLine}
 use Rattle.written.specs.Sentences.{OneByOne}
 use Rattle.sheets.specs.Gather.{codeDigits}
-use Rattle.trips.specs.Shown.{LineByLine, plain, payer, payee, agent, ReadPart, ShownDetails, Shows, each, details, note103, note202, behindRpp}
+use Rattle.trips.specs.Shown.{LineByLine, plain, payer, payee, agent, ReadPart, ShownDetails, Shows, each, details, note103, rest, restBehind, note202, behindRpp, Shown, ShownSheet}
 use Rattle.trips.proofs.DetailRecordLaws.{code-digits}
 
 -- ---- a line's part
@@ -50,15 +55,37 @@ rows-back : (v : Layout) (ls : List (List ℕ)) → unmarked v (marked v ls) ≡
 rows-back v [] = refl
 rows-back v (l ∷ ls) = ap₂ (λ (y : List ℕ) (ys : List (List ℕ)). y ∷ ys) (drop-append-seam (v .mark) l) (later-back (v .next) ls)
 
--- so the digits and the text are one only
-pub details-one : {s : Bool} {p : DetailsField} {ls : List (List ℕ)} {vo text vo′ text′ : List ℕ} → ShownDetails s p ls vo text → ShownDetails s p ls vo′ text′ → (vo ≡ vo′) × (text ≡ text′)
-details-one {s} {p} {ls} {vo} {text} {vo′} {text′} a b =
+-- so the front and the text behind it are one only
+spelt-one : {s : Bool} {p : DetailsField} {front front′ : List ℕ} {ls : List (List ℕ)} {text text′ : List ℕ} (a : ShownDetails s p front ls text) (b : ShownDetails s p front′ ls text′)
+    → front ++ a .spelt ≡ front′ ++ b .spelt
+spelt-one {p = p} a b =
     let r : a .rows ≡ b .rows = sym (rows-back (layout p) (a .rows)) ∙ ap (unmarked (layout p)) (sym (a .marks) ∙ b .marks) ∙ rows-back (layout p) (b .rows) in
-    let j : code s vo ++ a .spelt ≡ code s vo′ ++ b .spelt = sym (a .spells) ∙ ap together r ∙ b .spells in
-    let v : vo ≡ vo′ = sym (code-digits s vo (a .spelt) (a .number)) ∙ ap (codeDigits s) j ∙ code-digits s vo′ (b .spelt) (b .number) in
+    sym (a .spells) ∙ ap together r ∙ b .spells
+
+pub details-one : {s : Bool} {p : DetailsField} {ls : List (List ℕ)} {vo text vo′ text′ : List ℕ} → isDigits 5 vo ≡ true → isDigits 5 vo′ ≡ true → ShownDetails s p (code s vo) ls text → ShownDetails s p (code s vo′) ls text′
+    → (vo ≡ vo′) × (text ≡ text′)
+details-one {s} {p} {ls} {vo} {text} {vo′} {text′} d e a b =
+    let j : code s vo ++ a .spelt ≡ code s vo′ ++ b .spelt = spelt-one a b in
+    let v : vo ≡ vo′ = sym (code-digits s vo (a .spelt) d) ∙ ap (codeDigits s) j ∙ code-digits s vo′ (b .spelt) e in
     let w : a .spelt ≡ b .spelt =
     sym (drop-append-seam (code s vo) (a .spelt)) ∙ ap (drop (length (code s vo))) (j ∙ ap (λ (x : List ℕ). code s x ++ b .spelt) (sym v)) ∙ drop-append-seam (code s vo) (b .spelt) in
     (v, ap textOf (sym (a .reads) ∙ ap (reading s) w ∙ b .reads))
+
+pub rest-one : {s : Bool} {p : DetailsField} {ls : List (List ℕ)} {text text′ : List ℕ} → ShownDetails s p [] ls text → ShownDetails s p [] ls text′ → text ≡ text′
+rest-one {s} a b = ap textOf (sym (a .reads) ∙ ap (reading s) (spelt-one a b) ∙ b .reads)
+
+-- no lines say nothing
+pub none : (b : Bool) → reading b [] ≡ said []
+unfolding reads plainly
+none true = refl
+none false = refl
+
+no-lines : {s : Bool} {p : DetailsField} {text : List ℕ} → ShownDetails s p [] [] text → ⊥
+no-lines {s} {p} {text} a = go (a .rows) (a .marks) (a .spells)
+  where
+    go : (rows : List (List ℕ)) → [] ≡ marked (layout p) rows → together rows ≡ a .spelt → ⊥
+    go [] e f = true≢false (ap empty (ap textOf (sym (none s) ∙ ap (reading s) f ∙ a .reads)) ∙ a .means)
+    go (x ∷ xs) e f = omega (arith, ap length e)
 
 -- ---- a field that goes line by line holds neither details nor an RPP line, and details alone don't begin with one
 abbrev byLine : Shape → Bool
@@ -70,14 +97,14 @@ byLine Details = false
 byLine Note103 = false
 byLine Note202 = false
 
-by-line : {sh : Shape} → LineByLine sh → byLine sh ≡ true
+pub by-line : {sh : Shape} → LineByLine sh → byLine sh ≡ true
 by-line plain = refl
 by-line payer = refl
 by-line payee = refl
 by-line agent = refl
 
-not-rpp : {s : Bool} {r vo text : List ℕ} {ls : List (List ℕ)} → ShownDetails s In72 (rppLine r ∷ ls) vo text → ⊥
-not-rpp {s} {r} {vo} {text} {ls} a = go (a .rows) (a .marks)
+not-rpp : {s : Bool} {front r text : List ℕ} {ls : List (List ℕ)} → ShownDetails s In72 front (rppLine r ∷ ls) text → ⊥
+not-rpp {r = r} {ls = ls} a = go (a .rows) (a .marks)
   where
     go : (rows : List (List ℕ)) → rppLine r ∷ ls ≡ marked (layout In72) rows → ⊥
     go [] e = omega (arith, ap length e)
@@ -86,17 +113,42 @@ not-rpp {s} {r} {vo} {text} {ls} a = go (a .rows) (a .marks)
 -- any two records that a field's lines allow are equal
 pub shows-one : {s : Bool} {sh : Shape} {ls ps qs : List (List ℕ)} → Shows s sh ls ps → Shows s sh ls qs → ps ≡ qs
 shows-one {s} {sh} {ls} {ps} {qs} (each v a) (each w b) = parts-one s (cast sh ls) ps qs a b
-shows-one (each v a) (details b) = absurd (true≢false (sym (by-line v)))
-shows-one (each v a) note103 = absurd (true≢false (sym (by-line v)))
-shows-one (each v a) (note202 b) = absurd (true≢false (sym (by-line v)))
-shows-one (each v a) (behindRpp z b) = absurd (true≢false (sym (by-line v)))
-shows-one (details a) (each v b) = absurd (true≢false (sym (by-line v)))
-shows-one (details a) (details b) = let t = details-one a b in ap₂ (λ (x y : List ℕ). x ∷ y ∷ []) (t .0) (t .1)
-shows-one note103 (each v b) = absurd (true≢false (sym (by-line v)))
-shows-one note103 note103 = refl
-shows-one (note202 a) (each v b) = absurd (true≢false (sym (by-line v)))
-shows-one (note202 a) (note202 b) = let t = details-one a b in ap₂ (λ (x y : List ℕ). [] ∷ x ∷ y ∷ []) (t .0) (t .1)
-shows-one (note202 a) (behindRpp z b) = absurd (not-rpp a)
-shows-one (behindRpp z a) (each v b) = absurd (true≢false (sym (by-line v)))
-shows-one (behindRpp z a) (note202 b) = absurd (not-rpp b)
-shows-one (behindRpp {r} z a) (behindRpp y b) = let t = details-one a b in ap₂ (λ (x y : List ℕ). r ∷ x ∷ y ∷ []) (t .0) (t .1)
+shows-one (each v a) (details d b) = absurd (true≢false (sym (by-line v)))
+shows-one (each v a) (note103 z) = absurd (true≢false (sym (by-line v)))
+shows-one (each v a) (rest b) = absurd (true≢false (sym (by-line v)))
+shows-one (each v a) (restBehind z b) = absurd (true≢false (sym (by-line v)))
+shows-one (each v a) (note202 d b) = absurd (true≢false (sym (by-line v)))
+shows-one (each v a) (behindRpp z d b) = absurd (true≢false (sym (by-line v)))
+shows-one (details c a) (each v b) = absurd (true≢false (sym (by-line v)))
+shows-one (details c a) (details d b) = let t = details-one c d a b in ap₂ (λ (x y : List ℕ). x ∷ y ∷ []) (t .0) (t .1)
+shows-one (note103 z) (each v b) = absurd (true≢false (sym (by-line v)))
+shows-one (note103 z) (note103 y) = refl
+shows-one (note103 z) (rest b) = absurd (not-rpp b)
+shows-one (note103 z) (restBehind y b) = absurd (no-lines b)
+shows-one (rest a) (each v b) = absurd (true≢false (sym (by-line v)))
+shows-one (rest a) (note103 z) = absurd (not-rpp a)
+shows-one (rest a) (rest b) = ap (λ (x : List ℕ). [] ∷ x ∷ []) (rest-one a b)
+shows-one (rest a) (restBehind z b) = absurd (not-rpp a)
+shows-one (restBehind z a) (each v b) = absurd (true≢false (sym (by-line v)))
+shows-one (restBehind z a) (note103 y) = absurd (no-lines a)
+shows-one (restBehind z a) (rest b) = absurd (not-rpp b)
+shows-one (restBehind {r} z a) (restBehind y b) = ap (λ (x : List ℕ). r ∷ x ∷ []) (rest-one a b)
+shows-one (note202 c a) (each v b) = absurd (true≢false (sym (by-line v)))
+shows-one (note202 c a) (note202 d b) = let t = details-one c d a b in ap₂ (λ (x y : List ℕ). [] ∷ x ∷ y ∷ []) (t .0) (t .1)
+shows-one (note202 c a) (behindRpp z d b) = absurd (not-rpp a)
+shows-one (behindRpp z c a) (each v b) = absurd (true≢false (sym (by-line v)))
+shows-one (behindRpp z c a) (note202 d b) = absurd (not-rpp b)
+shows-one (behindRpp {r} z c a) (behindRpp y d b) = let t = details-one c d a b in ap₂ (λ (x y : List ℕ). r ∷ x ∷ y ∷ []) (t .0) (t .1)
+
+-- so the records of a sheet are one only
+apart-one : (form : Form) (s : Bool) (fs : List Field) (rs us : List Record) → OneByOne (Shown form s) fs rs → OneByOne (Shown form s) fs us → rs ≡ us
+apart-one form s [] [] [] a b = refl
+apart-one form s [] [] (u ∷ us) a b = absurd b
+apart-one form s [] (r ∷ rs) us a b = absurd a
+apart-one form s (f ∷ fs) [] us a b = absurd a
+apart-one form s (f ∷ fs) (r ∷ rs) [] a b = absurd b
+apart-one form s (field t ls ∷ fs) (field u ps ∷ rs) (field v qs ∷ us) a b =
+    ap₂ (λ (x : Record) (xs : List Record). x ∷ xs) (ap₂ (λ (x : List ℕ) (y : List (List ℕ)). field x y) (a .0 .0 ∙ sym (b .0 .0)) (shows-one (a .0 .1) (b .0 .1))) (apart-one form s fs rs us (a .1) (b .1))
+
+pub sheet-one : {form : Form} {s : Bool} {fs : List Field} {rs us : List Record} → ShownSheet form s fs rs → ShownSheet form s fs us → rs ≡ us
+sheet-one {form} {s} {fs} a b = a .joined ∙ ap (join form) (apart-one form s fs (a .apart) (b .apart) (a .each) (b .each)) ∙ sym (b .joined)

@@ -2,14 +2,14 @@
 -- Cparty, Ctax, Crpp, N9-N13). Assumes nothing.
 use Prim.Native.Nat.{ℕ}
 use mathlib.Core.Path.{_≡_, refl, sym, ap, ap₂, _∙_, subst}
-use mathlib.Core.Bool.{Bool, true, false, not, _&&_, _||_, false≢true, true≢false}
+use mathlib.Core.Bool.{Bool, true, false, not, _&&_, _||_, true≢false}
 use mathlib.Core.List.{List, [], _∷_, _++_, map}
 use mathlib.Core.Logic.{inl, inr}
-use Rattle.base.specs.Choice.{pick, all}
+use Rattle.base.specs.Choice.{pick}
 use Rattle.base.specs.Bytes.{begins, empty, same}
 use Rattle.base.specs.Quoted.{bytes}
 use Rattle.base.specs.declared.Verdict.the-variants.{Fine, Broken}
-use Rattle.base.proofs.Bools.{left, right}
+use Rattle.base.proofs.Bools.{right}
 use Rattle.base.proofs.ByteLaws.{same-is}
 use Rattle.base.proofs.RuleLaws.{fine-broken}
 use Rattle.base.specs.Examples.{AllHold}
@@ -17,63 +17,37 @@ use Rattle.fields.specs.Field.{Field, field}
 use Rattle.fields.specs.Places.{startOf, nextOf}
 use Rattle.types.specs.declared.Form.{Form}
 use Rattle.types.specs.declared.Form.the-variants.{Other, Mt103, Mt202}
+use Rattle.types.specs.Sign.{firstLine}
+use Rattle.types.specs.Walk.{among}
+use lib.ListN.{length}
 use Rattle.contents.specs.declared.Content.{Content}
 use Rattle.contents.specs.declared.Content.the-variants as holds
-use Rattle.contents.specs.Fields.{IsRpp, One, RppAndDetails, Right}
-use Rattle.contents.specs.Tags.{Tag, tag as tagged, tags103, tags202, heldIn, heldBy}
+use Rattle.contents.specs.Fields.{IsRpp, RppAndRest, RppAndDetails, Right}
+use Rattle.contents.specs.Tags.{tags103, heldBy}
 use Rattle.contents.specs.Tests.{looksTax}
 use Rattle.contents.specs.Parts.{taxInn, taxKpp}
 use Rattle.contents.proofs.RuleLaws.{field-says}
-use Rattle.values.specs.Values.{ValueKind, tag, tax, Value, at, placeOf, kindOf, moved, rppDates, ofFirst, taxes, customerTaxes, payerTaxes, noteDates, valuesOf, valuesIn}
-use Rattle.values.specs.Judged.{firstBad, has, noDay, foreign, bikDiffers, kppIn, is26T, is56, is57, is77B, without57, taxWhole, taxBroken, rule9, rule10, rule11, rule12, rule13}
+use Rattle.values.specs.Values.{ValueKind, tag, tax, Value, at, placeOf, kindOf, moved, ofFirst, taxes, customerTaxes, payerTaxes, noteDates, valuesOf, valuesIn}
+use Rattle.values.specs.Judged.{firstBad, has, hasTag, tags56, tags57, noDay, foreign, bikDiffers, kppIn, is26T, is56, is57, is77B, without57, taxWhole, taxBroken, rule9, rule10, rule11, rule12, rule13}
 use Rattle.roles.specs.Role.{shapeFor, shapeOf, copy, name, taxName, taxed, cast}
-use Rattle.roles.specs.Speech.{codeSize}
+use Rattle.roles.specs.Speech.{nzpSize, laterSize}
 use Rattle.roles.specs.declared.Shape.{Shape}
 use Rattle.roles.specs.declared.Shape.the-variants.{Plain, Payer, Payee, Agent, Details, Note103, Note202}
+use Rattle.records.specs.Record.{Record}
+use Rattle.details.specs.declared.DetailsField.{DetailsField}
 use Rattle.details.specs.declared.DetailsField.the-variants.{In72}
-use Rattle.details.specs.Front.{rppLine}
-use Rattle.writer.specs.Spread.{codeAndText, noteLines, contentLines}
-use Rattle.writer.specs.Sheet.{crowded}
-use Rattle.written.proofs.ReadyLaws.{Ready, Laid, laid}
-use Rattle.sheets.specs.Gather.{detailsParts, noteParts, contentParts}
-use Rattle.trips.specs.Again.{again, lineAgain, fieldAgain}
+use Rattle.details.specs.Front.{code, rppLine}
+use Rattle.details.specs.Layouts.{layout, divided, marked, fitLines, linesFor}
+use Rattle.runon.specs.Run.{bankOf}
+use Rattle.runon.specs.RunOn.{tag70, tag72, secondPart, runOn, join}
+use Rattle.writer.specs.Spread.{detailsLines, restLines, noteLines, contentLines, fieldFor}
+use Rattle.sheets.specs.Gather.{detailsParts, restParts, noteParts, contentParts, recordFor}
+use Rattle.trips.specs.Again.{again, lineAgain}
 use Rattle.trips.specs.Shown.{LineByLine, plain, payer, payee, agent}
 use Rattle.trips.proofs.Held.{Held, HeldField, KeptPart}
 use Rattle.trips.proofs.NameLaws.{held-kept, held-lines}
-use Rattle.trips.proofs.DetailLaws.{rpp-line, rpp-alone}
-
--- ---- details are field 70 of a 103, and nothing else is
-abbrev isDetails : Shape → Bool
-isDetails Plain = false
-isDetails Payer = false
-isDetails Payee = false
-isDetails Agent = false
-isDetails Details = true
-isDetails Note103 = false
-isDetails Note202 = false
-
-abbrev only70 : Tag → Bool
-only70 (tagged u c) = not (isDetails (shapeFor c)) || same (bytes u) (bytes "70")
-
-details-in : (ts : List Tag) (t : List ℕ) → all only70 ts ≡ true → isDetails (shapeFor (heldIn ts t)) ≡ true → t ≡ bytes "70"
-details-in [] t h e = absurd (false≢true e)
-details-in (tagged u c ∷ ts) t h e = go (same t (bytes u)) refl e (details-in ts t (right (only70 (tagged u c)) _ h))
-  where
-    of : (b : Bool) → b ≡ true → (not b || same (bytes u) (bytes "70")) ≡ true → bytes u ≡ bytes "70"
-    of true z k = same-is (bytes u) (bytes "70") k
-    of false z k = absurd (false≢true z)
-
-    go : (b : Bool) → same t (bytes u) ≡ b → isDetails (shapeFor (pick b c (heldIn ts t))) ≡ true → (isDetails (shapeFor (heldIn ts t)) ≡ true → t ≡ bytes "70") → t ≡ bytes "70"
-    go true q e r = same-is t (bytes u) q ∙ of (isDetails (shapeFor c)) e (left (only70 (tagged u c)) _ h)
-    go false q e r = r e
-
-pub details-70 : (form : Form) (t : List ℕ) → shapeOf form t ≡ Details → (form ≡ Mt103) × (t ≡ bytes "70")
-unfolding shapeOf heldBy tags103 tags202 same
-details-70 Mt103 t e = (refl, details-in tags103 t refl (ap isDetails e))
-details-70 Mt202 t e =
-    let i : t ≡ bytes "70" = details-in tags202 t refl (ap isDetails e) in
-    absurd (false≢true (ap (λ (u : List ℕ). isDetails (shapeFor (heldIn tags202 u))) (sym i) ∙ ap isDetails e))
-details-70 Other t e = absurd (false≢true (ap isDetails e))
+use Rattle.trips.proofs.DetailLaws.{rpp-line}
+use Rattle.trips.proofs.JoinedLaws.{inRow, RowOf, row-again}
 
 -- ---- the tax line: wherever its place begins
 abbrev taxKinds : List ℕ → List (List ℕ) → List ValueKind
@@ -147,33 +121,67 @@ unfolding cast
 agent-again s f [] = refl
 agent-again s f (l ∷ ls) = refl
 
--- 72 of a 103 is its RPP line
-document-again : (s : Bool) (f : List ℕ → List Value) (ls : List (List ℕ)) → One IsRpp ls → ofFirst f (contentLines s Note103 (contentParts s Note103 ls)) ≡ ofFirst f ls
-unfolding contentLines contentParts
-document-again s f ls d = let w = rpp-alone ls d in rw (w .1) refl
+-- 72: the dates of an RPP line, by what follows /RPP/
+abbrev datesOf : List ℕ → List Value
+datesOf r = pick (empty r) [] (noteDates (rppLine r))
 
--- 72 of a 202: an RPP line is kept, and details behind /NZP/ are written so again
-note-again : (s : Bool) (ls : List (List ℕ)) → RppAndDetails s ls → crowded s Note202 (noteParts s ls) ≡ false → ofFirst noteDates (noteLines s (noteParts s ls)) ≡ ofFirst noteDates ls
-unfolding same crowded
-note-again s ls (inl d) = go (d .3 .lines)
+laid-dates : (least : ℕ) (text : List ℕ) → ofFirst noteDates (linesFor In72 least text) ≡ []
+unfolding linesFor same
+laid-dates least text = go (fitLines (divided (layout In72) least text))
   where
-    go : {ls ks : List (List ℕ)} {k : List ℕ} → ls ≡ (bytes "/NZP/" ++ k) ∷ ks → crowded s Note202 (noteParts s ls) ≡ false → ofFirst noteDates (noteLines s (noteParts s ls)) ≡ ofFirst noteDates ls
-    go {ks = ks} {k = k} e =
-        rw e (λ u.
-        let w : Laid In72 (codeSize s) (codeAndText s (detailsParts s 5 2 ((bytes "/NZP/" ++ k) ∷ ks))) = laid In72 (codeSize s) (codeAndText s (detailsParts s 5 2 ((bytes "/NZP/" ++ k) ∷ ks))) u in
-        rw (w .is) refl)
-note-again s [] (inr d) = absurd d
-note-again s (l ∷ ls) (inr d) = let k = rpp-line l (d .0) in go (k .0) (k .1) (k .2)
-  where
-    go : {l : List ℕ} (r : List ℕ) → l ≡ rppLine r → empty r ≡ false → crowded s Note202 (noteParts s (l ∷ ls)) ≡ false → ofFirst noteDates (noteLines s (noteParts s (l ∷ ls))) ≡ ofFirst noteDates (l ∷ ls)
-    go [] e z u = absurd (true≢false z)
-    go (c ∷ r) e z u = rw e refl
+    go : (ls : List (List ℕ)) → ofFirst noteDates (marked (layout In72) ls) ≡ []
+    go [] = refl
+    go (l ∷ ls) = refl
+
+-- as it is written
+lines-dates : (behind : DetailsField → List (List ℕ) → List (List ℕ)) → ((ps : List (List ℕ)) → ofFirst noteDates (behind In72 ps) ≡ []) → (ps : List (List ℕ))
+    → ofFirst noteDates (noteLines behind ps) ≡ datesOf (firstLine ps)
+lines-dates behind e [] = refl
+lines-dates behind e ([] ∷ ps) = e ps
+lines-dates behind e ((c ∷ r) ∷ ps) = refl
+
+rest-dates : (s : Bool) (ps : List (List ℕ)) → ofFirst noteDates (restLines s In72 ps) ≡ []
+rest-dates s [] = refl
+rest-dates s (t ∷ ts) = laid-dates 0 (bankOf s t)
+
+dates-103 : (s : Bool) (ps : List (List ℕ)) → ofFirst noteDates (contentLines s Note103 ps) ≡ datesOf (firstLine ps)
+unfolding contentLines
+dates-103 s ps = lines-dates (restLines s) (rest-dates s) ps
+
+dates-202 : (s : Bool) (ps : List (List ℕ)) → ofFirst noteDates (contentLines s Note202 ps) ≡ datesOf (firstLine ps)
+unfolding contentLines
+dates-202 s ps = lines-dates (detailsLines s) (λ qs. laid-dates (length (code s (firstLine qs))) (code s (firstLine qs) ++ bankOf s (secondPart qs))) ps
+
+-- as it was read
+rpp-dates : (behind : List (List ℕ) → List (List ℕ)) (l : List ℕ) (ls : List (List ℕ)) → IsRpp l → ofFirst noteDates (l ∷ ls) ≡ datesOf (firstLine (noteParts behind (l ∷ ls)))
+unfolding same
+rpp-dates behind l ls d =
+    let w = rpp-line l d in
+    ap noteDates (w .1) ∙ ap (λ (b : Bool). pick b [] (noteDates (rppLine (w .0)))) (sym (w .2)) ∙ sym (ap (λ (x : List ℕ). datesOf (firstLine (noteParts behind (x ∷ ls)))) (w .1))
+
+nzp-dates : (behind : List (List ℕ) → List (List ℕ)) {ls ks : List (List ℕ)} {k : List ℕ} → ls ≡ (bytes "/NZP/" ++ k) ∷ ks → ofFirst noteDates ls ≡ datesOf (firstLine (noteParts behind ls))
+unfolding same
+nzp-dates behind e = rw e refl
+
+read-103 : (s : Bool) (ls : List (List ℕ)) → RppAndRest ls → ofFirst noteDates ls ≡ datesOf (firstLine (contentParts s Note103 ls))
+unfolding contentParts
+read-103 s [] d = refl
+read-103 s (l ∷ []) (inl d) = rpp-dates (restParts s) l [] d
+read-103 s (l ∷ k ∷ ls) (inl d) = absurd d
+read-103 s (l ∷ ls) (inr (inl (t, ts, d))) = nzp-dates (restParts s) (d .lines)
+read-103 s (l ∷ ls) (inr (inr d)) = rpp-dates (restParts s) l ls (d .0)
+
+read-202 : (s : Bool) (ls : List (List ℕ)) → RppAndDetails s ls → ofFirst noteDates ls ≡ datesOf (firstLine (contentParts s Note202 ls))
+unfolding contentParts
+read-202 s [] d = refl
+read-202 s (l ∷ ls) (inl d) = nzp-dates (detailsParts s nzpSize laterSize) (d .3 .lines)
+read-202 s (l ∷ ls) (inr d) = rpp-dates (detailsParts s nzpSize laterSize) l ls (d .0)
 
 -- ---- a field read and written again has the same values
 abbrev pub linesAgain : Form → Bool → List ℕ → List (List ℕ) → List (List ℕ)
 linesAgain form s t ls = contentLines s (shapeOf form t) (contentParts s (shapeOf form t) ls)
 
-module _ (form : Form) (s : Bool) (t : List ℕ) (ls : List (List ℕ)) (h : Held form s t ls) (w : Ready s (shapeOf form t) (contentParts s (shapeOf form t) ls)) where
+module _ (form : Form) (s : Bool) (t : List ℕ) (ls : List (List ℕ)) (h : Held form s t ls) where
   right-as : {c : Content} → heldBy form t ≡ c → Right c s ls
   right-as e = subst (λ (c : Content). Right c s ls) e (field-says form s (field t ls) .0 (h .right))
 
@@ -193,9 +201,6 @@ module _ (form : Form) (s : Bool) (t : List ℕ) (ls : List (List ℕ)) (h : Hel
     as-shaped : linesAgain form s t ls ≡ contentLines s sh (contentParts s sh ls)
     as-shaped = ap (λ (x : Shape). contentLines s x (contentParts s x ls)) e
 
-    fits-as : crowded s sh (contentParts s sh ls) ≡ false
-    fits-as = subst (λ (x : Shape). crowded s x (contentParts s x ls) ≡ false) e (w .fits)
-
   abbrev Again : Content → Type 0
   Again c = map kindOf (valuesOf t c (linesAgain form s t ls)) ≡ map kindOf (valuesOf t c ls)
 
@@ -204,10 +209,6 @@ module _ (form : Form) (s : Bool) (t : List ℕ) (ls : List (List ℕ)) (h : Hel
 
   payee-values : (f : List (List ℕ) → List ValueKind) → shapeOf form t ≡ Payee → ((ks : List (List ℕ)) → f ks ≡ map kindOf (customerTaxes t ks)) → f (linesAgain form s t ls) ≡ f ls
   payee-values f e i = ap f (by-line Payee e payee) ∙ i (map (lineAgain s) (cast Payee ls)) ∙ payee-again s t ls (each-kept Payee e payee) ∙ sym (i ls)
-
-  note-values : RppAndDetails s ls → crowded s Note202 (contentParts s Note202 ls) ≡ false → ofFirst noteDates (contentLines s Note202 (contentParts s Note202 ls)) ≡ ofFirst noteDates ls
-  unfolding contentLines contentParts
-  note-values r u = note-again s ls r u
 
   pub values-again : Again (heldBy form t)
   unfolding valuesOf
@@ -229,82 +230,168 @@ module _ (form : Form) (s : Bool) (t : List ℕ) (ls : List (List ℕ)) (h : Hel
       go holds.Beneficiary e = payee-values (λ ks. map kindOf (customerTaxes t ks)) (shape-as e) (λ ks. refl)
       go holds.Details e = refl
       go holds.Charges e = refl
-      go holds.Document e = ap (map kindOf) (ap (ofFirst rppDates) (as-shaped Note103 (shape-as e)) ∙ document-again s rppDates ls (right-as e))
-      go holds.DocumentAndDetails e =
-          ap (map kindOf) (ap (ofFirst noteDates) (as-shaped Note202 (shape-as e)) ∙ note-values (right-as e) (fits-as Note202 (shape-as e)))
+      go holds.DocumentAndRest e = ap (map kindOf) (ap (ofFirst noteDates) (as-shaped Note103 (shape-as e)) ∙ dates-103 s (contentParts s Note103 ls) ∙ sym (read-103 s ls (right-as e)))
+      go holds.DocumentAndDetails e = ap (map kindOf) (ap (ofFirst noteDates) (as-shaped Note202 (shape-as e)) ∙ dates-202 s (contentParts s Note202 ls) ∙ sym (read-202 s ls (right-as e)))
       go holds.Regulatory e = refl
 
--- ---- over fields
-abbrev pub ReadyField : Form → Bool → Field → Type 0
-ReadyField form s (field t ls) = Ready s (shapeOf form t) (contentParts s (shapeOf form t) ls)
+-- ---- over fields: what they come to but for a 72's tag, since a 72 without an RPP line may come or go
+abbrev pub kindsOf : Form → Field → List ValueKind
+kindsOf form (field t ls) = pick (same t tag72) [] (tag t ∷ []) ++ map kindOf (valuesOf t (heldBy form t) ls)
 
-kinds-append : (n : ℕ) (vs ws : List Value) → map kindOf (map (moved n) vs ++ ws) ≡ map kindOf vs ++ map kindOf ws
-kinds-append n [] ws = refl
-kinds-append n (at p k ∷ vs) ws = ap (λ (ks : List ValueKind). k ∷ ks) (kinds-append n vs ws)
+abbrev pub seen : Form → List Field → List ValueKind
+seen form fs = inRow (kindsOf form) fs
 
--- wherever the fields begin
-pub kinds-again : (form : Form) (s : Bool) (o p : ℕ) (fs : List Field) → AllHold (HeldField form s) fs → AllHold (ReadyField form s) fs
-    → map kindOf (valuesIn form o (map (fieldAgain form s) fs)) ≡ map kindOf (valuesIn form p fs)
-kinds-again form s o p [] h w = refl
-kinds-again form s o p (field t ls ∷ fs) h w =
-    let g : Field = fieldAgain form s (field t ls) in
-    let ks : List (List ℕ) = linesAgain form s t ls in
-    let vs : List Value = valuesIn form (nextOf o g) (map (fieldAgain form s) fs) in
-    let ws : List Value = valuesIn form (nextOf p (field t ls)) fs in
-    ap (λ (k : List ValueKind). tag t ∷ k)
-    (kinds-append (startOf o g) (valuesOf t (heldBy form t) ks) vs ∙ ap₂ (λ (x y : List ValueKind). x ++ y) (values-again form s t ls (h .0) (w .0)) (kinds-again form s (nextOf o g) (nextOf p (field t ls)) fs (h .1) (w .1))
-    ∙ sym (kinds-append (startOf p (field t ls)) (valuesOf t (heldBy form t) ls) ws))
+-- of the fields that records make
+abbrev kindsFor : Form → Bool → Record → List ValueKind
+kindsFor form s r = kindsOf form (fieldFor form s r)
 
--- ---- 9 to 13 are tests of the values alone, not of their places
-has-same : (t : ValueKind → Bool) (vs ws : List Value) → map kindOf vs ≡ map kindOf ws → has t vs ≡ has t ws
-has-same t [] [] e = refl
-has-same t [] (w ∷ ws) e = absurd (true≢false (ap empty e))
-has-same t (v ∷ vs) [] e = absurd (false≢true (ap empty e))
-has-same t (v ∷ vs) (w ∷ ws) e =
-    let a : kindOf v ≡ kindOf w = cc in
-    let b : map kindOf vs ≡ map kindOf ws = cc in
-    ap₂ (λ (k : ValueKind) (q : Bool). t k || q) a (has-same t vs ws b)
+seen-for : (form : Form) (s : Bool) (rs : List Record) → seen form (map (fieldFor form s) rs) ≡ inRow (kindsFor form s) rs
+seen-for form s [] = refl
+seen-for form s (r ∷ rs) = ap (λ (k : List ValueKind). kindsFor form s r ++ k) (seen-for form s rs)
 
-pub fine-same : (n : ℕ) (bad worse : ValueKind → Bool) (vs ws : List Value) → map kindOf vs ≡ map kindOf ws → ((k : ValueKind) → bad k ≡ worse k) → firstBad n worse ws ≡ Fine → firstBad n bad vs ≡ Fine
-unfolding firstBad
-fine-same n bad worse [] [] e h f = refl
-fine-same n bad worse [] (w ∷ ws) e h f = absurd (true≢false (ap empty e))
-fine-same n bad worse (v ∷ vs) [] e h f = absurd (false≢true (ap empty e))
-fine-same n bad worse (v ∷ vs) (w ∷ ws) e h f =
-    let a : kindOf v ≡ kindOf w = cc in
-    let b : map kindOf vs ≡ map kindOf ws = cc in
-    ap (λ (q : Bool). pick q (Broken n (placeOf v)) (firstBad n bad vs)) (ap bad a ∙ h (kindOf w)) ∙ go (worse (kindOf w)) f (fine-same n bad worse vs ws b h)
+seen-apart : (form : Form) (s : Bool) (fs : List Field) → AllHold (HeldField form s) fs → inRow (kindsFor form s) (map (recordFor form s) fs) ≡ seen form fs
+seen-apart form s [] h = refl
+seen-apart form s (field t ls ∷ fs) h =
+    ap₂ (λ (x y : List ValueKind). (pick (same t tag72) [] (tag t ∷ []) ++ x) ++ y) (values-again form s t ls (h .0)) (seen-apart form s fs (h .1))
+
+-- 70 has no values, 72 of a 103 those of its RPP line
+seen-70 : (s : Bool) (ps : List (List ℕ)) → kindsFor Mt103 s (field tag70 ps) ≡ tag tag70 ∷ []
+unfolding heldBy tags103 same valuesOf
+seen-70 s ps = refl
+
+seen-72 : (s : Bool) (ps : List (List ℕ)) → kindsFor Mt103 s (field tag72 ps) ≡ map kindOf (datesOf (firstLine ps))
+unfolding shapeOf heldBy tags103 same valuesOf
+seen-72 s ps = ap (map kindOf) (dates-103 s ps)
+
+as-72 : (s : Bool) (t : List ℕ) (ps : List (List ℕ)) → same t tag72 ≡ true → kindsFor Mt103 s (field t ps) ≡ map kindOf (datesOf (firstLine ps))
+as-72 s t ps e = ap (λ (u : List ℕ). kindsFor Mt103 s (field u ps)) (same-is t tag72 e) ∙ seen-72 s ps
+
+as-70 : (s : Bool) (t : List ℕ) (ps : List (List ℕ)) → same t tag70 ≡ true → kindsFor Mt103 s (field t ps) ≡ tag tag70 ∷ []
+as-70 s t ps e = ap (λ (u : List ℕ). kindsFor Mt103 s (field u ps)) (same-is t tag70 e) ∙ seen-70 s ps
+
+seen-row : (s : Bool) → RowOf (kindsFor Mt103 s)
+seen-row s = record {
+  at-70 = λ t ps qs e. as-70 s t ps e ∙ sym (as-70 s t qs e);
+  at-72 = λ t ps qs e f. as-72 s t ps e ∙ ap (λ (r : List ℕ). map kindOf (datesOf r)) f ∙ sym (as-72 s t qs e);
+  none = λ t ps e f. as-72 s t ps e ∙ ap (λ (b : Bool). map kindOf (pick b [] (noteDates (rppLine (firstLine ps))))) f;
+}
+
+-- a message read and written again comes to the same
+pub seen-again : (form : Form) (s : Bool) (fs : List Field) → AllHold (HeldField form s) fs
+    → seen form (map (fieldFor form s) (runOn form s (join form (map (recordFor form s) fs)))) ≡ seen form fs
+unfolding runOn join
+seen-again Mt103 s fs h = seen-for Mt103 s (runOn Mt103 s (join Mt103 (map (recordFor Mt103 s) fs))) ∙ row-again (kindsFor Mt103 s) (seen-row s) s (map (recordFor Mt103 s) fs) ∙ seen-apart Mt103 s fs h
+seen-again Mt202 s fs h = seen-for Mt202 s (map (recordFor Mt202 s) fs) ∙ seen-apart Mt202 s fs h
+seen-again Other s fs h = seen-for Other s (map (recordFor Other s) fs) ∙ seen-apart Other s fs h
+
+-- ---- 9 to 13 are tests of the values alone, not of their places, and none asks for a 72
+abbrev some : (ValueKind → Bool) → List ValueKind → Bool
+some t [] = false
+some t (k ∷ ks) = t k || some t ks
+
+or-assoc : (a b c : Bool) → ((a || b) || c) ≡ (a || (b || c))
+or-assoc true b c = refl
+or-assoc false b c = refl
+
+some-append : (t : ValueKind → Bool) (ks js : List ValueKind) → some t (ks ++ js) ≡ (some t ks || some t js)
+some-append t [] js = refl
+some-append t (k ∷ ks) js = ap (λ (b : Bool). t k || b) (some-append t ks js) ∙ sym (or-assoc (t k) (some t ks) (some t js))
+
+has-moved : (t : ValueKind → Bool) (n : ℕ) (vs ws : List Value) → has t (map (moved n) vs ++ ws) ≡ (some t (map kindOf vs) || has t ws)
+has-moved t n [] ws = refl
+has-moved t n (at p k ∷ vs) ws = ap (λ (b : Bool). t k || b) (has-moved t n vs ws) ∙ sym (or-assoc (t k) (some t (map kindOf vs)) (has t ws))
+
+-- a test that no 72 passes
+abbrev Deaf : (ValueKind → Bool) → Type 0
+Deaf t = (u : List ℕ) → same u tag72 ≡ true → t (tag u) ≡ false
+
+has-seen : (form : Form) (t : ValueKind → Bool) → Deaf t → (o : ℕ) (fs : List Field) → has t (valuesIn form o fs) ≡ some t (seen form fs)
+has-seen form t d o [] = refl
+has-seen form t d o (field u ls ∷ fs) =
+    let f : Field = field u ls in
+    let ks : List ValueKind = map kindOf (valuesOf u (heldBy form u) ls) in
+    ap (λ (b : Bool). t (tag u) || b) (has-moved t (startOf o f) (valuesOf u (heldBy form u) ls) (valuesIn form (nextOf o f) fs) ∙ ap (λ (b : Bool). some t ks || b) (has-seen form t d (nextOf o f) fs))
+    ∙ sym (some-append t (pick (same u tag72) [] (tag u ∷ []) ++ ks) (seen form fs) ∙ ap (λ (b : Bool). b || some t (seen form fs)) (go (same u tag72) refl) ∙ or-assoc (t (tag u)) (some t ks) (some t (seen form fs)))
   where
-    go : (q : Bool) → pick q (Broken n (placeOf w)) (firstBad n worse ws) ≡ Fine → (firstBad n worse ws ≡ Fine → firstBad n bad vs ≡ Fine) → pick q (Broken n (placeOf v)) (firstBad n bad vs) ≡ Fine
-    go true f r = absurd (fine-broken n (placeOf w) (sym f))
-    go false f r = r f
+    go : (b : Bool) → same u tag72 ≡ b → some t (pick b [] (tag u ∷ []) ++ map kindOf (valuesOf u (heldBy form u) ls)) ≡ (t (tag u) || some t (map kindOf (valuesOf u (heldBy form u) ls)))
+    go true e = ap (λ (b : Bool). b || some t (map kindOf (valuesOf u (heldBy form u) ls))) (sym (d u e))
+    go false e = refl
 
-module _ (form : Form) (gs fs : List Field) (e : map kindOf (valuesIn form 5 gs) ≡ map kindOf (valuesIn form 5 fs)) where
+fine-has : (n : ℕ) (bad : ValueKind → Bool) (vs : List Value) → firstBad n bad vs ≡ Fine → has bad vs ≡ false
+unfolding firstBad
+fine-has n bad [] e = refl
+fine-has n bad (v ∷ vs) e = go (bad (kindOf v)) e (fine-has n bad vs)
+  where
+    go : (b : Bool) → pick b (Broken n (placeOf v)) (firstBad n bad vs) ≡ Fine → (firstBad n bad vs ≡ Fine → has bad vs ≡ false) → (b || has bad vs) ≡ false
+    go true e r = absurd (fine-broken n (placeOf v) (sym e))
+    go false e r = r e
+
+has-fine : (n : ℕ) (bad : ValueKind → Bool) (vs : List Value) → has bad vs ≡ false → firstBad n bad vs ≡ Fine
+unfolding firstBad
+has-fine n bad [] e = refl
+has-fine n bad (v ∷ vs) e = go (bad (kindOf v)) e (has-fine n bad vs)
+  where
+    go : (b : Bool) → (b || has bad vs) ≡ false → (has bad vs ≡ false → firstBad n bad vs ≡ Fine) → pick b (Broken n (placeOf v)) (firstBad n bad vs) ≡ Fine
+    go true e r = absurd (true≢false e)
+    go false e r = r e
+
+some-same : (bad worse : ValueKind → Bool) → ((k : ValueKind) → bad k ≡ worse k) → (ks : List ValueKind) → some bad ks ≡ some worse ks
+some-same bad worse h [] = refl
+some-same bad worse h (k ∷ ks) = ap₂ _||_ (h k) (some-same bad worse h ks)
+
+module _ (form : Form) (gs fs : List Field) (e : seen form gs ≡ seen form fs) where
+  has-same : (t : ValueKind → Bool) → Deaf t → has t (valuesIn form 5 gs) ≡ has t (valuesIn form 5 fs)
+  has-same t d = has-seen form t d 5 gs ∙ ap (some t) e ∙ sym (has-seen form t d 5 fs)
+
+  fine-same : (n : ℕ) (bad worse : ValueKind → Bool) → Deaf bad → Deaf worse → ((k : ValueKind) → bad k ≡ worse k) → firstBad n worse (valuesIn form 5 fs) ≡ Fine → firstBad n bad (valuesIn form 5 gs) ≡ Fine
+  fine-same n bad worse d c h f =
+      has-fine n bad (valuesIn form 5 gs)
+      (has-seen form bad d 5 gs ∙ ap (some bad) e ∙ some-same bad worse h (seen form fs) ∙ sym (has-seen form worse c 5 fs) ∙ fine-has n worse (valuesIn form 5 fs) f)
+
   pub rule9-again : rule9 form fs ≡ Fine → rule9 form gs ≡ Fine
   unfolding rule9
-  rule9-again f = fine-same 9 noDay noDay (valuesIn form 5 gs) (valuesIn form 5 fs) e (λ k. refl) f
+  rule9-again f = fine-same 9 noDay noDay (λ u q. refl) (λ u q. refl) (λ k. refl) f
 
   pub rule10-again : rule10 form fs ≡ Fine → rule10 form gs ≡ Fine
   unfolding rule10
-  rule10-again f = fine-same 10 foreign foreign (valuesIn form 5 gs) (valuesIn form 5 fs) e (λ k. refl) f
+  rule10-again f = fine-same 10 foreign foreign (λ u q. refl) (λ u q. refl) (λ k. refl) f
+
+  deaf-tags : (ts : List (List ℕ)) → among tag72 ts ≡ false → Deaf (hasTag ts)
+  deaf-tags ts n u q = ap (λ (x : List ℕ). among x ts) (same-is u tag72 q) ∙ n
+
+  deaf-56 : Deaf is56
+  unfolding same
+  deaf-56 = deaf-tags tags56 refl
+
+  deaf-57 : Deaf is57
+  unfolding same
+  deaf-57 = deaf-tags tags57 refl
+
+  deaf-26T : Deaf is26T
+  unfolding same
+  deaf-26T = deaf-tags (bytes "26T" ∷ []) refl
+
+  deaf-77B : Deaf is77B
+  unfolding same
+  deaf-77B = deaf-tags (bytes "77B" ∷ []) refl
 
   pub rule11-again : rule11 form fs ≡ Fine → rule11 form gs ≡ Fine
   unfolding rule11
   rule11-again f =
-      fine-same 11 (without57 (valuesIn form 5 gs)) (without57 (valuesIn form 5 fs)) (valuesIn form 5 gs) (valuesIn form 5 fs) e
-      (λ k. ap (λ (b : Bool). is56 k && not b) (has-same is57 (valuesIn form 5 gs) (valuesIn form 5 fs) e)) f
+      let deaf : (vs : List Value) → Deaf (without57 vs) = λ vs u q. ap (λ (b : Bool). b && not (has is57 vs)) (deaf-56 u q) in
+      fine-same 11 (without57 (valuesIn form 5 gs)) (without57 (valuesIn form 5 fs)) (deaf (valuesIn form 5 gs)) (deaf (valuesIn form 5 fs))
+      (λ k. ap (λ (b : Bool). is56 k && not b) (has-same is57 deaf-57)) f
 
   pub rule12-again : rule12 form fs ≡ Fine → rule12 form gs ≡ Fine
   unfolding rule12
-  rule12-again f = fine-same 12 bikDiffers bikDiffers (valuesIn form 5 gs) (valuesIn form 5 fs) e (λ k. refl) f
+  rule12-again f = fine-same 12 bikDiffers bikDiffers (λ u q. refl) (λ u q. refl) (λ k. refl) f
 
   whole-same : taxWhole (valuesIn form 5 gs) ≡ taxWhole (valuesIn form 5 fs)
-  whole-same =
-      ap₂ _&&_ (has-same is77B (valuesIn form 5 gs) (valuesIn form 5 fs) e)
-      (ap₂ _&&_ (has-same (kppIn (bytes "50K")) (valuesIn form 5 gs) (valuesIn form 5 fs) e) (has-same (kppIn (bytes "59")) (valuesIn form 5 gs) (valuesIn form 5 fs) e))
+  whole-same = ap₂ _&&_ (has-same is77B deaf-77B) (ap₂ _&&_ (has-same (kppIn (bytes "50K")) (λ u q. refl)) (has-same (kppIn (bytes "59")) (λ u q. refl)))
 
   pub rule13-again : rule13 form fs ≡ Fine → rule13 form gs ≡ Fine
   unfolding rule13
   rule13-again f =
-      fine-same 13 (taxBroken (valuesIn form 5 gs)) (taxBroken (valuesIn form 5 fs)) (valuesIn form 5 gs) (valuesIn form 5 fs) e
-      (λ k. ap₂ (λ (a b : Bool). (is26T k && not a) || (is77B k && not b)) whole-same (has-same is26T (valuesIn form 5 gs) (valuesIn form 5 fs) e)) f
+      let deaf : (vs : List Value) → Deaf (taxBroken vs) = λ vs u q. ap₂ (λ (a b : Bool). (a && not (taxWhole vs)) || (b && not (has is26T vs))) (deaf-26T u q) (deaf-77B u q) in
+      fine-same 13 (taxBroken (valuesIn form 5 gs)) (taxBroken (valuesIn form 5 fs)) (deaf (valuesIn form 5 gs)) (deaf (valuesIn form 5 fs))
+      (λ k. ap₂ (λ (a b : Bool). (is26T k && not a) || (is77B k && not b)) whole-same (has-same is26T deaf-26T)) f

@@ -22,6 +22,7 @@ worked =
     also refl
     also refl also refl also refl also refl also refl
     also refl also refl also refl also refl
+    also refl also refl also refl also refl
     also refl also refl
     also refl also refl also refl
     also refl also refl also refl also refl

@@ -19,23 +19,24 @@ use Rattle.base.proofs.SaysLaws.{says-not, says-same, says-so}
 use Rattle.fields.specs.Places.{linesSize}
 use Rattle.contents.specs.declared.Content.{Content}
 use Rattle.contents.specs.declared.Content.the-variants as holds
-use Rattle.contents.specs.declared.lines.Party.{Party}
 use Rattle.contents.specs.declared.whole.Held.{Held}
 use Rattle.contents.specs.declared.whole.Held.the-variants as held
 use Rattle.contents.specs.declared.whole.Bank.{Bank}
 use Rattle.contents.specs.declared.whole.Bank.the-variants as bank
+use Rattle.contents.specs.declared.whole.Note.{Note}
+use Rattle.contents.specs.declared.whole.Note.the-variants as note
 use Rattle.contents.specs.Words.{Text, Line}
-use Rattle.contents.specs.Fields.{Then, Any, In72, Right}
+use Rattle.contents.specs.Fields.{One, Then, Any, Right}
 use Rattle.contents.specs.Parts.{paidDate, paidCurrency}
-use Rattle.contents.specs.Answers.{cut, RppWith, BesideSaid, AccountFirst, CustomerSaid, NoAccount, PayerSaid, IsA, BicSaid, NameSaid, isHeld, isBank, SingleLine}
+use Rattle.contents.specs.Answers.{cut, RppWith, BesideSaid, AccountFirst, CustomerSaid, NoAccount, PayerSaid, BicSaid, NameSaid, NoteSaid, RestSaid, isHeld, isBank, isNote, SingleLine}
 use Rattle.contents.proofs.LineTests.{begins-says}
-use Rattle.contents.proofs.RightLaws.{customer-is, payer-is, bic-is, name-is}
+use Rattle.contents.proofs.RightLaws.{customer-is, payer-is, bic-is, name-is, note-is, rest-is}
 use Rattle.values.specs.Day.{realDay}
 use Rattle.values.specs.Values as kinds
 use Rattle.values.specs.Values.{ValueKind, date, tax, Value, at, payment, rppDates, parties, ofFirst, taxes, customerTaxes, payerTaxes, noteDates, valuesOf}
 use Rattle.values.specs.Judged.{noDay, foreign, bikDiffers, hasKpp, has}
 use Rattle.values.specs.Answers.{faultOf, Finding, FoundIn, nothing}
-use Rattle.values.specs.Steps.{finds, heldFound, bankFound, LedBy, isNothing, madeOf, OneLine, NoValues}
+use Rattle.values.specs.Steps.{finds, heldFound, bankFound, LedBy, noteFound, DatedBy, isNothing, madeOf, OneLine, NoValues}
 use Rattle.values.specs.declared.Finds.{Finds}
 use Rattle.values.specs.declared.Found.{Found}
 use Rattle.values.specs.declared.Found.the-variants.{Wrong, Has, Plain}
@@ -140,10 +141,10 @@ module _ (content : Content) (ls : List Line) where
   finding-tax p inn kpp e q = finding-of (λ t. at p (tax t inn kpp) ∷ []) e (λ t. refl) (λ t. refl) (λ t. refl) (λ t. q ∙ sym (or-false (not (empty kpp))))
 
   -- an RPP line has dates alone, a party line parties alone
-  pub finding-rpp : ((t : Text) → valuesOf t content ls ≡ ofFirst rppDates ls) → {d : ℕ} → d ≡ faultOf noDay (ofFirst rppDates ls) → Finding content ls (finds d 0 0 false)
-  finding-rpp e q =
+  finding-rpp : ((t : Text) → valuesOf t content ls ≡ ofFirst rppDates ls) → Finding content ls (finds (faultOf noDay (ofFirst rppDates ls)) 0 0 false)
+  finding-rpp e =
       let vs = ofFirst rppDates ls in
-      finding-of (λ t. vs) e (λ t. q) (λ t. sym (fault-none foreign vs (dates foreign (λ s. refl)))) (λ t. sym (fault-none bikDiffers vs (dates bikDiffers (λ s. refl)))) (λ t. sym (has-none hasKpp vs (dates hasKpp (λ s. refl))))
+      finding-of (λ t. vs) e (λ t. refl) (λ t. sym (fault-none foreign vs (dates foreign (λ s. refl)))) (λ t. sym (fault-none bikDiffers vs (dates bikDiffers (λ s. refl)))) (λ t. sym (has-none hasKpp vs (dates hasKpp (λ s. refl))))
     where
       dates : (u : ValueKind → Bool) → ((s : Text) → u (date s) ≡ false) → EveryKind (λ k. u k ≡ false) (ofFirst rppDates ls)
       dates u h = every-first (λ k. u k ≡ false) rppDates (every-rpp (λ k. u k ≡ false) h) ls
@@ -230,20 +231,21 @@ payer-good ls (held.Taxed p inn kpp) s = ⊎-elim (payer-account ls (held.Taxed 
 pub payer-held : (sign : Bool) (ls : List Line) (h : Held) → PayerSaid ls h → FoundIn holds.Payer sign ls (heldFound h)
 payer-held sign ls h s = found-by holds.Payer sign ls (heldFound h) (payer-is ls h (isHas (heldFound h)) (held-has h) s) (payer-good ls h s)
 
--- ---- Cparty: 52A, 56, 57
-led : (Q : List Line → Type 0) (p : Party) (ls : List Line) → Then (IsA p) Q ls → Then (IsA p) Any ls
-led Q p [] s = s
-led Q p (l ∷ ls) s = (s .0, tt)
+-- ---- the first line, whatever follows
+led : (P : Line → Type 0) (Q : List Line → Type 0) (ls : List Line) → Then P Q ls → Then P Any ls
+led P Q [] s = s
+led P Q (l ∷ ls) s = (s .0, tt)
 
+-- ---- Cparty: 52A, 56, 57
 pub bic-led : (ls : List Line) (b : Bank) → BicSaid ls b → LedBy ls b
 bic-led ls bank.Wrong s = tt
 bic-led ls bank.Alone s = tt
-bic-led ls (bank.Led p) s = led _ p ls s
+bic-led ls (bank.Led p) s = led _ _ ls s
 
 pub name-led : (ls : List Line) (b : Bank) → NameSaid ls b → LedBy ls b
 name-led ls bank.Wrong s = tt
 name-led ls bank.Alone s = tt
-name-led ls (bank.Led p) s = led _ p ls s
+name-led ls (bank.Led p) s = led _ _ ls s
 
 bank-has : (ls : List Line) (b : Bank) → isHas (bankFound ls b) ≡ isBank b
 bank-has ls bank.Wrong = refl
@@ -286,10 +288,39 @@ line-asks k s {r = r} e n o h = subst (λ (x : Content). NoValues x × OneLine x
 pub plain-asks : (k : Content) (sign : Bool) (ls : List Line) {content : Content} {r : Bool} → content ≡ k → NoValues k → Says (Right k sign ls) r → NoValues content × Says (Right content sign ls) r
 plain-asks k sign ls {r = r} e n h = subst (λ (x : Content). NoValues x × Says (Right x sign ls) r) (sym e) (n, h)
 
--- ---- 72 of a 202
-pub note-dated : (sign : Bool) (n value : ℕ) (ls : List Line) → Then (RppWith n value) (In72 sign 5) ls → Then (RppWith n value) Any ls × (ofFirst noteDates ls ≡ ofFirst rppDates ls)
-note-dated sign n value [] w = absurd w
-note-dated sign n value (l ∷ ls) w = ((w .0, tt), note-values (w .0 .0))
+-- ---- Crpp: 72
+pub details-dated : (sign : Bool) (ls : List Line) (n : Note) → NoteSaid sign ls n → DatedBy ls n
+details-dated sign ls note.Wrong s = tt
+details-dated sign ls note.Plain s = ap (ofFirst noteDates) (s .3 .lines) ∙ nzp-values _
+details-dated sign ls (note.Dated k v) s = led _ _ ls s
 
-pub note-plain : (sign : Bool) (ls : List Line) → In72 sign 6 ls → ofFirst noteDates ls ≡ []
-note-plain sign ls d = ap (ofFirst noteDates) (d .3 .lines) ∙ nzp-values _
+pub rest-dated : (ls : List Line) (n : Note) → RestSaid ls n → DatedBy ls n
+rest-dated ls note.Wrong s = tt
+rest-dated ls note.Plain s = ap (ofFirst noteDates) (s .2 .lines) ∙ nzp-values _
+rest-dated ls (note.Dated k v) s = ⊎-elim (alone ls) (led _ _ ls) s
+  where
+    alone : (ls : List Line) → One (RppWith k v) ls → Then (RppWith k v) Any ls
+    alone [] x = x
+    alone (l ∷ []) x = (x, tt)
+    alone (l ∷ m ∷ ls) x = absurd x
+
+note-has : (ls : List Line) (n : Note) → isHas (noteFound ls n) ≡ isNote n
+note-has ls note.Wrong = refl
+note-has ls note.Plain = refl
+note-has ls (note.Dated k v) = has-made (finds (faultOf noDay (ofFirst rppDates ls)) 0 0 false)
+
+note-good : (content : Content) (ls : List Line) → ((t : Text) → valuesOf t content ls ≡ ofFirst noteDates ls) → (n : Note) → DatedBy ls n → Good content ls (noteFound ls n)
+note-good content ls e note.Wrong d = tt
+note-good content ls e note.Plain d = finding-none content ls (λ t. e t ∙ d)
+note-good content [] e (note.Dated k v) d = absurd d
+note-good content (l ∷ ls) e (note.Dated k v) d = good-made content (l ∷ ls) _ (finding-rpp content (l ∷ ls) (λ t. e t ∙ note-values (d .0 .0)))
+
+module _ (sign : Bool) (ls : List Line) (n : Note) where
+  pub rpp-and-details : NoteSaid sign ls n → FoundIn holds.DocumentAndDetails sign ls (noteFound ls n)
+  unfolding valuesOf
+  rpp-and-details s =
+      found-by holds.DocumentAndDetails sign ls (noteFound ls n) (note-is sign ls n (isHas (noteFound ls n)) (note-has ls n) s) (note-good holds.DocumentAndDetails ls (λ t. refl) n (details-dated sign ls n s))
+
+  pub rpp-and-rest : RestSaid ls n → FoundIn holds.DocumentAndRest sign ls (noteFound ls n)
+  unfolding valuesOf
+  rpp-and-rest s = found-by holds.DocumentAndRest sign ls (noteFound ls n) (rest-is ls n (isHas (noteFound ls n)) (note-has ls n) s) (note-good holds.DocumentAndRest ls (λ t. refl) n (rest-dated ls n s))

@@ -32,26 +32,26 @@ picked P false p q = q
 
 -- ---- what holds of the values of each content
 by-content : (P : List Value → Type 0) (t : Text) (content : Content) (ls : List Line)
-    → P [] → P (ofFirst payment ls) → P (payerTaxes t ls) → P (ofFirst parties ls) → P (customerTaxes t ls) → P (ofFirst rppDates ls) → P (ofFirst noteDates ls) → P (valuesOf t content ls)
+    → P [] → P (ofFirst payment ls) → P (payerTaxes t ls) → P (ofFirst parties ls) → P (customerTaxes t ls) → P (ofFirst noteDates ls) → P (valuesOf t content ls)
 unfolding valuesOf
-by-content P t holds.Unknown ls n a b c d e f = n
-by-content P t holds.Reference ls n a b c d e f = n
-by-content P t holds.Related ls n a b c d e f = n
-by-content P t holds.Operation ls n a b c d e f = n
-by-content P t holds.Purpose ls n a b c d e f = n
-by-content P t holds.Payment ls n a b c d e f = a
-by-content P t holds.Payer ls n a b c d e f = b
-by-content P t holds.BankByBic ls n a b c d e f = c
-by-content P t holds.BankByName ls n a b c d e f = c
-by-content P t holds.OwnAccount ls n a b c d e f = n
-by-content P t holds.AccountAndBic ls n a b c d e f = n
-by-content P t holds.BeneficiaryBank ls n a b c d e f = d
-by-content P t holds.Beneficiary ls n a b c d e f = d
-by-content P t holds.Details ls n a b c d e f = n
-by-content P t holds.Charges ls n a b c d e f = n
-by-content P t holds.Document ls n a b c d e f = e
-by-content P t holds.DocumentAndDetails ls n a b c d e f = f
-by-content P t holds.Regulatory ls n a b c d e f = n
+by-content P t holds.Unknown ls n a b c d e = n
+by-content P t holds.Reference ls n a b c d e = n
+by-content P t holds.Related ls n a b c d e = n
+by-content P t holds.Operation ls n a b c d e = n
+by-content P t holds.Purpose ls n a b c d e = n
+by-content P t holds.Payment ls n a b c d e = a
+by-content P t holds.Payer ls n a b c d e = b
+by-content P t holds.BankByBic ls n a b c d e = c
+by-content P t holds.BankByName ls n a b c d e = c
+by-content P t holds.OwnAccount ls n a b c d e = n
+by-content P t holds.AccountAndBic ls n a b c d e = n
+by-content P t holds.BeneficiaryBank ls n a b c d e = d
+by-content P t holds.Beneficiary ls n a b c d e = d
+by-content P t holds.Details ls n a b c d e = n
+by-content P t holds.Charges ls n a b c d e = n
+by-content P t holds.DocumentAndRest ls n a b c d e = e
+by-content P t holds.DocumentAndDetails ls n a b c d e = e
+by-content P t holds.Regulatory ls n a b c d e = n
 
 -- ---- in the order of their places
 ordered-moved : (n : ℕ) {o e : ℕ} {vs : List Value} → Ordered o vs e → Ordered (n + o) (map (moved n) vs) (n + e)
@@ -132,12 +132,12 @@ payer-order t (l ∷ ls) =
 pub values-order : (t : Text) (content : Content) (ls : List Line) → Ordered 0 (valuesOf t content ls) (length (joined ls))
 values-order t content ls =
     by-content (λ vs. Ordered 0 vs (length (joined ls))) t content ls (nothing (length (joined ls))) (first-order payment payment-order ls) (payer-order t ls)
-    (first-order parties parties-order ls) (customer-order t ls) (first-order rppDates rpp-order ls) (first-order noteDates note-order ls)
+    (first-order parties parties-order ls) (customer-order t ls) (first-order noteDates note-order ls)
 
 -- a content without lines has none
 no-values : (t : Text) (content : Content) → valuesOf t content [] ≡ []
 unfolding payerTaxes customerTaxes
-no-values t content = by-content (λ vs. vs ≡ []) t content [] refl refl refl refl refl refl refl
+no-values t content = by-content (λ vs. vs ≡ []) t content [] refl refl refl refl refl refl
 
 module _ (form : Form) where
   field-order : (o : ℕ) (t : Text) (ls : List Line) → Ordered o (at o (tag t) ∷ map (moved (startOf o (field t ls))) (valuesOf t (heldBy form t) ls)) (nextOf o (field t ls))
@@ -209,4 +209,4 @@ module _ (P : ValueKind → Type 0) where
       → (content : Content) (ls : List Line) → EveryKind P (valuesOf t content ls)
   every-value t d c p x content ls =
       by-content (EveryKind P) t content ls tt (every-first payment (every-paid d c) ls) (every-payer t x ls) (every-first parties (every-party p) ls) (every-customer t x ls)
-      (every-first rppDates (every-rpp d) ls) (every-first noteDates (every-note d) ls)
+      (every-first noteDates (every-note d) ls)

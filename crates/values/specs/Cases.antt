@@ -102,6 +102,11 @@ cases =
     ∷ refused 103 (one "72" "/RPP/7.240230.5.ELEK") 9 16
     ∷ refused 103 (one "72" "/RPP/123.240229.5.ELEK.240431") 9 32
     ∷ refused 103 (one "72" "/RPP/123.240001.5.ELEK.240431") 9 18
+    -- and so where the rest of the details follows, in which nothing is asked for
+    ∷ passes 103 (of "72" ("/RPP/7.240229.5.ELEK" ∷ "/NZP/OPLATA" ∷ "//DOGOVOR" ∷ []) ∷ [])
+    ∷ passes 103 (of "72" ("/NZP//RPP/7.240230.5.ELEK" ∷ "//RPP/7.240230.5.ELEK" ∷ []) ∷ [])
+    ∷ refused 103 (of "72" ("/RPP/7.240230.5.ELEK" ∷ "/NZP/OPLATA" ∷ []) ∷ []) 9 16
+    ∷ refused 103 (of "72" ("/RPP/7.240229.5.ELEK.240431" ∷ "/NZP/OPLATA" ∷ "//DOGOVOR" ∷ []) ∷ []) 9 30
     -- and so in 202, where details follow
     ∷ passes 202 (of "72" ("/RPP/7.240229.5.ELEK" ∷ "/NZP/(VO10100)OPLATA" ∷ "//DOGOVOR" ∷ []) ∷ [])
     ∷ passes 202 (of "72" ("/NZP/(VO10100).240230" ∷ []) ∷ [])

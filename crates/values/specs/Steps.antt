@@ -1,5 +1,5 @@
 -- What the functions say to each other that read a date, and that make what is found of what the readers of contents answer (Cdate, Cparty,
--- Ctax). Assumes nothing.
+-- Ctax, Crpp). Assumes nothing.
 use Prim.Native.Nat.{ℕ, _<_}
 use mathlib.Core.Path.{_≡_}
 use mathlib.Core.Bool.{Bool, false, not, _&&_}
@@ -11,12 +11,14 @@ use Rattle.contents.specs.declared.whole.Held.{Held}
 use Rattle.contents.specs.declared.whole.Held.the-variants as held
 use Rattle.contents.specs.declared.whole.Bank.{Bank}
 use Rattle.contents.specs.declared.whole.Bank.the-variants as bank
+use Rattle.contents.specs.declared.whole.Note.{Note}
+use Rattle.contents.specs.declared.whole.Note.the-variants as note
 use Rattle.contents.specs.Words.{Text, Line}
 use Rattle.contents.specs.Fields.{One, Then, Any, Right}
-use Rattle.contents.specs.Answers.{IsA, SingleLine}
+use Rattle.contents.specs.Answers.{IsA, RppWith, SingleLine}
 use Rattle.values.specs.Day.{year, month, day}
-use Rattle.values.specs.Values.{ofFirst, parties, valuesOf}
-use Rattle.values.specs.Judged.{bikDiffers}
+use Rattle.values.specs.Values.{ofFirst, parties, rppDates, noteDates, valuesOf}
+use Rattle.values.specs.Judged.{noDay, bikDiffers}
 use Rattle.values.specs.Answers.{faultOf}
 use Rattle.values.specs.declared.days.Day.{Day}
 use Rattle.values.specs.declared.Finds.{Finds}
@@ -59,6 +61,17 @@ abbrev pub LedBy : List Line → Bank → Type 0
 LedBy ls bank.Wrong = Unit {0}
 LedBy ls bank.Alone = Unit {0}
 LedBy ls (bank.Led p) = Then (IsA p) Any ls
+
+-- 72: the RPP line, where there is one, is the first
+abbrev pub noteFound : List Line → Note → Found
+noteFound ls note.Wrong = Wrong
+noteFound ls note.Plain = Plain
+noteFound ls (note.Dated number value) = madeOf (finds (faultOf noDay (ofFirst rppDates ls)) 0 0 false)
+
+abbrev pub DatedBy : List Line → Note → Type 0
+DatedBy ls note.Wrong = Unit {0}
+DatedBy ls note.Plain = ofFirst noteDates ls ≡ []
+DatedBy ls (note.Dated number value) = Then (RppWith number value) Any ls
 
 -- a content in which nothing is ever asked for
 abbrev pub NoValues : Content → Type 0

@@ -84,7 +84,7 @@ unfoldable pub payerTaxes : Text → List Line → List Value
 payerTaxes t [] = []
 payerTaxes t (l ∷ ls) = pick (begins (ascii "/") l) (customerTaxes t (l ∷ ls)) (taxes t 0 (l ∷ ls))
 
--- 72 in 202: where there is an RPP line, it comes first
+-- 72: where there is an RPP line, it comes first
 abbrev pub noteDates : Line → List Value
 noteDates l = pick (opensRpp l) (rppDates l) []
 
@@ -105,7 +105,7 @@ valuesOf t holds.BeneficiaryBank ls = customerTaxes t ls
 valuesOf t holds.Beneficiary ls = customerTaxes t ls
 valuesOf t holds.Details ls = []
 valuesOf t holds.Charges ls = []
-valuesOf t holds.Document ls = ofFirst rppDates ls
+valuesOf t holds.DocumentAndRest ls = ofFirst noteDates ls
 valuesOf t holds.DocumentAndDetails ls = ofFirst noteDates ls
 valuesOf t holds.Regulatory ls = []
 

@@ -8,12 +8,12 @@ ghost use Rattle.base.specs.Says.{Says};
 ghost use Rattle.fields.specs.Lines.{linesIn};
 ghost use Rattle.contents.specs.Fields.{Then, Any, Right};
 ghost use Rattle.contents.specs.Answers.{cut, IsA, RppWith, SingleLine};
-ghost use Rattle.contents.specs.declared.Content.the-variants.{Payment, Document, DocumentAndDetails};
+ghost use Rattle.contents.specs.declared.Content.the-variants.{Payment};
 ghost use Rattle.values.specs.Day.{realDay};
 ghost use Rattle.values.specs.Values.{ofFirst, parties, rppDates};
 ghost use Rattle.values.specs.Judged.{noDay, bikDiffers};
 ghost use Rattle.values.specs.Answers.{faultOf, FoundIn};
-ghost use Rattle.values.specs.Steps.{isNothing, madeOf, heldFound, bankFound, LedBy, NoValues, OneLine};
+ghost use Rattle.values.specs.Steps.{isNothing, madeOf, heldFound, bankFound, LedBy, noteFound, DatedBy, NoValues, OneLine};
 use super::Finds;
 use super::Found;
 use super::days::is_day;
@@ -27,12 +27,10 @@ use contents::lines::Party;
 use contents::lines::RPP_DATE;
 use contents::lines::RPP_MARK;
 use contents::lines::RPP_VALUE;
-use contents::lines::Rpp;
 use contents::lines::is_own_account;
 use contents::lines::is_purpose;
 use contents::lines::is_reference;
 use contents::lines::payment;
-use contents::lines::rpp_line;
 use contents::pieces::is_just;
 use contents::whole::Bank;
 use contents::whole::Held;
@@ -46,6 +44,7 @@ use contents::whole::is_one_line;
 use contents::whole::payer;
 use contents::whole::regulatory;
 use contents::whole::rpp_and_details;
+use contents::whole::rpp_and_rest;
 
 // 12 compares the last digits of a BIK and of an account, so many.
 const LAST: usize = 3;
@@ -183,29 +182,12 @@ fn rpp_fault(c: &[u8], number: usize, value: usize) -> usize
     fault(is_day_at(c, due), due)
 }
 
-// 72 in 103.
-fn rpp_found(c: &[u8]) -> Found
-    ensures { λ r. ⌜ ((sign : Bool) → FoundIn Document sign (linesIn (now (c .entry))) r) ⌝ }
+// 72.
+fn note_found(c: &[u8], n: Note) -> Found
+    requires { ⌜ DatedBy (linesIn (now c)) n ⌝ }
+    ensures { λ r. ⌜ r ≡ noteFound (linesIn (now (c .entry))) n ⌝ }
 {
-    if !is_one_line(c) {
-        return Found::Wrong;
-    }
-    let Rpp::Is(number, value) = rpp_line(c) else {
-        return Found::Wrong;
-    };
-    made(Finds {
-        day: rpp_fault(c, number, value),
-        currency: 0,
-        party: 0,
-        kpp: false,
-    })
-}
-
-// 72 in 202.
-fn note_found(sign: bool, c: &[u8]) -> Found
-    ensures { λ r. ⌜ FoundIn DocumentAndDetails sign (linesIn (now (c .entry))) r ⌝ }
-{
-    match rpp_and_details(sign, c) {
+    match n {
         Note::Wrong => Found::Wrong,
         Note::Plain => Found::Plain,
         Note::Dated(number, value) => made(Finds {
@@ -254,8 +236,8 @@ pub fn found_in(content: Content, sign: bool, c: &[u8]) -> Found
         Content::BankByName => bank_found(c, bank_by_name(c)),
         Content::BeneficiaryBank => held_found(customer(false, c)),
         Content::Beneficiary => held_found(customer(true, c)),
-        Content::Document => rpp_found(c),
-        Content::DocumentAndDetails => note_found(sign, c),
+        Content::DocumentAndRest => note_found(c, rpp_and_rest(c)),
+        Content::DocumentAndDetails => note_found(c, rpp_and_details(sign, c)),
         Content::Reference => line_found(content, is_reference(c), c),
         Content::Related => line_found(content, is_just(c, b"NONREF"), c),
         Content::Operation => line_found(content, is_just(c, b"CRED"), c),

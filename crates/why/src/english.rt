@@ -21,10 +21,12 @@ A BIK and an account that do not belong together: their last three digits differ
 A payment to the budget that is not whole: 26T without 77B, or without INN and KPP of both payer and payee; or 77B without 26T.\n\
 A text that does not read back to Russian letters, or a name that would be taken for something else: an account, a new field, a tax line.\n\
 A character that can't be sent: a small Russian letter, an apostrophe in a name or in details; without the sign + any Russian letter.\n\
-The details do not fit the lines of their field.\n\
+The details do not fit the lines of their field; those of a 103 do not fit the fields 70 and 72 together.\n\
 The room lent is too short (a matter for the program, not for the clerk).\n\
 A type that is neither 103 nor 202.\n\
 The sheet is not built as a sheet must be: a record without its end, an empty part, a wrong tag, VO digits that are not five.\n\
+There is no such number.\n\
+The details of a 103, run on from field 70 into field 72, have more than 210 bytes with their code.\n\
 Split the payment into more messages.\n\
 Take the whole of block 4, and nothing else.\n\
 Retype that character; let each line end in CR LF.\n\
@@ -44,6 +46,8 @@ Shorten the details.\n\
 Call again with that much room.\n\
 Give the right type: 103 or 202.\n\
 Mend that line of the sheet.\n\
+\n\
+Ask the sender to send it again with shorter details.\n\
 to do\n\
 field\n\
 line\n\

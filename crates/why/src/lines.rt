@@ -3,6 +3,7 @@ ghost use Prim.Native.Nat.{_≤_, _<_};
 ghost use lib.ListN.{length};
 use base::bytes::front;
 use base::marks::mark_at;
+use stored::behind;
 use stored::line_at;
 
 // A line is looked for: any, or one that begins with `:`.
@@ -41,6 +42,24 @@ pub(crate) fn line_number(s: &[u8], start: usize) -> usize {
         number += 1;
     }
     number
+}
+
+// The place behind the LF that ends the line of a place, or behind the text.
+pub(crate) fn behind_line(s: &[u8], place: usize) -> usize {
+    let line = line_at(s, place);
+    behind(s, place, line.len())
+}
+
+// The start of the next line that begins with `:`, from there on, or the end of the text.
+pub(crate) fn next_colon(s: &[u8], start: usize) -> usize {
+    let mut at = start;
+    while at < s.len() {
+        if s[at] == b':' {
+            return at;
+        }
+        at = mark_at(b'\n', s, at) + 1;
+    }
+    s.len()
 }
 
 // A line without the CR of its CR LF.

@@ -74,7 +74,7 @@ fn put_where(
 ) -> usize {
     match number {
         2 => put_edge(russian, message_in(input), out, at),
-        3..=6 | 8..=14 => put_spot(russian, false, place, message_in(input), out, at),
+        3..=6 | 8..=14 | 21 => put_spot(russian, false, place, message_in(input), out, at),
         7 => put_gap(
             russian,
             form_in(line_at(input, 0)),

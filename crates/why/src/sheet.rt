@@ -1,5 +1,7 @@
 // Why a sheet was refused: by a byte of its own, or for the sake of the message that it would be.
+use crate::lines::behind_line;
 use crate::lines::has_end;
+use crate::lines::next_colon;
 use crate::missing::put_missing;
 use crate::show::put_first;
 use crate::show::put_line;
@@ -15,12 +17,32 @@ use crate::words::put_remark;
 use base::Outcome;
 use base::Verdict;
 use base::bytes::front;
+use base::bytes::is_same;
+use base::bytes::past;
 use message::verdict::judge;
 use records::sheets::judge_sheet;
+use stored::up_to;
 use types::Form;
 use writer::draft::draft;
 use writer::holder::Holder;
 use writer::holder::record_at;
+
+// Whether the record that starts there has the tag of the field with that colon.
+fn is_own(sheet: &[u8], start: usize, m: &[u8], colon: usize) -> bool {
+    let tag = up_to(b'\t', past(sheet, start));
+    is_same(tag, up_to(b':', past(past(m, colon), 1)))
+}
+
+// The colon of a field that is made of a record of its own: that one, or, where details run on there, the next.
+fn own_place(sheet: &[u8], m: &[u8], colon: usize) -> usize {
+    let Holder::Record(i) = record_at(sheet, colon) else {
+        return colon;
+    };
+    if is_own(sheet, i, m, colon) {
+        return colon;
+    }
+    next_colon(m, behind_line(m, colon))
+}
 
 // What is missing, and the line of the sheet before which it belongs.
 fn put_gap(
@@ -36,7 +58,7 @@ fn put_gap(
         return at;
     }
     let at = put_missing(russian, form, m, place, out, at);
-    match record_at(sheet, place) {
+    match record_at(sheet, own_place(sheet, m, place)) {
         Holder::Record(i) => put_line(russian, BEFORE, true, sheet, i, out, at),
         Holder::Nothing => put_remark(russian, AT_END, out, at),
     }

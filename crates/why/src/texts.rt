@@ -1,5 +1,5 @@
 // Which line each text has, made by .ci/numbers from docs/NUMBERS.md. A number's meaning has its own line; line 0 is for no number.
-pub(crate) const NUMBERS: usize = 19;
+pub(crate) const NUMBERS: usize = 21;
 
 // What to do stands so many lines behind.
 pub(crate) const REMEDIES: usize = NUMBERS;
@@ -25,3 +25,11 @@ pub(crate) const CR_LF: usize = NUMBERS + REMEDIES + 9;
 pub(crate) const BARE_LF: usize = NUMBERS + REMEDIES + 10;
 
 pub(crate) const USAGE: usize = NUMBERS + REMEDIES + 11;
+
+// Whether a number up to the last is one.
+pub(crate) fn is_number(n: usize) -> bool {
+    match n {
+        1..=19 | 21 => true,
+        _ => false,
+    }
+}

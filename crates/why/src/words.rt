@@ -6,6 +6,7 @@ use crate::russian;
 use crate::texts::NUMBERS;
 use crate::texts::REMEDIES;
 use crate::texts::TODO;
+use crate::texts::is_number;
 
 // A text by its line.
 pub(crate) fn put_text(russian: bool, text: usize, out: &mut [u8], at: usize) -> usize {
@@ -40,10 +41,10 @@ pub(crate) fn put_refusal(russian: bool, number: usize, out: &mut [u8], at: usiz
     if number > NUMBERS {
         return put_remark(russian, 0, out, at);
     }
-    let at = put_remark(russian, number, out, at);
-    if number == 0 {
-        return at;
+    if !is_number(number) {
+        return put_remark(russian, 0, out, at);
     }
+    let at = put_remark(russian, number, out, at);
     let at = put_label(russian, TODO, out, at);
     put_remark(russian, number + REMEDIES, out, at)
 }

@@ -4,6 +4,10 @@ pub mod PurposeLaws
 pub mod PartLaws
 pub mod NoteLaws
 pub mod PutLaws
+pub mod CrowdLaws
+pub mod SeenLaws
+pub mod RunLaws
+pub mod HalfLaws
 pub mod HandLaws
 pub mod RuleLaws
 pub mod BuildLaws

@@ -1,8 +1,8 @@
 -- Records as fields, one behind another, and the whole message. Assumes nothing.
-use Prim.Native.Nat.{ℕ, _+_, _-_, _≤_, _<_}
+use Prim.Native.Nat.{ℕ, zero, suc, _+_, _-_, _≤_, _<_}
 use mathlib.Core.Path.{_≡_, refl, sym, ap, ap₂, subst, _∙_}
 use mathlib.Core.Bool.{Bool, true, false, not, _&&_, _||_, true≢false}
-use mathlib.Core.List.{List, [], _∷_, _++_, map, append-assoc}
+use mathlib.Core.List.{List, [], _∷_, _++_, map, append-assoc, append-nil}
 use native.Mathlib.Omega.{arith}
 use native.Mathlib.Decide.{decLt}
 use types.Run.{OneOf}
@@ -10,23 +10,25 @@ use denote.Enum.Declared.{tagOf}
 use Rattle.types.specs.declared.Form.{Form}
 use Rattle.roles.proofs.Shape.{the-type}
 use Rattle.roles.proofs.PartLaws.{each-lined}
+use lib.Dec.{eqb}
 use lib.ListN.{length, take, drop, length-append}
+use lib.Seq.{take-nil, take-take, length-take-le}
+use Rattle.base.proofs.ByteLaws.{drop-take}
 use Rattle.base.specs.Choice.{pick}
 use Rattle.base.specs.Bytes.{begins, empty, countUpTo}
 use Rattle.base.specs.Rules.{then}
 use Rattle.base.specs.Calls.{Answer, said, stuck, Puts}
 use Rattle.base.specs.declared.Verdict.{Verdict}
 use Rattle.base.specs.declared.Verdict.the-variants.{Fine, Broken}
-use Rattle.base.proofs.Bools.{left, right}
+use Rattle.base.proofs.Bools.{left, right, isnt}
 use Rattle.base.proofs.RuleLaws.{fine-broken, then-fine}
 use Rattle.alphabets.specs.Bank.{plainly}
-use Rattle.fields.specs.Field.{field, withCrLf, lined, linesOf, closing}
+use Rattle.fields.specs.Field.{field, withCrLf, lined, linesOf}
 use Rattle.fields.specs.Shapes.{shaped, pack, unpack}
 use Rattle.fields.proofs.PackLaws.{unpack-pack}
 use Rattle.fields.proofs.PlaceLaws.{crlf-append}
 use Rattle.contents.specs.Tests.{looksTax}
 use Rattle.roles.specs.Role.{Part, copy, name, taxName, taxed, cast, shapeOf, lineOf}
-use Rattle.roles.specs.Speech.{codeSize}
 use Rattle.roles.specs.declared.Shape.{Shape}
 use Rattle.roles.specs.declared.Shape.the-variants.{Details, Note103, Note202}
 use Rattle.records.specs.Record.{Record, line, recordOf}
@@ -39,26 +41,27 @@ use Rattle.records.proofs.PlaceLaws.{front-at, front-end}
 use Rattle.records.proofs.FoundLaws.{record-at, tag-size}
 use Rattle.records.proofs.SheetLaws.{line-record}
 use Rattle.records.proofs.RuleLaws.{sound-right}
-use Rattle.records.proofs.WalkLaws.{bad-last, bad-hit, bad-miss}
+use Rattle.records.proofs.WalkLaws.{bad-last, bad-hit, bad-miss, bad-end}
 use Rattle.details.specs.Lines.{Division, lines}
 use Rattle.details.specs.Breaking.{Fit}
-use Rattle.details.specs.Layouts.{layout, linesFor, divided, marked, sizeFor}
+use Rattle.details.specs.Layouts.{layout, linesFor, divided, marked, sizeFor, isUnfit}
 use Rattle.details.specs.Layouts as layouts
 use Rattle.details.specs.declared.DetailsField.{DetailsField}
 use Rattle.details.specs.declared.DetailsField.the-variants.{In70}
 use Rattle.details.specs.declared.Size.{Size}
 use Rattle.details.specs.declared.Size.the-variants as size
 use Rattle.details.proofs.DivisionTheorems.{fitted}
-use Rattle.details.specs.Front.{rppLine, noteField}
-use Rattle.writer.specs.Spread.{saidPart, castParts, lineFor, codeAndText, noteLines, contentLines, fieldFor, spread}
-use Rattle.writer.specs.Sheet.{stoppedAt, unsaid, rule15, isUnfit, crowdedNote, crowded, someCrowded}
+use Rattle.details.specs.Front.{code, rppLine, noteField}
+use Rattle.runon.specs.Run.{bankOf, fitsIn}
+use Rattle.writer.specs.Spread.{saidPart, castParts, lineFor, laidLines, detailsLines, rppLines, noteLines, contentLines, fieldFor, spread}
+use Rattle.writer.specs.Sheet.{stoppedAt, unsaid, rule15, crowdedDetails, crowdedNote, crowded, someCrowded}
 use Rattle.writer.specs.declared.Step.{Step}
 use Rattle.writer.specs.declared.Step.the-variants.{Stuck, Unfit}
 use Rattle.roles.specs.Parts.{castBy, firstRole}
 use Rattle.roles.specs.declared.Role.{Role}
 use Rattle.writer.specs.Steps.{Adds, AddsDetails, recordStops, recordCrowded, recordsAt}
 use Rattle.writer.proofs.StepLaws.{adds-by, adds-alike, adds-stuck, adds-front, Goes, adds-join, movedBy, came-stuck}
-use Rattle.writer.proofs.PurposeLaws.{some-within, sole-part}
+use Rattle.writer.proofs.PurposeLaws.{twice-not, some-within, sole-part}
 
 -- ---- the content of a record, by the shape of its tag
 abbrev ContentIn : Bool → ℕ → List (List ℕ) → List ℕ → List ℕ → ℕ → Step → Shape → Type 0
@@ -78,18 +81,24 @@ module _ (s : Bool) (o : ℕ) (ps : List (List ℕ)) {out after : List ℕ} {at 
   unfolding crowded contentLines
   content-details e a = subst (ContentIn s o ps out after at r) (sym e) a
 
-  pub content-note : {sh : Shape} → sh ≡ Note202 → Adds (unsaid s o (castParts Note202 ps)) (crowdedNote s ps) (withCrLf (noteLines s ps)) out at r after → ContentIn s o ps out after at r sh
+  pub content-note : {sh : Shape} → sh ≡ Note202 → Adds (unsaid s o (castParts Note202 ps)) (crowdedNote (crowdedDetails s) ps) (withCrLf (noteLines (detailsLines s) ps)) out at r after → ContentIn s o ps out after at r sh
   unfolding crowded contentLines
   content-note e a = subst (ContentIn s o ps out after at r) (sym e) a
 
 pub content-rpp : (s : Bool) (l : List ℕ) (o : ℕ) {out after : List ℕ} {at : ℕ} {r : Step} {sh : Shape} → sh ≡ Note103 → o ≤ length l → sound s sh (piecesAt 9 l o) ≡ true
     → Adds (stoppedAt o (plainly (take (length l - o) (drop o l)))) false (withCrLf (rppLine (take (length l - o) (drop o l)) ∷ [])) out at r after
     → Adds (unsaid s o (castParts sh (piecesAt 9 l o))) (crowded s sh (piecesAt 9 l o)) (withCrLf (contentLines s sh (piecesAt 9 l o))) out at r after
-unfolding sound cast crowded contentLines unsaid
+unfolding sound crowded contentLines unsaid
 content-rpp s l o {out} {after} {at} {r} {sh} e h g a =
+    let w : sole (piecesAt 9 l o) ≡ true = sym (ap (λ (x : Shape). sound s x (piecesAt 9 l o)) e) ∙ g in
+    let p : piecesAt 9 l o ≡ rpp ∷ [] = sole-part l o h w in
+    let f : empty rpp ≡ false = isnt (empty rpp) (sym (ap sole p) ∙ w) in
     subst (λ (x : Shape). Adds (unsaid s o (castParts x (piecesAt 9 l o))) (crowded s x (piecesAt 9 l o)) (withCrLf (contentLines s x (piecesAt 9 l o))) out at r after) (sym e)
-    (subst (λ (ps : List (List ℕ)). Adds (unsaid s o (map copy ps)) false (withCrLf (map rppLine ps)) out at r after) (sym (sole-part l o h (sym (ap (λ (x : Shape). sound s x (piecesAt 9 l o)) e) ∙ g)))
-    (adds-by (sym (then-fine (stoppedAt o (plainly (take (length l - o) (drop o l)))))) refl a))
+    (subst (λ (ps : List (List ℕ)). Adds (unsaid s o (castParts Note103 ps)) (crowded s Note103 ps) (withCrLf (contentLines s Note103 ps)) out at r after) (sym p)
+    (adds-by (sym (then-fine (stoppedAt o (plainly rpp)))) (ap (λ (b : Bool). withCrLf (pick b [] (rppLine rpp ∷ []) ++ [])) (sym f)) a))
+  where
+    rpp : List ℕ
+    rpp = take (length l - o) (drop o l)
 
 pub sole-within : (s : Bool) (l : List ℕ) (i : ℕ) {sh : Shape} → sh ≡ Note103 → sound s sh (piecesAt 9 l i) ≡ true → i ≤ length l
 unfolding sound
@@ -112,7 +121,7 @@ pub record Some (ls : List (List ℕ)) : Type 0 where
   pub more : List (List ℕ)
   pub is : ls ≡ one ∷ more
 
-some-behind : (ks ls : List (List ℕ)) → Some ls → Some (ks ++ ls)
+pub some-behind : (ks ls : List (List ℕ)) → Some ls → Some (ks ++ ls)
 some-behind [] ls h = h
 some-behind (k ∷ ks) ls h = record { one = k; more = ks ++ ls; is = refl }
 
@@ -127,6 +136,9 @@ some-details p least text e = go (sizeFor p least text) refl e
     go size.Unfit f g = absurd (true≢false g)
     go (size.Bytes n) f g = let w = fitted p least text n f in subst (λ (a : Fit (List (List ℕ))). Some (marked (layout p) (layouts.fitLines a))) (sym (w .is)) (by (w .division))
 
+pub some-laid : (s : Bool) (p : DetailsField) (front text : List ℕ) → not (fitsIn s p front text) ≡ false → Some (laidLines s p front text)
+some-laid s p front text c = some-details p (length front) (front ++ bankOf s text) (sym (twice-not (isUnfit (sizeFor p (length front) (front ++ bankOf s text)))) ∙ c)
+
 content-some : (s : Bool) (sh : Shape) (ps : List (List ℕ)) → RightParts s sh ps → crowded s sh ps ≡ false → Some (contentLines s sh ps)
 unfolding crowded contentLines cast
 content-some s _ _ (plain p ps e g) c = record { one = p; more = map (lineFor s) (map copy ps); is = refl }
@@ -137,13 +149,13 @@ content-some s _ _ (payer p ps e g f) c = go (begins 47 p)
     go true = record { one = p; more = map (lineFor s) (taxed ps); is = refl }
     go false = record { one = lineFor s (pick (looksTax p) (copy p) (taxName p)); more = map (lineFor s) (map name ps); is = refl }
 content-some s _ _ (payee p ps e g f) c = record { one = lineFor s (pick (begins 47 p) (copy p) (name p)); more = map (lineFor s) (taxed ps); is = refl }
-content-some s _ _ (details vo text e g) c = some-details In70 (codeSize s) (codeAndText s (vo ∷ text ∷ [])) c
-content-some s _ _ (note103 rpp e) c = record { one = rppLine rpp; more = []; is = refl }
+content-some s _ _ (details vo text e g) c = some-laid s In70 (code s vo) text c
+content-some s _ _ (note103 rpp e) c = record { one = rppLine rpp; more = []; is = ap (λ (b : Bool). pick b [] (rppLine rpp ∷ []) ++ []) e }
 content-some s _ _ (note202 rpp vo text e g) c =
-    some-behind (pick (empty rpp) [] (rppLine rpp ∷ [])) (linesFor (noteField rpp) (codeSize s) (codeAndText s (vo ∷ text ∷ []))) (some-details (noteField rpp) (codeSize s) (codeAndText s (vo ∷ text ∷ [])) c)
+    some-behind (rppLines rpp) (laidLines s (noteField rpp) (code s vo) text) (some-laid s (noteField rpp) (code s vo) text c)
 
 -- the field's tag before its lines
-lined-some : (t : List ℕ) (ls : List (List ℕ)) → Some ls → (58 ∷ t ++ 58 ∷ []) ++ withCrLf ls ≡ withCrLf (lined (field t ls))
+pub lined-some : (t : List ℕ) (ls : List (List ℕ)) → Some ls → (58 ∷ t ++ 58 ∷ []) ++ withCrLf ls ≡ withCrLf (lined (field t ls))
 lined-some t ls h = subst (λ (ks : List (List ℕ)). (58 ∷ t ++ 58 ∷ []) ++ withCrLf ks ≡ withCrLf (lined (field t ks))) (sym (h .is)) (go (h .one) (h .more))
   where
     go : (x : List ℕ) (xs : List (List ℕ)) → (58 ∷ t ++ 58 ∷ []) ++ (x ++ 13 ∷ 10 ∷ withCrLf xs) ≡ (58 ∷ t ++ 58 ∷ x) ++ 13 ∷ 10 ∷ withCrLf xs
@@ -216,13 +228,11 @@ pub crowded-cons : (form : Form) (s : Bool) (r : Record) (rs : List Record) → 
 crowded-cons form s (field t ps) rs = refl
 
 abbrev pub bodyOf : Form → Bool → List Record → List ℕ
-bodyOf form s rs = withCrLf (linesOf (spread form s rs)) ++ closing
+bodyOf form s rs = withCrLf (linesOf (spread form s rs))
 
-body-cons : (form : Form) (s : Bool) (r : Record) (rs : List Record) → withCrLf (lined (fieldFor form s r)) ++ bodyOf form s rs ≡ bodyOf form s (r ∷ rs)
+pub body-cons : (form : Form) (s : Bool) (r : Record) (rs : List Record) → withCrLf (lined (fieldFor form s r)) ++ bodyOf form s rs ≡ bodyOf form s (r ∷ rs)
 unfolding spread
-body-cons form s r rs =
-    sym (append-assoc (withCrLf (lined (fieldFor form s r))) (withCrLf (linesOf (spread form s rs))) closing)
-    ∙ ap (λ (x : List ℕ). x ++ closing) (sym (crlf-append (lined (fieldFor form s r)) (linesOf (spread form s rs))))
+body-cons form s r rs = sym (crlf-append (lined (fieldFor form s r)) (linesOf (spread form s rs)))
 
 module _ (form : Form) (g : Bool) (s : List ℕ) (i e : ℕ) (h : i ≤ length s) (q : e ≡ i + countUpTo 10 (drop i s)) (l : i < length s) (b : badSheetLine form g i (piecesAt 10 s i) ≡ Fine) where
   abbrev this : List ℕ
@@ -280,14 +290,59 @@ module _ (form : Form) (g : Bool) (s : List ℕ) (i e : ℕ) (h : i ≤ length s
       (adds-by stops-here (body-cons form g (recordOf this) rest)
       (adds-join i (recordStops form g (recordOf this)) (rule15 form g (e + 1) rest) (recordCrowded form g (recordOf this)) (someCrowded form g rest) (withCrLf (lined (fieldFor form g (recordOf this)))) (bodyOf form g rest) m a d)))
 
+or-none : (b : Bool) → (b || false) ≡ b
+or-none true = refl
+or-none false = refl
+
 -- no record is left
-pub records-end : (form : Form) (g : Bool) (s : List ℕ) (i : ℕ) → i ≤ length s → length s ≤ i → (fit : Bool) {now after : List ℕ} {n : ℕ} {r : Step} → Adds Fine (not fit) closing now n r after
+pub records-end : (form : Form) (g : Bool) (s : List ℕ) (i : ℕ) → i ≤ length s → length s ≤ i → (fit : Bool) {now after : List ℕ} {n : ℕ} {r : Step} → Adds Fine (not fit) [] now n r after
     → Adds (rule15 form g i (recordsAt s i)) (not fit || someCrowded form g (recordsAt s i)) (bodyOf form g (recordsAt s i)) now n r after
 unfolding rule15 spread
 records-end form g s i h k fit {now} {after} {n} {r} a =
     let z : length s ≡ i = omega arith in
-    subst (λ (rs : List Record). Adds (rule15 form g i rs) (not fit || someCrowded form g rs) (bodyOf form g rs) now n r after) (sym (ap (recordsAt s) (sym z) ∙ front-end s)) (subst (λ (b : Bool). Adds Fine b closing now n r after) (sym (or-none (not fit))) a)
+    subst (λ (rs : List Record). Adds (rule15 form g i rs) (not fit || someCrowded form g rs) (bodyOf form g rs) now n r after) (sym (ap (recordsAt s) (sym z) ∙ front-end s)) (subst (λ (b : Bool). Adds Fine b [] now n r after) (sym (or-none (not fit))) a)
+
+-- ---- one record alone, with its LF
+up-take : (c : ℕ) (s : List ℕ) (n : ℕ) → countUpTo c s < n → countUpTo c (take n s) ≡ countUpTo c s
+unfolding countUpTo
+up-take c [] n h = ap (countUpTo c) (take-nil n)
+up-take c (x ∷ s) zero h = absurd (omega arith)
+up-take c (x ∷ s) (suc n) h = go (eqb x c) (up-take c s n) h
   where
-    or-none : (b : Bool) → (b || false) ≡ b
-    or-none true = refl
-    or-none false = refl
+    go : (b : Bool) → (countUpTo c s < n → countUpTo c (take n s) ≡ countUpTo c s) → pick b 0 (suc (countUpTo c s)) < suc n → pick b 0 (suc (countUpTo c (take n s))) ≡ pick b 0 (suc (countUpTo c s))
+    go true f k = refl
+    go false f k = ap suc (f (omega arith))
+
+module _ (form : Form) (g : Bool) (s : List ℕ) (i e : ℕ) (q : e ≡ i + countUpTo 10 (drop i s)) (l : e < length s) (b : good form g (recordOf (take (e - i) (drop i s))) ≡ true) where
+  abbrev one : Record
+  one = recordOf (take (e - i) (drop i s))
+
+  abbrev own : List ℕ
+  own = take (e + 1) s
+
+  own-size : length own ≡ e + 1
+  own-size = length-take-le (e + 1) s (omega arith)
+
+  own-end : e ≡ i + countUpTo 10 (drop i own)
+  own-end = q ∙ ap (λ (n : ℕ). i + n) (sym (ap (countUpTo 10) (drop-take i (e + 1) s) ∙ up-take 10 (drop i s) (e + 1 - i) (omega arith)))
+
+  own-is : recordOf (take (e - i) (drop i own)) ≡ one
+  own-is = ap recordOf (ap (take (e - i)) (drop-take i (e + 1) s) ∙ take-take (e - i) (e + 1 - i) (drop i s) (omega arith))
+
+  pub own-good : badSheetLine form g i (piecesAt 10 own i) ≡ Fine
+  own-good =
+      bad-miss own i e (omega (arith, own-size)) own-end form g (λ z. omega (arith, own-size)) (ap (good form g) own-is ∙ b)
+      ∙ sym (bad-end own (e + 1) form g (omega (arith, own-size)) (omega (arith, own-size)))
+
+  own-list : recordsAt own i ≡ one ∷ []
+  own-list = front-at own i e (omega (arith, own-size)) own-end (omega (arith, own-size)) ∙ ap₂ (λ (r : Record) (rs : List Record). r ∷ rs) own-is (ap (recordsAt own) (sym own-size) ∙ front-end own)
+
+  pub own-put : recordStops form g one ≡ Fine → {out after : List ℕ} {at : ℕ} {r : Step}
+      → Adds (rule15 form g i (recordsAt own i)) (someCrowded form g (recordsAt own i)) (bodyOf form g (recordsAt own i)) out at r after
+      → Adds (recordStops form g one) (recordCrowded form g one) (withCrLf (lined (fieldFor form g one))) out at r after
+  unfolding rule15 spread
+  own-put f {out} {after} {at} {r} a =
+      let z : rule15 form g i (one ∷ []) ≡ recordStops form g one = sym (rule15-cons form g i one []) ∙ ap (λ (v : Verdict). then (movedBy i v) (rule15 form g (nextRecord i one) [])) f ∙ sym f in
+      subst (λ (c : Bool). Adds (recordStops form g one) c (withCrLf (lined (fieldFor form g one))) out at r after) (sym (crowded-cons form g one []) ∙ or-none (recordCrowded form g one))
+      (adds-by z (sym (body-cons form g one []) ∙ append-nil (withCrLf (lined (fieldFor form g one))))
+      (subst (λ (rs : List Record). Adds (rule15 form g i rs) (someCrowded form g rs) (bodyOf form g rs) out at r after) own-list a))

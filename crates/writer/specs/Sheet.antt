@@ -1,7 +1,7 @@
--- What a sheet is written as: 15, 16, the message, then 17 and the message's own refusal (N15-N17, O2, D2d, D3e). Assumes nothing.
+-- What a sheet is written as: 15, 16, the message, then 17 and the message's own refusal (N15-N17, O2, B6-B9, D2d, D3e). Assumes nothing.
 use Prim.Native.Nat.{ℕ, _+_}
 use mathlib.Core.Path.{_≡_}
-use mathlib.Core.Bool.{Bool, true, false, _||_}
+use mathlib.Core.Bool.{Bool, false, not, _||_}
 use mathlib.Core.List.{List, [], _∷_, _++_, tail}
 use lib.ListN.{length}
 use Rattle.base.specs.Choice.{pick}
@@ -15,19 +15,19 @@ use Rattle.fields.specs.Frame.{limit}
 use Rattle.types.specs.declared.Form.{Form}
 use Rattle.types.specs.Walk.{rule18}
 use Rattle.roles.specs.Role.{shapeOf, Part, lineOf}
-use Rattle.roles.specs.Speech.{codeSize}
 use Rattle.roles.specs.declared.Shape.{Shape}
 use Rattle.roles.specs.declared.Shape.the-variants.{Plain, Payer, Payee, Agent, Details, Note103, Note202}
 use Rattle.message.specs.Message.{verdictOf}
 use Rattle.records.specs.Record.{Record, records}
 use Rattle.records.specs.Places.{nextRecord}
 use Rattle.records.specs.Rule19.{sheetForm, sheetSign, rule19}
+use Rattle.types.specs.Sign.{firstLine}
+use Rattle.details.specs.declared.DetailsField.{DetailsField}
 use Rattle.details.specs.declared.DetailsField.the-variants.{In70}
-use Rattle.details.specs.declared.Size.{Size}
-use Rattle.details.specs.declared.Size.the-variants as size
-use Rattle.details.specs.Layouts.{sizeFor}
-use Rattle.details.specs.Front.{noteField}
-use Rattle.writer.specs.Spread.{saidPart, castParts, codeAndText, spread}
+use Rattle.details.specs.Front.{code, noteField}
+use Rattle.runon.specs.Run.{fitsIn}
+use Rattle.runon.specs.RunOn.{secondPart, runOn}
+use Rattle.writer.specs.Spread.{saidPart, castParts, spread}
 
 -- ---- 15: the first byte of the sheet that can't be written
 -- a text whose first byte is at o stops
@@ -46,18 +46,21 @@ rule15 form s o [] = Fine
 rule15 form s o (field t ps ∷ rs) = then (unsaid s (o + length t + 1) (castParts (shapeOf form t) ps)) (rule15 form s (nextRecord o (field t ps)) rs)
 
 -- ---- 16: details that don't go into the lines of their field
-abbrev pub isUnfit : Size → Bool
-isUnfit (size.Bytes n) = false
-isUnfit size.Unfit = true
+abbrev pub crowdedDetails : Bool → DetailsField → List (List ℕ) → Bool
+crowdedDetails s into ps = not (fitsIn s into (code s (firstLine ps)) (secondPart ps))
 
-abbrev pub crowdedNote : Bool → List (List ℕ) → Bool
-crowdedNote s [] = false
-crowdedNote s (r ∷ ps) = isUnfit (sizeFor (noteField r) (codeSize s) (codeAndText s ps))
+abbrev pub crowdedRest : Bool → DetailsField → List (List ℕ) → Bool
+crowdedRest s into [] = false
+crowdedRest s into (t ∷ ts) = not (fitsIn s into [] t)
+
+abbrev pub crowdedNote : (DetailsField → List (List ℕ) → Bool) → List (List ℕ) → Bool
+crowdedNote behind [] = false
+crowdedNote behind (r ∷ ps) = behind (noteField r) ps
 
 unfoldable pub crowded : Bool → Shape → List (List ℕ) → Bool
-crowded s Details ps = isUnfit (sizeFor In70 (codeSize s) (codeAndText s ps))
-crowded s Note202 ps = crowdedNote s ps
-crowded s Note103 ps = false
+crowded s Details ps = crowdedDetails s In70 ps
+crowded s Note202 ps = crowdedNote (crowdedDetails s) ps
+crowded s Note103 ps = crowdedNote (crowdedRest s) ps
 crowded s Plain ps = false
 crowded s Payer ps = false
 crowded s Payee ps = false
@@ -67,12 +70,13 @@ abbrev pub someCrowded : Form → Bool → List Record → Bool
 someCrowded form s [] = false
 someCrowded form s (field t ps ∷ rs) = crowded s (shapeOf form t) ps || someCrowded form s rs
 
+-- of the records behind the first as they run on (B6-B9)
 unfoldable pub rule16 : Form → Bool → List Record → Verdict
-rule16 form s rs = pick (someCrowded form s rs) (Broken 16 0) Fine
+rule16 form s rs = pick (someCrowded form s (runOn form s rs)) (Broken 16 0) Fine
 
--- ---- the message: the fields of the records behind the first
+-- ---- the message: the fields of these records
 unfoldable pub fieldsOf : List ℕ → List Field
-fieldsOf s = spread (sheetForm s) (sheetSign s) (tail (records s))
+fieldsOf s = spread (sheetForm s) (sheetSign s) (runOn (sheetForm s) (sheetSign s) (tail (records s)))
 
 unfoldable pub messageFor : List ℕ → List ℕ
 messageFor s = message (fieldsOf s)

@@ -1,28 +1,24 @@
 -- What the functions say that put a sheet's message into room (S6, S7, N15-N17). Assumes nothing.
 use Prim.Native.Nat.{ℕ, _+_, _≤_}
 use mathlib.Core.Path.{_≡_}
-use mathlib.Core.Bool.{Bool, true, false}
+use mathlib.Core.Bool.{Bool, true, false, not}
 use mathlib.Core.List.{List, map}
 use lib.ListN.{length}
 use lib.Seq.{sets}
 use Rattle.types.specs.declared.Form.{Form}
-use Rattle.base.specs.Rules.{first}
-use Rattle.base.specs.Calls.{over, Gives}
+use Rattle.base.specs.Calls.{Gives}
 use Rattle.base.specs.declared.Verdict.{Verdict}
 use Rattle.base.specs.declared.Verdict.the-variants.{Fine, Broken}
 use Rattle.base.specs.declared.Outcome.{Outcome}
 use Rattle.fields.specs.Field.{field, withCrLf}
+use Rattle.alphabets.specs.Best.{writing}
 use Rattle.roles.specs.Role.{shapeOf}
-use Rattle.roles.specs.Speech.{codeSize}
 use Rattle.records.specs.Record.{Record, recordOf, front}
 use Rattle.records.specs.Found.{piecesAt}
-use Rattle.records.specs.Rule19.{sheetForm, sheetSign}
 use Rattle.details.specs.declared.DetailsField.{DetailsField}
-use Rattle.details.specs.Layouts.{linesFor, sizeFor}
-use Rattle.writer.specs.Spread.{coded, castParts, codeAndText}
-use Rattle.writer.specs.Sheet.{isUnfit, unsaid, crowded, messageFor, sheetRules, handRules}
-use Rattle.writer.specs.declared.Build.{Build}
-use Rattle.writer.specs.declared.Build.the-variants.{Stopped, Whole}
+use Rattle.runon.specs.Run.{fitsIn}
+use Rattle.writer.specs.Spread.{coded, castParts, laidLines, detailsLines}
+use Rattle.writer.specs.Sheet.{stoppedAt, unsaid, crowdedDetails, crowded, handRules}
 use Rattle.writer.specs.declared.Step.{Step}
 use Rattle.writer.specs.declared.Step.the-variants.{Stuck, Unfit, Put}
 use Rattle.base.specs.Quoted.{ascii}
@@ -46,9 +42,12 @@ pub data Within : Step → ℕ → ℕ → Type 0 where
   unfitIn : {k n : ℕ} → Within Unfit k n
   putIn : {m k n : ℕ} → m ≤ n → Within (Put m) k n
 
--- ---- details: VO digits, the first at o, and a text, as the lines of their field
+-- ---- details: a text behind its front, its first byte at o, as the lines of its field; VO digits, the first at o, and a text
+abbrev pub AddsLaid : Bool → DetailsField → ℕ → List ℕ → List ℕ → List ℕ → ℕ → Step → List ℕ → Type 0
+AddsLaid s p o front text out at r after = Adds (stoppedAt o (writing s text)) (not (fitsIn s p front text)) (withCrLf (laidLines s p front text)) out at r after
+
 abbrev pub AddsDetails : Bool → DetailsField → ℕ → List (List ℕ) → List ℕ → ℕ → Step → List ℕ → Type 0
-AddsDetails s p o ps out at r after = Adds (unsaid s o (coded ps)) (isUnfit (sizeFor p (codeSize s) (codeAndText s ps))) (withCrLf (linesFor p (codeSize s) (codeAndText s ps))) out at r after
+AddsDetails s p o ps out at r after = Adds (unsaid s o (coded ps)) (crowdedDetails s p ps) (withCrLf (detailsLines s p ps)) out at r after
 
 -- ---- records
 abbrev pub recordStops : Form → Bool → Record → Verdict
@@ -60,15 +59,6 @@ recordCrowded form s (field t ps) = crowded s (shapeOf form t) ps
 -- the records from a place on
 abbrev pub recordsAt : List ℕ → ℕ → List Record
 recordsAt s i = map recordOf (front (piecesAt (ascii "\n") s i))
-
--- ---- the sheet built: a refusal of the sheet; or its type, its sign and the size of its message, which then stands in room that has as much
-abbrev pub builtBy : Verdict → Form → Bool → ℕ → Build
-builtBy (Broken n p) form s k = Stopped n p
-builtBy Fine form s k = Whole form s k
-
-pub record Builds (s out : List ℕ) (r : Build) (after : List ℕ) : Type 0 where
-  pub answers : r ≡ builtBy (first (sheetRules s)) (sheetForm s) (sheetSign s) (length (messageFor s))
-  pub fills : first (sheetRules s) ≡ Fine → length (messageFor s) ≤ length out → after ≡ over (messageFor s) out
 
 -- ---- the message handed over
 abbrev pub Hands : Form → List ℕ → List ℕ → Outcome → List ℕ → Type 0

@@ -2,23 +2,27 @@
 ghost use mathlib.Core.Path.{_≡_};
 ghost use mathlib.Core.Bool.{true};
 ghost use mathlib.Core.List.{[], _∷_, _++_};
-ghost use Prim.Native.Nat.{_+_, _*_, _≤_};
+ghost use Prim.Native.Nat.{_+_, _*_, _-_, _≤_};
 ghost use lib.ListN.{length};
-ghost use Rattle.base.specs.Calls.{Puts};
+ghost use Rattle.base.specs.Calls.{over, Puts};
 ghost use Rattle.base.specs.declared.Verdict.the-variants.{Fine};
-ghost use Rattle.fields.specs.Field.{withCrLf, lined, message};
+ghost use Rattle.fields.specs.Field.{withCrLf, lined, linesOf, message};
 ghost use Rattle.records.specs.Record.{recordOf};
 ghost use Rattle.records.specs.Found.{piecesAt, badSheetLine};
-ghost use Rattle.records.specs.Rule19.{good, sound};
+ghost use Rattle.records.specs.Rule19.{good, sound, sheetForm, sheetSign, verdict19And18};
 ghost use Rattle.writer.specs.Spread.{castParts, contentLines, fieldFor, spread};
-ghost use Rattle.writer.specs.Sheet.{unsaid, crowded, rule15, someCrowded};
-ghost use Rattle.writer.specs.Steps.{Adds, Within, near, recordStops, recordCrowded, recordsAt, Builds};
+ghost use Rattle.writer.specs.Sheet.{unsaid, crowded, rule15, someCrowded, messageFor};
+ghost use Rattle.writer.specs.Steps.{Adds, Within, near, recordStops, recordCrowded, recordsAt};
+ghost use Rattle.writer.specs.Runs.{Builds, Told};
 use super::Build;
+use super::Cutting;
 use super::Step;
+use super::cuts::find_cut;
 use super::notes::put_note;
 use super::notes::put_rpp;
 use super::parts::put_parts;
 use super::purposes::put_purpose;
+use super::runs::put_run;
 use base::Verdict;
 use base::bytes::put;
 use base::marks::mark_at;
@@ -47,7 +51,7 @@ fn put_content(shape: Shape, sign: bool, l: &[u8], i: usize, out: &mut [u8], at:
 }
 
 // Colon, tag, colon: the place behind.
-fn put_tag(t: &[u8], out: &mut [u8], at: usize) -> usize
+pub(crate) fn put_tag(t: &[u8], out: &mut [u8], at: usize) -> usize
     requires { ⌜ (length (now t) ≤ 10000) × (at ≤ near) ⌝ }
     ensures { λ r. ⌜ Puts (58 ∷ now (t .entry) ++ 58 ∷ []) (now (out .entry)) at r (now (out .exit)) ⌝ }
 {
@@ -69,15 +73,21 @@ pub(crate) fn put_record(form: Form, sign: bool, l: &[u8], out: &mut [u8], at: u
     put_content(shape, sign, l, t + 1, out, n)
 }
 
-// The message of a sheet that 19 lets pass: the records behind the first, which has six bytes.
-fn put_message(s: &[u8], form: Form, sign: bool, out: &mut [u8]) -> Step
-    requires { ⌜ (length (now s) ≤ 10000) × (7 ≤ length (now s)) × (badSheetLine form sign 7 (piecesAt 10 (now s) 7) ≡ Fine) ⌝ }
-    ensures { λ r. ⌜ Adds (rule15 form sign 7 (recordsAt (now (s .entry)) 7)) (someCrowded form sign (recordsAt (now (s .entry)) 7)) (message (spread form sign (recordsAt (now (s .entry)) 7))) (now (out .entry)) 0 r (now (out .exit)) ⌝ }
+// The fields of the records from a place on that 19 lets pass, one behind another.
+pub(crate) fn put_records(
+    s: &[u8],
+    from: usize,
+    form: Form,
+    sign: bool,
+    out: &mut [u8],
+    at: usize,
+) -> Step
+    requires { ⌜ (length (now s) ≤ 10000) × (from ≤ length (now s)) × (at + 10000000 ≤ near) × (badSheetLine form sign from (piecesAt 10 (now s) from) ≡ Fine) ⌝ }
+    ensures { λ r. ⌜ Adds (rule15 form sign from (recordsAt (now (s .entry)) from)) (someCrowded form sign (recordsAt (now (s .entry)) from)) (withCrLf (linesOf (spread form sign (recordsAt (now (s .entry)) from)))) (now (out .entry)) at r (now (out .exit)) × Within r 10000 (at + 400 * (length (now (s .entry)) - from)) ⌝ }
 {
-    put(out, 0, b"{4:\r\n");
     let mut fit = true;
-    let mut n = 5;
-    let mut i = 7;
+    let mut n = at;
+    let mut i = from;
     while i < s.len() {
         let e = mark_at(b'\n', s, i);
         match put_record(form, sign, &s[i..e], out, n) {
@@ -87,11 +97,65 @@ fn put_message(s: &[u8], form: Form, sign: bool, out: &mut [u8]) -> Step
         }
         i = e + 1;
     }
-    put(out, n, b"-}");
     if !fit {
         return Step::Unfit;
     }
+    Step::Put(n)
+}
+
+// The message of a sheet that 19 lets pass: the records behind the first, which has six bytes.
+fn put_message(s: &[u8], form: Form, sign: bool, out: &mut [u8]) -> Step
+    requires { ⌜ (length (now s) ≤ 10000) × (7 ≤ length (now s)) × (badSheetLine form sign 7 (piecesAt 10 (now s) 7) ≡ Fine) ⌝ }
+    ensures { λ r. ⌜ Adds (rule15 form sign 7 (recordsAt (now (s .entry)) 7)) (someCrowded form sign (recordsAt (now (s .entry)) 7)) (message (spread form sign (recordsAt (now (s .entry)) 7))) (now (out .entry)) 0 r (now (out .exit)) ⌝ }
+{
+    put(out, 0, b"{4:\r\n");
+    let r = put_records(s, 7, form, sign, out, 5);
+    let Step::Put(n) = r else {
+        return r;
+    };
+    put(out, n, b"-}");
     Step::Put(n + 2)
+}
+
+// The message of a sheet whose details don't fit their lines: they may run on.
+fn build_on(sheet: &[u8], form: Form, sign: bool, out: &mut [u8]) -> Build
+    requires { ⌜ (length (now sheet) ≤ 10000) × (form ≡ sheetForm (now sheet)) × (sign ≡ sheetSign (now sheet)) × (verdict19And18 (now sheet) ≡ Fine) ⌝ }
+    requires { ⌜ (rule15 form sign 7 (recordsAt (now sheet) 7) ≡ Fine) × (someCrowded form sign (recordsAt (now sheet) 7) ≡ true) ⌝ }
+    ensures { λ r. ⌜ Builds (now (sheet .entry)) (now (out .entry)) r (now (out .exit)) ⌝ }
+{
+    let stopped = Build::Stopped {
+        number: 16,
+        place: 0,
+    };
+    let Form::Mt103 = form else {
+        return stopped;
+    };
+    let cutting = find_cut(sheet, sign);
+    let Cutting::At {
+        start,
+        cut,
+        end,
+        new,
+    } = cutting
+    else {
+        return stopped;
+    };
+    let run = put_run(
+        sheet,
+        sign,
+        &sheet[start..cut],
+        &sheet[cut..end],
+        start,
+        new,
+        0,
+        out,
+    );
+    Build::Whole {
+        form,
+        sign,
+        cutting,
+        size: run.at,
+    }
 }
 
 // A sheet judged, and its message built in the room, as far as that goes.
@@ -116,14 +180,41 @@ pub(crate) fn build(sheet: &[u8], out: &mut [u8]) -> Build
             number: 15,
             place: k,
         },
-        Step::Unfit => Build::Stopped {
-            number: 16,
-            place: 0,
-        },
+        Step::Unfit => build_on(sheet, form, sign, out),
         Step::Put(n) => Build::Whole {
             form,
             sign,
+            cutting: Cutting::Nowhere,
             size: n,
         },
+    }
+}
+
+// The message of a sheet that no rule refuses, put into room that has enough.
+pub(crate) fn put_built(sheet: &[u8], form: Form, sign: bool, cutting: Cutting, out: &mut [u8])
+    requires { ⌜ Told (now sheet) form sign cutting × (length (messageFor (now sheet)) ≤ length (now out)) ⌝ }
+    ensures { λ _. ⌜ now (out .exit) ≡ over (messageFor (now (sheet .entry))) (now (out .entry)) ⌝ }
+{
+    match cutting {
+        Cutting::Nowhere => {
+            put_message(sheet, form, sign, out);
+        }
+        Cutting::At {
+            start,
+            cut,
+            end,
+            new,
+        } => {
+            put_run(
+                sheet,
+                sign,
+                &sheet[start..cut],
+                &sheet[cut..end],
+                start,
+                new,
+                0,
+                out,
+            );
+        }
     }
 }

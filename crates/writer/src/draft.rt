@@ -2,6 +2,7 @@
 ghost use Rattle.writer.specs.Sheet.{DraftTo};
 use super::Build;
 use super::built::build;
+use super::built::put_built;
 use base::Outcome;
 
 // The message built for a sheet. It is measured first, with no room to speak of, so that what stops half way has written nothing.
@@ -12,8 +13,9 @@ pub fn draft(sheet: &[u8], out: &mut [u8]) -> Outcome
     match build(sheet, &mut none) {
         Build::Stopped { number, place } => Outcome::Refused { number, place },
         Build::Whole {
-            form: _,
-            sign: _,
+            form,
+            sign,
+            cutting,
             size,
         } => {
             if out.len() < size {
@@ -22,7 +24,7 @@ pub fn draft(sheet: &[u8], out: &mut [u8]) -> Outcome
                     place: size,
                 };
             }
-            build(sheet, out);
+            put_built(sheet, form, sign, cutting, out);
             Outcome::Done(size)
         }
     }

@@ -4,14 +4,18 @@ ghost use mathlib.Core.Bool.{false};
 ghost use Prim.Native.Nat.{_≤_};
 ghost use lib.ListN.{length};
 ghost use Rattle.base.specs.declared.Verdict.the-variants.{Fine};
+ghost use Rattle.records.specs.Places.{startsOf};
 ghost use Rattle.records.specs.Found.{piecesAt, badSheetLine};
+ghost use Rattle.writer.specs.Spread.{spread};
 ghost use Rattle.writer.specs.Sheet.{rule15, someCrowded};
 ghost use Rattle.writer.specs.Steps.{recordsAt};
 ghost use Rattle.writer.specs.Holder.{liesIn, holderIn, holderOf};
 use super::Build;
+use super::Cutting;
 use super::Step;
 use super::built::build;
 use super::built::put_record;
+use super::runs::put_run;
 use base::marks::mark_at;
 use types::Form;
 
@@ -22,7 +26,7 @@ pub enum Holder {
 }
 
 // The place stands in what goes from one place up to another.
-fn is_between(place: usize, from: usize, to: usize) -> bool
+pub(crate) fn is_between(place: usize, from: usize, to: usize) -> bool
     ensures { λ r. ⌜ r ≡ liesIn place from to ⌝ }
 {
     if place < from {
@@ -34,7 +38,7 @@ fn is_between(place: usize, from: usize, to: usize) -> bool
 // Of a sheet that no rule refuses: its fields one behind the other, with no room to speak of.
 fn find_holder(s: &[u8], form: Form, sign: bool, place: usize) -> Holder
     requires { ⌜ (length (now s) ≤ 10000) × (7 ≤ length (now s)) × (badSheetLine form sign 7 (piecesAt 10 (now s) 7) ≡ Fine) × (rule15 form sign 7 (recordsAt (now s) 7) ≡ Fine) × (someCrowded form sign (recordsAt (now s) 7) ≡ false) ⌝ }
-    ensures { λ r. ⌜ r ≡ holderIn form sign place 5 7 (recordsAt (now (s .entry)) 7) ⌝ }
+    ensures { λ r. ⌜ r ≡ holderIn place 5 (startsOf 7 (recordsAt (now (s .entry)) 7)) (spread form sign (recordsAt (now (s .entry)) 7)) ⌝ }
 {
     let mut none = [0u8; 1];
     let mut n = 5;
@@ -61,10 +65,31 @@ pub fn record_at(sheet: &[u8], place: usize) -> Holder
     let Build::Whole {
         form,
         sign,
+        cutting,
         size: _,
     } = build(sheet, &mut none)
     else {
         return Holder::Nothing;
     };
-    find_holder(sheet, form, sign, place)
+    match cutting {
+        Cutting::Nowhere => find_holder(sheet, form, sign, place),
+        Cutting::At {
+            start,
+            cut,
+            end,
+            new,
+        } => {
+            let run = put_run(
+                sheet,
+                sign,
+                &sheet[start..cut],
+                &sheet[cut..end],
+                start,
+                new,
+                place,
+                &mut none,
+            );
+            run.holder
+        }
+    }
 }

@@ -2,11 +2,13 @@
 use types::Form;
 
 mod built;
+mod cuts;
 pub mod draft;
 pub mod holder;
 mod notes;
 mod parts;
 mod purposes;
+mod runs;
 mod texts;
 pub mod to_message;
 
@@ -18,8 +20,27 @@ pub(crate) enum Step {
     Put(usize),
 }
 
-// What building a sheet's message comes to: a refusal of the sheet; or its type, its sign and the size of its message.
+// Where the text of 70 is cut, by places of the sheet, and whether a new 72 is to come for its rest; or it is not cut.
+pub(crate) enum Cutting {
+    Nowhere,
+    At {
+        start: usize,
+        cut: usize,
+        end: usize,
+        new: bool,
+    },
+}
+
+// What building a sheet's message comes to: a refusal of the sheet; or its type, its sign, the cut of its details and the size of its message.
 pub(crate) enum Build {
-    Stopped { number: u32, place: usize },
-    Whole { form: Form, sign: bool, size: usize },
+    Stopped {
+        number: u32,
+        place: usize,
+    },
+    Whole {
+        form: Form,
+        sign: bool,
+        cutting: Cutting,
+        size: usize,
+    },
 }

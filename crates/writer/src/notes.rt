@@ -10,8 +10,8 @@ ghost use Rattle.roles.specs.declared.Shape.the-variants.{Note202};
 ghost use Rattle.records.specs.Found.{piecesAt};
 ghost use Rattle.records.specs.Rule19.{rppAndDetailed};
 ghost use Rattle.details.specs.Front.{rppLine};
-ghost use Rattle.writer.specs.Spread.{castParts, noteLines};
-ghost use Rattle.writer.specs.Sheet.{stoppedAt, unsaid, crowdedNote};
+ghost use Rattle.writer.specs.Spread.{castParts, detailsLines, noteLines};
+ghost use Rattle.writer.specs.Sheet.{stoppedAt, unsaid, crowdedDetails, crowdedNote};
 ghost use Rattle.writer.specs.Steps.{Adds, Within, near};
 use super::Step;
 use super::purposes::put_purpose;
@@ -32,7 +32,7 @@ pub(crate) fn put_rpp(l: &[u8], i: usize, e: usize, out: &mut [u8], at: usize) -
 // The parts of 72 in a 202.
 pub(crate) fn put_note(sign: bool, l: &[u8], i: usize, out: &mut [u8], at: usize) -> Step
     requires { ⌜ (length (now l) ≤ 10000) × (at + 100000 ≤ near) × (rppAndDetailed (piecesAt 9 (now l) i) ≡ true) ⌝ }
-    ensures { λ r. ⌜ Adds (unsaid sign i (castParts Note202 (piecesAt 9 (now (l .entry)) i))) (crowdedNote sign (piecesAt 9 (now (l .entry)) i)) (withCrLf (noteLines sign (piecesAt 9 (now (l .entry)) i))) (now (out .entry)) at r (now (out .exit)) × Within r (length (now (l .entry))) (at + 4 * length (now (l .entry)) + 300) ⌝ }
+    ensures { λ r. ⌜ Adds (unsaid sign i (castParts Note202 (piecesAt 9 (now (l .entry)) i))) (crowdedNote (crowdedDetails sign) (piecesAt 9 (now (l .entry)) i)) (withCrLf (noteLines (detailsLines sign) (piecesAt 9 (now (l .entry)) i))) (now (out .entry)) at r (now (out .exit)) × Within r (length (now (l .entry))) (at + 4 * length (now (l .entry)) + 300) ⌝ }
 {
     let e = mark_at(b'\t', l, i);
     if e == i {

@@ -36,6 +36,7 @@ pub fn to_message(sheet: &[u8], out: &mut [u8]) -> Outcome
         Build::Whole {
             form,
             sign: _,
+            cutting: _,
             size,
         } => {
             if out.len() < size {

@@ -1,5 +1,5 @@
--- The message built for a sheet that 19, 15 and 16 let pass: 2, 3 and 4 let it pass, its fields are the fields made of the records, and its sign
--- is the sheet's (F1-F6, S8, T1, D2d). Assumes nothing.
+-- The message built for a sheet that 19, 15 and 16 let pass: 2, 3 and 4 let it pass, its fields are the fields made of the records as they run on,
+-- and its sign is the sheet's (F1-F6, S8, T1, B6-B9, D2d). Assumes nothing.
 use Prim.Native.Nat.{ℕ}
 use mathlib.Core.Path.{_≡_, refl, sym, ap, _∙_}
 use mathlib.Core.Bool.{Bool, true, false}
@@ -11,6 +11,7 @@ use Rattle.base.specs.declared.Verdict.the-variants.{Fine}
 use Rattle.base.proofs.Bools.{left, right, both, isnt, all-append}
 use Rattle.base.proofs.ByteLaws.{digit-set, capital-set, same-is}
 use Rattle.base.specs.Rules.{Clean}
+use Rattle.base.specs.Examples.{AllHold}
 use Rattle.fields.specs.Field.{Field, field, linesOf, fields}
 use Rattle.fields.specs.Frame.{rule2, rule3, rule4}
 use Rattle.fields.specs.Shapes.{shaped, proper}
@@ -25,14 +26,17 @@ use Rattle.roles.specs.Role.{shapeOf, copy, cast}
 use Rattle.roles.specs.declared.Shape.{Shape}
 use Rattle.roles.specs.declared.Shape.the-variants.{Plain}
 use Rattle.records.specs.Record.{Record, records}
-use Rattle.records.specs.Rule19.{good, sheetForm, sheetSign}
+use Rattle.records.specs.Rule19.{good, sheetForm, sheetSign, rule19}
 use Rattle.records.specs.Sentences.{SoundSheet}
-use Rattle.records.proofs.RuleLaws.{fine-sound, sound-right}
+use Rattle.records.proofs.RuleLaws.{fine-sound}
 use Rattle.records.proofs.SoundLaws.{sound-each, sound-sign}
+use Rattle.runon.specs.RunOn.{runOn}
 use Rattle.writer.specs.Spread.{lineFor, contentLines, fieldFor, spread}
-use Rattle.writer.specs.Sheet.{crowded, fieldsOf, messageFor, sheetRules}
+use Rattle.writer.specs.Sheet.{rule15, crowded, someCrowded, fieldsOf, messageFor, sheetRules}
 use Rattle.writer.proofs.RuleLaws.{sheet-rules}
-use Rattle.written.proofs.ReadyLaws.{speaking, roomy, rule15-fine, rule16-fine, Ready, fair-proper, ready-fair}
+use Rattle.written.specs.Sentences.{RunsOn}
+use Rattle.written.proofs.ReadyLaws.{speaking, roomy, rule15-fine, some-roomy, rule16-fine, Ready, fair-proper, ready-fair}
+use Rattle.written.proofs.RunLaws.{RunRight, run-right, sign-run, runs-on}
 
 -- ---- a tag's bytes are of the set
 tag-set : (t : List ℕ) → shaped t ≡ true → all xset t ≡ true
@@ -61,16 +65,12 @@ plain-20 Mt202 = refl
 plain-20 Other = refl
 
 module _ (form : Form) (s : Bool) where
-  one-passes : (r : Record) → good form s r ≡ true → speaking form s r ≡ true → roomy form s r ≡ true → passes form s r
-  one-passes (field t ps) g a u =
-      (left (shaped t) _ g, record { is-right = sound-right s (shapeOf form t) ps (right (shaped t) _ g); says = a; fits = isnt (crowded s (shapeOf form t) ps) u })
+  one-passes : (r : Record) → RunRight form s r → roomy form s r ≡ true → passes form s r
+  one-passes (field t ps) w u = (w .0, record { is-right = w .1; says = w .2; fits = isnt (crowded s (shapeOf form t) ps) u })
 
-  pub all-pass : (rs : List Record) → all (good form s) rs ≡ true → all (speaking form s) rs ≡ true → all (roomy form s) rs ≡ true → AllPass form s rs
-  all-pass [] g a u = tt
-  all-pass (r ∷ rs) g a u = (
-    one-passes r (left (good form s r) _ g) (left (speaking form s r) _ a) (left (roomy form s r) _ u),
-    all-pass rs (right (good form s r) _ g) (right (speaking form s r) _ a) (right (roomy form s r) _ u),
-  )
+  pub all-pass : (rs : List Record) → AllHold (RunRight form s) rs → all (roomy form s) rs ≡ true → AllPass form s rs
+  all-pass [] w u = tt
+  all-pass (r ∷ rs) w u = (one-passes r (w .0) (left (roomy form s r) _ u), all-pass rs (w .1) (right (roomy form s r) _ u))
 
   -- ---- the fields are proper, and their lines of the set
   all-proper : (rs : List Record) → AllPass form s rs → all proper (map (fieldFor form s) rs) ≡ true
@@ -114,34 +114,54 @@ module _ (form : Form) (s : Bool) where
       go true h e = ap (λ (k : List (List ℕ)). begins 43 (firstLine k)) (lines-20 t ps h)
       go false h e = e
 
--- ---- a sheet that no rule before 17 refuses
-module _ (s : List ℕ) (c : Clean (sheetRules s)) where
-  is-sound : SoundSheet s
-  is-sound = fine-sound s (sheet-rules s c .sound)
+-- ---- the records behind the first of a sheet that 19 lets pass are right, of one that 15 lets pass can be written
+module _ (s : List ℕ) where
+  sound-tail : (h : SoundSheet s) → tail (records s) ≡ h .behind
+  sound-tail h = ap tail (h .list)
 
-  behind-is : tail (records s) ≡ is-sound .behind
-  behind-is = ap tail (is-sound .list)
+  pub fine-good : rule19 s ≡ Fine → all (good (sheetForm s) (sheetSign s)) (tail (records s)) ≡ true
+  fine-good e = let h = fine-sound s e in ap (all (good (sheetForm s) (sheetSign s))) (sound-tail h) ∙ sound-each s h
 
-  spoken-all : all (speaking (sheetForm s) (sheetSign s)) (tail (records s)) ≡ true
-  spoken-all = go (records s) (rule15-fine (sheetSign s) (sheetForm s) 0 (records s) .0 (sheet-rules s c .texts))
+  pub fine-said : rule15 (sheetForm s) (sheetSign s) 0 (records s) ≡ Fine → all (speaking (sheetForm s) (sheetSign s)) (tail (records s)) ≡ true
+  fine-said e = go (records s) (rule15-fine (sheetSign s) (sheetForm s) 0 (records s) .0 e)
     where
       go : (rs : List Record) → all (speaking (sheetForm s) (sheetSign s)) rs ≡ true → all (speaking (sheetForm s) (sheetSign s)) (tail rs) ≡ true
       go [] e = refl
       go (r ∷ rs) e = right (speaking (sheetForm s) (sheetSign s) r) _ e
 
-  -- each record behind the first is right, can be written and fits
-  pub records-pass : AllPass (sheetForm s) (sheetSign s) (tail (records s))
-  records-pass =
-      all-pass (sheetForm s) (sheetSign s) (tail (records s)) (ap (all (good (sheetForm s) (sheetSign s))) behind-is ∙ sound-each s is-sound) spoken-all
-      (rule16-fine (sheetForm s) (sheetSign s) (tail (records s)) (sheet-rules s c .details))
+-- ---- a sheet that no rule before 17 refuses
+module _ (s : List ℕ) (c : Clean (sheetRules s)) where
+  is-sound : SoundSheet s
+  is-sound = fine-sound s (sheet-rules s c .sound)
+
+  sound-all : all (good (sheetForm s) (sheetSign s)) (tail (records s)) ≡ true
+  sound-all = fine-good s (sheet-rules s c .sound)
+
+  spoken-all : all (speaking (sheetForm s) (sheetSign s)) (tail (records s)) ≡ true
+  spoken-all = fine-said s (sheet-rules s c .texts)
+
+  -- the records behind the first as the fields are made of them
+  abbrev pub runsAs : List Record
+  runsAs = runOn (sheetForm s) (sheetSign s) (tail (records s))
+
+  roomy-all : all (roomy (sheetForm s) (sheetSign s)) runsAs ≡ true
+  roomy-all = rule16-fine (sheetForm s) (sheetSign s) (tail (records s)) (sheet-rules s c .details)
+
+  -- they are the sheet's own, or the text of 70 is cut
+  pub built-runs : RunsOn (sheetForm s) (sheetSign s) (tail (records s)) runsAs
+  built-runs = runs-on (sheetForm s) (sheetSign s) (tail (records s)) sound-all spoken-all (isnt (someCrowded (sheetForm s) (sheetSign s) runsAs) (some-roomy (sheetForm s) (sheetSign s) runsAs ∙ roomy-all))
+
+  -- each is right, can be written and fits
+  pub records-pass : AllPass (sheetForm s) (sheetSign s) runsAs
+  records-pass = all-pass (sheetForm s) (sheetSign s) runsAs (run-right (sheetForm s) (sheetSign s) (tail (records s)) sound-all spoken-all) roomy-all
 
   pub fields-proper : all proper (fieldsOf s) ≡ true
   unfolding fieldsOf spread
-  fields-proper = all-proper (sheetForm s) (sheetSign s) (tail (records s)) records-pass
+  fields-proper = all-proper (sheetForm s) (sheetSign s) runsAs records-pass
 
   pub fields-set : all (all xset) (linesOf (fieldsOf s)) ≡ true
   unfolding fieldsOf spread
-  fields-set = all-set (sheetForm s) (sheetSign s) (tail (records s)) records-pass
+  fields-set = all-set (sheetForm s) (sheetSign s) runsAs records-pass
 
   -- 2, 3 and 4 let the message pass
   pub built-rule2 : rule2 (messageFor s) ≡ Fine
@@ -156,7 +176,7 @@ module _ (s : List ℕ) (c : Clean (sheetRules s)) where
   unfolding messageFor
   built-rule4 = rule4-message (fieldsOf s) fields-set fields-proper
 
-  -- its fields are just the fields of the records, in order
+  -- its fields are just the fields of these records, in order
   pub built-fields : fields (messageFor s) ≡ fieldsOf s
   unfolding messageFor
   built-fields = fields-message (fieldsOf s) (proper-lineable (fieldsOf s) fields-set fields-proper)
@@ -164,4 +184,5 @@ module _ (s : List ℕ) (c : Clean (sheetRules s)) where
   -- its sign is the sheet's
   pub built-sign : signOf (fieldsOf s) ≡ sheetSign s
   unfolding fieldsOf spread
-  built-sign = sign-spread (sheetForm s) (sheetSign s) (tail (records s)) ∙ ap signOf behind-is ∙ sym (sound-sign s is-sound)
+  built-sign =
+      sign-spread (sheetForm s) (sheetSign s) runsAs ∙ sign-run (sheetForm s) (sheetSign s) (tail (records s)) ∙ ap signOf (sound-tail s is-sound) ∙ sym (sound-sign s is-sound)

@@ -7,17 +7,19 @@ use mathlib.Core.List.{List, [], _∷_, _++_, map}
 use native.Mathlib.Omega.{arith}
 use lib.Dec.{eqb}
 use lib.ListN.{length, drop, length-append}
-use lib.Seq.{drop-append-seam, drop-append-le}
+use lib.Seq.{drop-append-seam, drop-append-le, drop-append-add}
 use borrow.Author.Tests.{eqb-true}
-use Rattle.base.specs.Choice.{all}
+use Rattle.base.specs.Choice.{pick, all}
+use Rattle.base.specs.Bytes.{empty, same}
 use Rattle.base.specs.Quoted.{bytes}
 use Rattle.base.specs.Calls.{textOf}
 use Rattle.base.proofs.Bools.{left, right, isnt}
 use Rattle.alphabets.specs.Best.{writing}
+use Rattle.alphabets.proofs.SaidLaws.{said-is}
 use Rattle.contents.specs.Tests.{looksTax}
 use Rattle.roles.specs.Role.{Part, copy, name, taxName, cast}
 use Rattle.roles.specs.Speech as speech
-use Rattle.roles.specs.Speech.{speech, asDetails, detailsStart, codeSize}
+use Rattle.roles.specs.Speech.{speech, asDetails, detailsStart, codeSize, nzpSize, laterSize}
 use Rattle.roles.specs.declared.Shape.{Shape}
 use Rattle.roles.proofs.CastLaws as roles
 use Rattle.roles.proofs.CastLaws.{Lines, cast-turned}
@@ -28,10 +30,11 @@ use Rattle.details.specs.Lines.{together}
 use Rattle.details.specs.Layouts.{layout, linesFor}
 use Rattle.details.specs.declared.DetailsField.{DetailsField}
 use Rattle.details.specs.declared.DetailsField.the-variants.{In70, In72, BehindRpp}
-use Rattle.details.specs.Front.{code}
-use Rattle.writer.specs.Spread.{lineFor}
-use Rattle.written.proofs.SpeltLaws.{said-is, plain-same, slash, spelt-head, spelt-tax}
-use Rattle.written.proofs.ReadyLaws.{speaks, Laid}
+use Rattle.details.specs.Front.{code, rppLine}
+use Rattle.details.proofs.LaidLaws.{Laid}
+use Rattle.writer.specs.Spread.{lineFor, rppLines}
+use Rattle.written.proofs.SpeltLaws.{plain-same, slash, spelt-head, spelt-tax}
+use Rattle.written.proofs.ReadyLaws.{speaks, lone-rpp}
 
 -- ---- names
 -- what is written for a name, and what a part is written as
@@ -103,36 +106,61 @@ unfolding speech.laterText
 unmarked m [] = refl
 unmarked m (l ∷ ls) = ap₂ (λ (a b : List ℕ). a ++ b) (drop-append-seam m l) (unmarked m ls)
 
--- the bytes before a text's first: the mark and the code
-abbrev pub frontOf : DetailsField → Bool → ℕ
-frontOf In70 s = codeSize s
-frontOf In72 s = 5 + codeSize s
-frontOf BehindRpp s = 5 + codeSize s
+mark-dropped : (n : ℕ) (l : List ℕ) → drop (nzpSize + n) (bytes "/NZP/" ++ l) ≡ drop n l
+mark-dropped n l = drop-append-add (bytes "/NZP/") l n
+
+-- the bytes before a text's first: the mark and the front
+abbrev pub frontOf : DetailsField → ℕ → ℕ
+frontOf In70 n = n
+frontOf In72 n = nzpSize + n
+frontOf BehindRpp n = nzpSize + n
 
 abbrev pub nextOf : DetailsField → ℕ
 nextOf In70 = 0
-nextOf In72 = 2
-nextOf BehindRpp = 2
+nextOf In72 = laterSize
+nextOf BehindRpp = laterSize
 
-front-dropped : (p : DetailsField) (s : Bool) (l : List ℕ) → drop (frontOf p s) (layout p .mark ++ l) ≡ drop (codeSize s) l
-front-dropped In70 s l = refl
-front-dropped In72 true l = refl
-front-dropped In72 false l = refl
-front-dropped BehindRpp true l = refl
-front-dropped BehindRpp false l = refl
+front-dropped : (p : DetailsField) (n : ℕ) (l : List ℕ) → drop (frontOf p n) (layout p .mark ++ l) ≡ drop n l
+front-dropped In70 n l = refl
+front-dropped In72 n l = mark-dropped n l
+front-dropped BehindRpp n l = mark-dropped n l
 
 next-dropped : (p : DetailsField) (ls : List (List ℕ)) → speech.laterText (nextOf p) (map (λ (k : List ℕ). layout p .next ++ k) ls) ≡ together ls
 next-dropped In70 ls = unmarked (layout In70 .next) ls
 next-dropped In72 ls = unmarked (layout In72 .next) ls
 next-dropped BehindRpp ls = unmarked (layout BehindRpp .next) ls
 
--- over the lines, behind the marks and the code, stands the text
-pub details-again : (p : DetailsField) (s : Bool) (vo w : List ℕ) (o : ℕ) → isDigits 5 vo ≡ true → Laid p (codeSize s) (code s vo ++ w)
-    → (at : ℕ) × (speech.detailsSpeech (frontOf p s) (nextOf p) o (linesFor p (codeSize s) (code s vo ++ w)) ≡ speech asDetails at w ∷ [])
+-- over the lines, behind the marks and the front, stands the text
+pub details-again : (p : DetailsField) (front w : List ℕ) (o : ℕ) → Laid p (length front) (front ++ w)
+    → (at : ℕ) × (speech.detailsSpeech (frontOf p (length front)) (nextOf p) o (linesFor p (length front) (front ++ w)) ≡ speech asDetails at w ∷ [])
 unfolding speech.detailsSpeech
-details-again p s vo w o d h =
+details-again p front w o h =
+    let n : ℕ = length front in
     let l : List ℕ = layout p .mark ++ h .front in
-    let text : drop (frontOf p s) l ++ speech.laterText (nextOf p) (map (λ (k : List ℕ). layout p .next ++ k) (h .behind)) ≡ w =
-    ap₂ (λ (a b : List ℕ). a ++ b) (front-dropped p s (h .front)) (next-dropped p (h .behind))
-    ∙ sym (drop-append-le (codeSize s) (h .front) (together (h .behind)) (h .code)) ∙ ap (drop (codeSize s)) (h .joins) ∙ behind-code s vo w d in
-    (detailsStart (frontOf p s) (nextOf p) o l, ap (speech.detailsSpeech (frontOf p s) (nextOf p) o) (h .is) ∙ ap (λ (b : List ℕ). speech asDetails (detailsStart (frontOf p s) (nextOf p) o l) b ∷ []) text)
+    let text : drop (frontOf p n) l ++ speech.laterText (nextOf p) (map (λ (k : List ℕ). layout p .next ++ k) (h .behind)) ≡ w =
+    ap₂ (λ (a b : List ℕ). a ++ b) (front-dropped p n (h .front)) (next-dropped p (h .behind))
+    ∙ sym (drop-append-le n (h .front) (together (h .behind)) (h .code)) ∙ ap (drop n) (h .joins) ∙ drop-append-seam front w in
+    (detailsStart (frontOf p n) (nextOf p) o l, ap (speech.detailsSpeech (frontOf p n) (nextOf p) o) (h .is) ∙ ap (λ (b : List ℕ). speech asDetails (detailsStart (frontOf p n) (nextOf p) o l) b ∷ []) text)
+
+-- ---- 72: /NZP/ is no RPP line, /RPP/ is one
+note-first : (n o least : ℕ) (text : List ℕ) → Laid In72 least text → speech.noteSpeeches n o (linesFor In72 least text) ≡ speech.detailsSpeech n laterSize o (linesFor In72 least text)
+unfolding speech.noteSpeeches same
+note-first n o least text h = ap (speech.noteSpeeches n o) (h .is) ∙ ap (speech.detailsSpeech n laterSize o) (sym (h .is))
+
+note-behind : (n o : ℕ) (r : List ℕ) (ls : List (List ℕ)) → speech.noteSpeeches n o (rppLine r ∷ ls) ≡ speech.detailsSpeech n laterSize (o + length (rppLine r) + 2) ls
+unfolding speech.noteSpeeches same
+note-behind n o r ls = refl
+
+pub note-again : (b : Bool) (r front w : List ℕ) (o : ℕ) → Laid (pick b In72 BehindRpp) (length front) (front ++ w)
+    → (at : ℕ) × (speech.noteSpeeches (nzpSize + length front) o (pick b [] (rppLine r ∷ []) ++ linesFor (pick b In72 BehindRpp) (length front) (front ++ w)) ≡ speech asDetails at w ∷ [])
+note-again true r front w o h =
+    let d = details-again In72 front w o h in
+    (d .0, note-first (nzpSize + length front) o (length front) (front ++ w) h ∙ d .1)
+note-again false r front w o h =
+    let d = details-again BehindRpp front w (o + length (rppLine r) + 2) h in
+    (d .0, note-behind (nzpSize + length front) o r (linesFor BehindRpp (length front) (front ++ w)) ∙ d .1)
+
+-- an RPP line alone holds no text
+pub rpp-silent : (n o : ℕ) (r : List ℕ) → empty r ≡ false → speech.noteSpeeches n o (rppLines r ++ []) ≡ []
+unfolding speech.noteSpeeches speech.detailsSpeech same
+rpp-silent n o r e = ap (speech.noteSpeeches n o) (lone-rpp r e)

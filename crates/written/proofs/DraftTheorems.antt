@@ -22,7 +22,7 @@ use Rattle.writer.specs.Sheet.{messageFor, sheetRules, ownRule, writeRules, Mes
 use Rattle.writer.proofs.RuleLaws.{sheet-holds, write-by}
 use Rattle.written.specs.Sentences.{Own}
 use Rattle.written.specs.Held.{Drafted}
-use Rattle.written.proofs.ExactLaws.{rule15-broken, rule16-broken}
+use Rattle.written.proofs.ExactLaws.{rule15-broken, rule16-number}
 use Rattle.written.proofs.ToMessageTheorems.{rule18-broken, short-broken, exact-own}
 
 -- any two outcomes are equal, lent units counted
@@ -73,7 +73,7 @@ module _ (s out : List ℕ) (r : Outcome) (after : List ℕ) (g : DraftTo s out 
           sound = λ e. not-own (sym (rule19-bad s n 0 e .0)) (omega arith);
           type = λ e. not-own (rule18-broken (sheetForm s) n 0 e .0) (omega arith);
           texts = λ e. not-own (rule15-broken (sheetSign s) (sheetForm s) 0 (records s) n 0 e .0) (omega arith);
-          details = λ e. not-own (rule16-broken (sheetSign s) (sheetForm s) _ n 0 e .0) (omega arith);
+          details = λ e. not-own (rule16-number (sheetSign s) (sheetForm s) _ n 0 e .0) (omega arith);
         })
 
     pub draft-shows : (a : List ℕ) → MessageTo s out (Refused n 0) a → Drafted s out n r after

@@ -1,20 +1,22 @@
--- 15 is given exactly if some part can't be written, at the first byte that can't; 16 exactly if some details can't be divided in any way (N15,
--- N16, T9, T11, D3d, D3e). Assumes nothing.
+-- 15 is given exactly if some part can't be written, at the first byte that can't; 16 exactly if some details can't be divided in any way, nor, in a
+-- 103 where they may run on, any cut of them (N15, N16, B6-B8, T9, T11, D3d, D3e). Assumes nothing.
 use Prim.Native.Nat.{ℕ, _+_}
 use mathlib.Core.Path.{_≡_, refl, sym, ap, _∙_, subst}
-use mathlib.Core.Bool.{Bool, true, false, _||_, true≢false, false≢true}
+use mathlib.Core.Bool.{Bool, true, false, not, _||_, true≢false, false≢true}
 use mathlib.Core.List.{List, [], _∷_, _++_}
 use mathlib.Core.Logic.{_↔_}
 use native.Mathlib.Omega.{arith}
-use lib.ListN.{length}
+use lib.Dec.{eqb}
+use lib.ListN.{length, take, drop}
 use Rattle.types.specs.declared.Form.{Form}
+use Rattle.types.specs.declared.Form.the-variants.{Mt103}
 use Rattle.base.specs.Choice.{pick, all}
 use Rattle.base.specs.Bytes.{xset}
 use Rattle.base.specs.Rules.{then}
 use Rattle.base.specs.Calls.{Answer, said, stuck, textOf}
 use Rattle.base.specs.declared.Verdict.{Verdict}
 use Rattle.base.specs.declared.Verdict.the-variants.{Fine, Broken}
-use Rattle.base.proofs.Bools.{left, right, both}
+use Rattle.base.proofs.Bools.{left, right, both, isnt, or-right, all-behind}
 use Rattle.base.proofs.RuleLaws.{fine-broken}
 use Rattle.base.proofs.CallLaws.{not-said}
 use Rattle.base.specs.Examples.{AllHold}
@@ -23,24 +25,30 @@ use Rattle.alphabets.specs.Bank.{plainly, reading}
 use Rattle.alphabets.specs.Best.{writing}
 use Rattle.alphabets.proofs.StopLaws.{unwritable-at}
 use Rattle.alphabets.proofs.Theorems.{plain-iff, reads-back, unwritable-iff}
+use Rattle.alphabets.proofs.SaidLaws.{isSaid, said-is}
 use Rattle.fields.specs.Field.{field}
+use Rattle.fields.specs.Shapes.{shaped}
 use Rattle.roles.specs.Role.{shapeOf, Part, copy, name, taxName, lineOf}
-use Rattle.roles.specs.Speech.{codeSize}
 use Rattle.roles.specs.declared.Shape.{Shape}
-use Rattle.roles.specs.declared.Shape.the-variants.{Plain, Payer, Payee, Agent, Details, Note103, Note202}
 use Rattle.records.specs.Record.{Record}
 use Rattle.records.specs.Places.{recordsSize, nextRecord}
-use Rattle.details.specs.Layouts.{sizeFor}
+use Rattle.records.specs.Rule19.{good}
+use Rattle.records.specs.Sentences.{RightParts}
+use Rattle.records.specs.Sentences as sentences
+use Rattle.records.proofs.RuleLaws.{sound-right}
 use Rattle.details.specs.declared.DetailsField.{DetailsField}
 use Rattle.details.specs.declared.DetailsField.the-variants.{In70, In72, BehindRpp}
-use Rattle.details.specs.declared.Size.{Size}
-use Rattle.details.specs.declared.Size.the-variants.{Bytes, Unfit}
-use Rattle.details.proofs.DivisionTheorems.{unfit-none, none-unfit}
-use Rattle.writer.specs.Spread.{saidPart, castParts, codeAndText}
-use Rattle.writer.specs.Sheet.{stoppedAt, unsaid, rule15, isUnfit, crowded, someCrowded, rule16}
-use Rattle.written.specs.Sentences.{WritablePart, UnwritablePart, canWrite, partsSize, StuckPart, WritableRecord, StuckAt, Undivided, NoWay, in70, in72, pastRpp, CrowdedIn}
-use Rattle.written.proofs.SpeltLaws.{isSaid, said-is, plain-set}
-use Rattle.written.proofs.ReadyLaws.{speaks, said-all, all-said}
+use Rattle.details.specs.Front.{code}
+use Rattle.runon.specs.Run.{bankOf, fitsIn}
+use Rattle.runon.specs.RunOn.{tag72, howMany, textIn, mayRun, runAs, runOn}
+use Rattle.runon.proofs.FitLaws.{fits-test, test-fits}
+use Rattle.writer.specs.Spread.{saidPart, coded, castParts}
+use Rattle.writer.specs.Sheet.{stoppedAt, unsaid, rule15, crowded, someCrowded, rule16}
+use Rattle.written.specs.Sentences.{WritablePart, UnwritablePart, canWrite, partsSize, StuckPart, WritableRecord, StuckAt, mayRunOn, NoFit, NoWay, in70, in72, pastRpp, CrowdedIn, Crowded, apart, uncut}
+use Rattle.written.proofs.SpeltLaws.{plain-set}
+use Rattle.written.proofs.ReadyLaws.{speaks, speaking, said-all, all-said}
+use Rattle.written.proofs.RunLaws as running
+use Rattle.written.proofs.RunLaws.{Ran, fitting, cutting, crowding, ran, whole-roomy, cut-roomy, unfit-crowded}
 
 -- ---- a part
 module _ (s : Bool) where
@@ -188,67 +196,117 @@ module _ (s : Bool) where
 
 -- ---- 16
 module _ (s : Bool) where
-  unfit-undivided : (place : DetailsField) (ps : List (List ℕ)) → (isUnfit (sizeFor place (codeSize s) (codeAndText s ps)) ≡ true) ↔ Undivided s place ps
-  unfit-undivided place ps = (λ e rows d. unfit-none place (codeSize s) (codeAndText s ps) (go (sizeFor place (codeSize s) (codeAndText s ps)) e) d, λ n. ap isUnfit (none-unfit place (codeSize s) (codeAndText s ps) n))
+  -- the test and the sentence
+  unfit-none : (into : DetailsField) (front text : List ℕ) → not (fitsIn s into front text) ≡ true → NoFit s into front text
+  unfit-none into front text e f = false≢true (sym (isnt (fitsIn s into front text) e) ∙ fits-test s into front text f)
+
+  none-unfit : (into : DetailsField) (front text : List ℕ) → speaks s (name text) ≡ true → NoFit s into front text → not (fitsIn s into front text) ≡ true
+  none-unfit into front text a n = go (fitsIn s into front text) refl
     where
-      go : (z : Size) → isUnfit z ≡ true → z ≡ Unfit
-      go (Bytes n) e = absurd (false≢true e)
-      go Unfit e = refl
+      go : (b : Bool) → fitsIn s into front text ≡ b → not b ≡ true
+      go true e = absurd (n (test-fits s into front text (bankOf s text) (said-is (writing s text) a) e))
+      go false e = refl
 
-  pub crowded-none : (sh : Shape) (ps : List (List ℕ)) → crowded s sh ps ≡ true → NoWay s sh ps
+  pub crowded-none : (sh : Shape) (ps : List (List ℕ)) → RightParts s sh ps → crowded s sh ps ≡ true → NoWay s sh ps
   unfolding crowded
-  crowded-none Details ps e = in70 (unfit-undivided In70 ps .0 e)
-  crowded-none Note202 [] e = absurd (false≢true e)
-  crowded-none Note202 ([] ∷ ps) e = in72 (unfit-undivided In72 ps .0 e)
-  crowded-none Note202 ((x ∷ r) ∷ ps) e = pastRpp refl (unfit-undivided BehindRpp ps .0 e)
-  crowded-none Note103 ps e = absurd (false≢true e)
-  crowded-none Plain ps e = absurd (false≢true e)
-  crowded-none Payer ps e = absurd (false≢true e)
-  crowded-none Payee ps e = absurd (false≢true e)
-  crowded-none Agent ps e = absurd (false≢true e)
+  crowded-none sh ps (sentences.details v t d e) u = in70 (unfit-none In70 (code s v) t u)
+  crowded-none sh ps (sentences.note202 [] v t d e) u = in72 (unfit-none In72 (code s v) t u)
+  crowded-none sh ps (sentences.note202 (x ∷ r) v t d e) u = pastRpp refl (unfit-none BehindRpp (code s v) t u)
+  crowded-none sh ps (sentences.note103 r e) u = absurd (false≢true u)
+  crowded-none sh ps (sentences.plain p qs e g) u = absurd (false≢true u)
+  crowded-none sh ps (sentences.agent p qs e g) u = absurd (false≢true u)
+  crowded-none sh ps (sentences.payer p qs e g n) u = absurd (false≢true u)
+  crowded-none sh ps (sentences.payee p qs e g n) u = absurd (false≢true u)
 
-  pub none-crowded : {sh : Shape} {ps : List (List ℕ)} → NoWay s sh ps → crowded s sh ps ≡ true
+  -- VO digits and a text: the text can be written
+  text-of : (vo text : List ℕ) → all (speaks s) (coded (vo ∷ text ∷ [])) ≡ true → speaks s (name text) ≡ true
+  text-of vo text a = left (speaks s (name text)) _ (right (speaks s (copy vo)) _ a)
+
+  pub none-crowded : {sh : Shape} {ps : List (List ℕ)} → all (speaks s) (castParts sh ps) ≡ true → NoWay s sh ps → crowded s sh ps ≡ true
   unfolding crowded
-  none-crowded (in70 {ps} n) = unfit-undivided In70 ps .1 n
-  none-crowded (in72 {ps} n) = unfit-undivided In72 ps .1 n
-  none-crowded (pastRpp {r = []} {ps = ps} e n) = absurd (true≢false e)
-  none-crowded (pastRpp {r = x ∷ r} {ps = ps} e n) = unfit-undivided BehindRpp ps .1 n
+  none-crowded a (in70 {vo} {text} n) = none-unfit In70 (code s vo) text (text-of vo text a) n
+  none-crowded a (in72 {vo} {text} n) = none-unfit In72 (code s vo) text (text-of vo text (right (speaks s (copy [])) _ a)) n
+  none-crowded a (pastRpp {r = []} {vo = vo} {text = text} e n) = absurd (true≢false e)
+  none-crowded a (pastRpp {r = x ∷ r} {vo = vo} {text = text} e n) = none-unfit BehindRpp (code s vo) text (text-of vo text (right (speaks s (copy (x ∷ r))) _ a)) n
 
   module _ (form : Form) where
-    some-crowded : (rs : List Record) → someCrowded form s rs ≡ true → CrowdedIn form s rs
-    some-crowded [] e = absurd (false≢true e)
-    some-crowded (field t ps ∷ rs) e = go (crowded s (shapeOf form t) ps) refl e (some-crowded rs)
+    some-crowded : (rs : List Record) → all (good form s) rs ≡ true → someCrowded form s rs ≡ true → CrowdedIn form s rs
+    some-crowded [] g e = absurd (false≢true e)
+    some-crowded (field t ps ∷ rs) g e = go (crowded s (shapeOf form t) ps) refl e (some-crowded rs (right (good form s (field t ps)) _ g))
       where
         go : (b : Bool) → crowded s (shapeOf form t) ps ≡ b → (b || someCrowded form s rs) ≡ true → (someCrowded form s rs ≡ true → CrowdedIn form s rs) → CrowdedIn form s (field t ps ∷ rs)
-        go true q e ih = record { before = []; tag = t; parts = ps; behind = rs; list = refl; no-way = crowded-none (shapeOf form t) ps q }
+        go true q e ih =
+            let r = sound-right s (shapeOf form t) ps (right (shaped t) _ (left (good form s (field t ps)) _ g)) in
+            record { before = []; tag = t; parts = ps; behind = rs; list = refl; no-way = crowded-none (shapeOf form t) ps r q }
         go false q e ih =
             let w : CrowdedIn form s rs = ih e in
             record { before = field t ps ∷ w .before; tag = w .tag; parts = w .parts; behind = w .behind; list = ap (λ (l : List Record). field t ps ∷ l) (w .list); no-way = w .no-way }
 
     found : (us : List Record) (t : List ℕ) (ps : List (List ℕ)) (vs : List Record) → crowded s (shapeOf form t) ps ≡ true → someCrowded form s (us ++ field t ps ∷ vs) ≡ true
     found [] t ps vs e = ap (λ (b : Bool). b || someCrowded form s vs) e
-    found (field u qs ∷ us) t ps vs e = go (crowded s (shapeOf form u) qs) (found us t ps vs e)
-      where
-        go : (b : Bool) → someCrowded form s (us ++ field t ps ∷ vs) ≡ true → (b || someCrowded form s (us ++ field t ps ∷ vs)) ≡ true
-        go true h = refl
-        go false h = h
+    found (field u qs ∷ us) t ps vs e = or-right (crowded s (shapeOf form u) qs) _ (found us t ps vs e)
 
     -- some details record of the type has no division in any way
-    pub crowded-iff : (rs : List Record) → (someCrowded form s rs ≡ true) ↔ CrowdedIn form s rs
-    crowded-iff rs = (some-crowded rs, λ w. ap (someCrowded form s) (w .list) ∙ found (w .before) (w .tag) (w .parts) (w .behind) (none-crowded (w .no-way)))
+    crowded-some : (rs : List Record) → all (speaking form s) rs ≡ true → CrowdedIn form s rs → someCrowded form s rs ≡ true
+    crowded-some rs a w =
+        let b = all-behind (speaking form s) (w .before) (field (w .tag) (w .parts) ∷ w .behind) (ap (all (speaking form s)) (sym (w .list)) ∙ a) in
+        ap (someCrowded form s) (w .list) ∙ found (w .before) (w .tag) (w .parts) (w .behind) (none-crowded (left (speaking form s (field (w .tag) (w .parts))) _ b) (w .no-way))
 
-    pub rule16-broken : (rs : List Record) (n p : ℕ) → rule16 form s rs ≡ Broken n p → (n ≡ 16) × (p ≡ 0) × CrowdedIn form s rs
+    -- ---- over the records as they run on
+    module _ (rs : List Record) (g : all (good form s) rs ≡ true) where
+      abbrev as103 : form ≡ Mt103 → all (good Mt103 s) rs ≡ true
+      as103 q = subst (λ (x : Form). all (good x s) rs ≡ true) q g
+
+      runs : form ≡ Mt103 → mayRun rs ≡ true → mayRunOn form rs ≡ true
+      runs q e = ap (λ (x : Form). mayRunOn x rs) q ∙ e
+
+      run-crowded : someCrowded form s (runOn form s rs) ≡ true → Crowded form s rs
+      run-crowded e = go (ran form s rs) e
+        where
+          none : (us : List Record) → form ≡ Mt103 → someCrowded Mt103 s us ≡ false → someCrowded form s us ≡ true → ⊥
+          none us q f e = false≢true (sym f ∙ ap (λ (x : Form). someCrowded x s us) (sym q) ∙ e)
+
+          go : {us : List Record} → Ran form s rs us → someCrowded form s us ≡ true → Crowded form s rs
+          go (running.apart m) e = apart m (some-crowded rs g e)
+          go (fitting q m f) e = absurd (none rs q (whole-roomy s rs (as103 q) m f) e)
+          go (cutting q m k n l) e = absurd (none (runAs (eqb (howMany tag72 rs) 0) (take k (textIn rs)) (drop k (textIn rs)) rs) q (cut-roomy s rs (as103 q) m k n l) e)
+          go (crowding q m n l) e = uncut (runs q m) n l
+
+      crowded-run : all (speaking form s) rs ≡ true → Crowded form s rs → someCrowded form s (runOn form s rs) ≡ true
+      crowded-run a w = go (ran form s rs) w
+        where
+          go : {us : List Record} → Ran form s rs us → Crowded form s rs → someCrowded form s us ≡ true
+          go (running.apart m) (apart n c) = crowded-some rs a c
+          go (running.apart m) (uncut n f l) = absurd (false≢true (sym m ∙ n))
+          go (fitting q m f) (apart n c) = absurd (false≢true (sym n ∙ runs q m))
+          go (fitting q m f) (uncut n u l) = absurd (u f)
+          go (cutting q m k u t) (apart n c) = absurd (false≢true (sym n ∙ runs q m))
+          go (cutting q m k u t) (uncut n f l) = absurd (l (take k (textIn rs)) (drop k (textIn rs)) (t .lawful))
+          go (crowding q m u l) c = ap (λ (x : Form). someCrowded x s rs) q ∙ unfit-crowded s rs (as103 q) m (subst (λ (x : Form). all (speaking x s) rs ≡ true) q a) u
+
+      -- 16 only if neither the whole nor any cut fits
+      pub rule16-broken : (n p : ℕ) → rule16 form s rs ≡ Broken n p → Crowded form s rs
+      unfolding rule16
+      rule16-broken n p e = go (someCrowded form s (runOn form s rs)) refl e
+        where
+          go : (b : Bool) → someCrowded form s (runOn form s rs) ≡ b → pick b (Broken 16 0) Fine ≡ Broken n p → Crowded form s rs
+          go true q e = run-crowded q
+          go false q e = absurd (fine-broken n p e)
+
+      module _ (a : all (speaking form s) rs ≡ true) where
+        pub crowded-rule16 : Crowded form s rs → rule16 form s rs ≡ Broken 16 0
+        unfolding rule16
+        crowded-rule16 w = ap (λ (b : Bool). pick b (Broken 16 0) Fine) (crowded-run a w)
+
+        -- and exactly then
+        pub rule16-iff : (rule16 form s rs ≡ Broken 16 0) ↔ Crowded form s rs
+        rule16-iff = (rule16-broken 16 0, crowded-rule16)
+
+    -- its number and place
+    pub rule16-number : (rs : List Record) (n p : ℕ) → rule16 form s rs ≡ Broken n p → (n ≡ 16) × (p ≡ 0)
     unfolding rule16
-    rule16-broken rs n p e = go (someCrowded form s rs) refl e
+    rule16-number rs n p e = go (someCrowded form s (runOn form s rs)) e
       where
-        go : (b : Bool) → someCrowded form s rs ≡ b → pick b (Broken 16 0) Fine ≡ Broken n p → (n ≡ 16) × (p ≡ 0) × CrowdedIn form s rs
-        go true q e = (cc, cc, some-crowded rs q)
-        go false q e = absurd (fine-broken n p e)
-
-    pub crowded-rule16 : (rs : List Record) → CrowdedIn form s rs → rule16 form s rs ≡ Broken 16 0
-    unfolding rule16
-    crowded-rule16 rs w = ap (λ (b : Bool). pick b (Broken 16 0) Fine) (crowded-iff rs .1 w)
-
-    -- 16 exactly then
-    pub rule16-iff : (rs : List Record) → (rule16 form s rs ≡ Broken 16 0) ↔ CrowdedIn form s rs
-    rule16-iff rs = (λ e. rule16-broken rs 16 0 e .2, crowded-rule16 rs)
+        go : (b : Bool) → pick b (Broken 16 0) Fine ≡ Broken n p → (n ≡ 16) × (p ≡ 0)
+        go true e = (cc, cc)
+        go false e = absurd (fine-broken n p e)

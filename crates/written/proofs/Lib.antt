@@ -1,8 +1,10 @@
 pub mod SpeltLaws
 pub mod ReadyLaws
+pub mod RunLaws
 pub mod BuiltLaws
 pub mod CastLaws
 pub mod TextLaws
+pub mod MostLaws
 pub mod OwnLaws
 pub mod MadeLaws
 pub mod ExactLaws

@@ -32,6 +32,7 @@ use Rattle.writer.specs.Sheet.{messageFor, sheetRules, atStart, ownRule}
 use Rattle.writer.proofs.RuleLaws.{sheet-rules}
 use Rattle.written.proofs.BuiltLaws.{built-rule2, built-rule3, built-rule4, built-fields}
 use Rattle.written.proofs.TextLaws.{built-rule14}
+use Rattle.written.proofs.MostLaws.{message-rule21}
 use Rattle.base.specs.Rules.{Clean}
 use Rattle.types.specs.Sentences.{Judged, unknown, notLater, skipping, right, Refused, atField, atEnd}
 
@@ -95,6 +96,7 @@ module _ (s : List ℕ) (c : Clean (sheetRules s)) where
           parties = λ n p e. from-5 12 (broken12 (sheetForm s) (fields (messageFor s)) n p .0 e .0) (omega arith) (omega arith);
           taxes = λ n p e. from-5 13 (broken13 (sheetForm s) (fields (messageFor s)) n p .0 e .0) (omega arith) (omega arith);
           texts = none-given rule14-fine;
+          lengths = none-given (message-rule21 s c);
         };
       }
 

@@ -1,7 +1,7 @@
--- What a sheet's records are where neither 15 nor 16 is given: every part can be written, and details fit their lines (N15, N16, B1-B3). And
--- the lines of such a record: of the x set, and such as 4 lets pass (F2, F4, F5). Assumes nothing.
-use Prim.Native.Nat.{ℕ, _+_, _≤_}
-use mathlib.Core.Path.{_≡_, refl, sym, ap, _∙_}
+-- What a sheet's records are, as they run on, where neither 15 nor 16 is given: every part can be written, and details fit their lines (N15, N16,
+-- B1-B3, B6). And the lines of such a record: of the x set, and such as 4 lets pass (F2, F4, F5). Assumes nothing.
+use Prim.Native.Nat.{ℕ, _+_}
+use mathlib.Core.Path.{_≡_, refl, sym, ap, subst, _∙_}
 use mathlib.Core.Bool.{Bool, true, false, not, _&&_, _||_, true≢false, false≢true}
 use mathlib.Core.List.{List, [], _∷_, _++_, map, tail}
 use mathlib.Core.Logic.{_↔_}
@@ -19,28 +19,29 @@ use Rattle.base.proofs.Bools.{left, right, both, all-append, all-front, all-beh
 use Rattle.base.proofs.RuleLaws.{fine-broken, then-clean}
 use Rattle.alphabets.specs.Bank.{plainly}
 use Rattle.alphabets.specs.Best.{writing}
+use Rattle.alphabets.proofs.SaidLaws.{isSaid, said-is}
 use Rattle.fields.specs.Field.{field}
 use Rattle.fields.specs.Shapes.{shaped, goesOn, proper}
 use Rattle.roles.specs.Role.{shapeOf, Part, copy, name, taxName, lineOf, cast}
-use Rattle.roles.specs.Speech.{codeSize}
 use Rattle.roles.specs.declared.Shape.{Shape}
-use Rattle.roles.specs.declared.Shape.the-variants.{Plain, Payer, Payee, Agent}
+use Rattle.roles.specs.declared.Shape.the-variants.{Plain, Payer, Payee, Agent, Note103}
 use Rattle.roles.proofs.BreachLaws.{same-lines}
 use Rattle.records.specs.Record.{Record}
 use Rattle.records.specs.Places.{nextRecord}
 use Rattle.records.specs.Sentences.{RightParts, plain, agent, payer, payee, details, note103, note202}
-use Rattle.details.specs.Lines.{together, Later, none, line, Division, lines}
+use Rattle.details.specs.Lines.{together, Later, none, line}
 use Rattle.details.specs.Breaking.{opens}
-use Rattle.details.specs.Layouts.{layout, marked, fitLines, linesFor, sizeFor}
+use Rattle.details.specs.Layouts.{layout, marked, linesFor, sizeFor, isUnfit}
+use Rattle.runon.specs.Run.{bankOf, fitsIn}
+use Rattle.runon.specs.RunOn.{runOn}
 use Rattle.details.specs.declared.DetailsField.{DetailsField}
 use Rattle.details.specs.declared.DetailsField.the-variants.{In70, In72, BehindRpp}
-use Rattle.details.specs.declared.Size.{Size}
-use Rattle.details.specs.declared.Size.the-variants.{Bytes, Unfit}
-use Rattle.details.proofs.DivisionTheorems.{Fitted, fitted}
+use Rattle.details.proofs.LaidLaws.{Laid, laid}
 use Rattle.details.specs.Front.{code, rppLine}
-use Rattle.writer.specs.Spread.{saidPart, castParts, lineFor, codeAndText, contentLines}
-use Rattle.writer.specs.Sheet.{stoppedAt, unsaid, rule15, isUnfit, crowded, someCrowded, rule16}
-use Rattle.written.proofs.SpeltLaws.{isSaid, said-is, plain-set, spelt-set, spelt-on}
+use Rattle.writer.specs.Spread.{saidPart, castParts, lineFor, laidLines, rppLines, contentLines}
+use Rattle.writer.specs.Sheet.{stoppedAt, unsaid, rule15, crowded, someCrowded, rule16}
+use Rattle.writer.proofs.PurposeLaws.{twice-not}
+use Rattle.written.proofs.SpeltLaws.{plain-set, spelt-set, spelt-on}
 
 -- ---- 15: every part can be written
 abbrev pub speaks : Bool → Part → Bool
@@ -93,7 +94,7 @@ abbrev pub roomy : Form → Bool → Record → Bool
 roomy form s (field t ps) = not (crowded s (shapeOf form t) ps)
 
 module _ (form : Form) (s : Bool) where
-  some-roomy : (rs : List Record) → not (someCrowded form s rs) ≡ all (roomy form s) rs
+  pub some-roomy : (rs : List Record) → not (someCrowded form s rs) ≡ all (roomy form s) rs
   some-roomy [] = refl
   some-roomy (field t ps ∷ rs) = go (crowded s (shapeOf form t) ps) (some-roomy rs)
     where
@@ -101,38 +102,22 @@ module _ (form : Form) (s : Bool) where
       go true e = refl
       go false e = e
 
-  pub rule16-fine : (rs : List Record) → rule16 form s rs ≡ Fine → all (roomy form s) rs ≡ true
+  pub rule16-fine : (rs : List Record) → rule16 form s rs ≡ Fine → all (roomy form s) (runOn form s rs) ≡ true
   unfolding rule16
-  rule16-fine rs e = sym (some-roomy rs) ∙ go (someCrowded form s rs) e
+  rule16-fine rs e = sym (some-roomy (runOn form s rs)) ∙ go (someCrowded form s (runOn form s rs)) e
     where
       go : (b : Bool) → pick b (Broken 16 0) Fine ≡ Fine → not b ≡ true
       go true e = absurd (fine-broken 16 0 (sym e))
       go false e = refl
 
--- ---- details in their lines
-pub record Laid (p : DetailsField) (least : ℕ) (text : List ℕ) : Type 0 where
-  pub front : List ℕ
-  pub behind : List (List ℕ)
-  pub is : linesFor p least text ≡ marked (layout p) (front ∷ behind)
-  pub code : least ≤ length front
-  pub later : Later (opens (layout p .barred)) (tail (layout p .widths)) behind
-  pub joins : together (front ∷ behind) ≡ text
+-- ---- a record that 19, 15 and 16 let pass, as its field is made of it
+-- its parts are right, or they are the RPP part of a 103, perhaps an empty one, and the rest of the details
+pub data RunParts (s : Bool) : Shape → List (List ℕ) → Type 0 where
+  own : {sh : Shape} {ps : List (List ℕ)} → RightParts s sh ps → RunParts s sh ps
+  withRest : (rpp text : List ℕ) → empty text ≡ false → RunParts s Note103 (rpp ∷ text ∷ [])
 
-pub laid : (p : DetailsField) (least : ℕ) (text : List ℕ) → isUnfit (sizeFor p least text) ≡ false → Laid p least text
-unfolding linesFor
-laid p least text e = go (sizeFor p least text) refl e
-  where
-    by : {ws : List ℕ} {ls : List (List ℕ)} → linesFor p least text ≡ marked (layout p) ls → ws ≡ layout p .widths → Division (opens (layout p .barred)) least text ws ls → Laid p least text
-    by i w (lines {ws = ws} {l = l} {ls = ls} z q h m j) =
-        record { front = l; behind = ls; is = i; code = q; later = rw (← w) m; joins = j }
-
-    go : (z : Size) → sizeFor p least text ≡ z → isUnfit z ≡ false → Laid p least text
-    go (Bytes n) f e = let w : Fitted p least text n = fitted p least text n f in by (ap (λ (a : _). marked (layout p) (fitLines a)) (w .is)) refl (w .division)
-    go Unfit f e = absurd (true≢false e)
-
--- ---- a record that 19, 15 and 16 let pass
 pub record Ready (s : Bool) (sh : Shape) (ps : List (List ℕ)) : Type 0 where
-  pub is-right : RightParts s sh ps
+  pub is-right : RunParts s sh ps
   pub says : all (speaks s) (castParts sh ps) ≡ true
   pub fits : crowded s sh ps ≡ false
 
@@ -232,10 +217,18 @@ laid-fair {p} {least} {text} w e =
     } in
     rw (w .is) f
 
-details-set : (s : Bool) (vo text : List ℕ) → all (speaks s) (copy vo ∷ name text ∷ []) ≡ true → all xset (codeAndText s (vo ∷ text ∷ [])) ≡ true
+-- a text that fits stands in its lines behind its front
+pub fits-lines : (s : Bool) (into : DetailsField) (front text : List ℕ) → not (fitsIn s into front text) ≡ false → Laid into (length front) (front ++ bankOf s text)
+fits-lines s into front text u =
+    laid into (length front) (front ++ bankOf s text) (sym (twice-not (isUnfit (sizeFor into (length front) (front ++ bankOf s text)))) ∙ u)
+
+bank-set : (s : Bool) (text : List ℕ) → speaks s (name text) ≡ true → all xset (bankOf s text) ≡ true
+bank-set s text e = line-set s (name text) e
+
+details-set : (s : Bool) (vo text : List ℕ) → all (speaks s) (copy vo ∷ name text ∷ []) ≡ true → all xset (code s vo ++ bankOf s text) ≡ true
 details-set s vo text e =
-    all-append xset (code s vo) (textOf (writing s text)) (code-set s vo (line-set s (copy vo) (left (speaks s (copy vo)) _ e)))
-    (line-set s (name text) (left (speaks s (name text)) _ (right (speaks s (copy vo)) _ e)))
+    all-append xset (code s vo) (bankOf s text) (code-set s vo (line-set s (copy vo) (left (speaks s (copy vo)) _ e)))
+    (bank-set s text (left (speaks s (name text)) _ (right (speaks s (copy vo)) _ e)))
 
 rpp-set : (r : List ℕ) → all xset r ≡ true → all xset (rppLine r) ≡ true
 rpp-set r e = all-append xset (bytes "/RPP/") r (marks-set .4) e
@@ -244,24 +237,36 @@ rpp-set r e = all-append xset (bytes "/RPP/") r (marks-set .4) e
 behind-rpp : (least : ℕ) (text : List ℕ) → Laid BehindRpp least text → all goesOn (linesFor BehindRpp least text) ≡ true
 behind-rpp least text w = rw (w .is) (next-on BehindRpp (w .later))
 
-note-fair : (s b : Bool) (r text : List ℕ) → all xset r ≡ true → all xset text ≡ true → isUnfit (sizeFor (pick b In72 BehindRpp) (codeSize s) text) ≡ false
-    → Fair (pick b [] (rppLine r ∷ []) ++ linesFor (pick b In72 BehindRpp) (codeSize s) text)
-note-fair s true r text a e u = laid-fair (laid In72 (codeSize s) text u) e
-note-fair s false r text a e u =
-    let w = laid BehindRpp (codeSize s) text u in
-    record { some = refl; on = behind-rpp (codeSize s) text w; inside = both (rpp-set r a) (laid-fair w e .inside) }
+note-fair : (s b : Bool) (r front text : List ℕ) → all xset r ≡ true → all xset (front ++ bankOf s text) ≡ true → not (fitsIn s (pick b In72 BehindRpp) front text) ≡ false
+    → Fair (pick b [] (rppLine r ∷ []) ++ laidLines s (pick b In72 BehindRpp) front text)
+note-fair s true r front text a e u = laid-fair (fits-lines s In72 front text u) e
+note-fair s false r front text a e u =
+    let w = fits-lines s BehindRpp front text u in
+    record { some = refl; on = behind-rpp (length front) (front ++ bankOf s text) w; inside = both (rpp-set r a) (laid-fair w e .inside) }
+
+-- an RPP part alone
+pub lone-rpp : (r : List ℕ) → empty r ≡ false → rppLines r ++ [] ≡ rppLine r ∷ []
+lone-rpp r e = ap (λ (b : Bool). pick b [] (rppLine r ∷ []) ++ []) e
+
+rpp-fair : (s : Bool) (r : List ℕ) → empty r ≡ false → speaks s (copy r) ≡ true → Fair (rppLines r ++ [])
+rpp-fair s r e a = subst Fair (sym (lone-rpp r e)) (record { some = refl; on = refl; inside = both (rpp-set r (line-set s (copy r) a)) refl })
 
 -- ---- the lines of a record that is ready
 pub ready-fair : (s : Bool) (sh : Shape) (ps : List (List ℕ)) → Ready s sh ps → Fair (contentLines s sh ps)
 unfolding contentLines crowded cast
 ready-fair s sh ps w = go (w .is-right) (w .says) (w .fits)
   where
-    go : {sh : Shape} {ps : List (List ℕ)} → RightParts s sh ps → all (speaks s) (castParts sh ps) ≡ true → crowded s sh ps ≡ false → Fair (contentLines s sh ps)
-    go (plain p ps e g) a u = parts-fair s (cast Plain (p ∷ ps)) p ps (same-lines Plain (p ∷ ps)) g a
-    go (agent p ps e g) a u = parts-fair s (cast Agent (p ∷ ps)) p ps (same-lines Agent (p ∷ ps)) g a
-    go (payer p ps e g n) a u = parts-fair s (cast Payer (p ∷ ps)) p ps (same-lines Payer (p ∷ ps)) g a
-    go (payee p ps e g n) a u = parts-fair s (cast Payee (p ∷ ps)) p ps (same-lines Payee (p ∷ ps)) g a
-    go (details v t d e) a u = laid-fair (laid In70 (codeSize s) (codeAndText s (v ∷ t ∷ [])) u) (details-set s v t a)
-    go (note103 r e) a u = record { some = refl; on = refl; inside = both (rpp-set r (line-set s (copy r) (left (speaks s (copy r)) _ a))) refl }
-    go (note202 r v t d e) a u =
-        note-fair s (empty r) r (codeAndText s (v ∷ t ∷ [])) (line-set s (copy r) (left (speaks s (copy r)) _ a)) (details-set s v t (right (speaks s (copy r)) _ a)) u
+    right-fair : {sh : Shape} {ps : List (List ℕ)} → RightParts s sh ps → all (speaks s) (castParts sh ps) ≡ true → crowded s sh ps ≡ false → Fair (contentLines s sh ps)
+    right-fair (plain p ps e g) a u = parts-fair s (cast Plain (p ∷ ps)) p ps (same-lines Plain (p ∷ ps)) g a
+    right-fair (agent p ps e g) a u = parts-fair s (cast Agent (p ∷ ps)) p ps (same-lines Agent (p ∷ ps)) g a
+    right-fair (payer p ps e g n) a u = parts-fair s (cast Payer (p ∷ ps)) p ps (same-lines Payer (p ∷ ps)) g a
+    right-fair (payee p ps e g n) a u = parts-fair s (cast Payee (p ∷ ps)) p ps (same-lines Payee (p ∷ ps)) g a
+    right-fair (details v t d e) a u = laid-fair (fits-lines s In70 (code s v) t u) (details-set s v t a)
+    right-fair (note103 r e) a u = rpp-fair s r e (left (speaks s (copy r)) _ a)
+    right-fair (note202 r v t d e) a u =
+        note-fair s (empty r) r (code s v) t (line-set s (copy r) (left (speaks s (copy r)) _ a)) (details-set s v t (right (speaks s (copy r)) _ a)) u
+
+    go : {sh : Shape} {ps : List (List ℕ)} → RunParts s sh ps → all (speaks s) (castParts sh ps) ≡ true → crowded s sh ps ≡ false → Fair (contentLines s sh ps)
+    go (own r) a u = right-fair r a u
+    go (withRest r t e) a u =
+        note-fair s (empty r) r [] t (line-set s (copy r) (left (speaks s (copy r)) _ a)) (bank-set s t (left (speaks s (name t)) _ (right (speaks s (copy r)) _ a))) u

@@ -7,10 +7,13 @@ use mathlib.Core.List.{List, [], _∷_, _++_, map, tail}
 use mathlib.Core.Logic.{inl, inr}
 use native.Mathlib.Omega.{arith}
 use native.Mathlib.Decide.{decLt}
-use lib.ListN.{length, length-append}
+use lib.Dec.{eqb}
+use lib.ListN.{length, take, drop, length-append}
 use Rattle.types.specs.declared.Form.{Form}
+use Rattle.types.specs.declared.Form.the-variants.{Mt103}
+use Rattle.types.specs.Sign.{firstLine}
 use Rattle.base.specs.Choice.{pick}
-use Rattle.base.specs.Bytes.{empty}
+use Rattle.base.specs.Bytes.{empty, same}
 use Rattle.base.specs.Rules.{lastNumber, first}
 use Rattle.base.specs.Calls.{Answer, said, stuck, textOf}
 use Rattle.base.specs.declared.Verdict.the-variants.{Broken}
@@ -25,7 +28,6 @@ use Rattle.fields.specs.Places as lines
 use Rattle.fields.proofs.FieldLaws.{crlf-size}
 use Rattle.fields.proofs.PlaceLaws.{size-append}
 use Rattle.roles.specs.Role.{Part, copy, name, taxName, lineOf, cast, shapeOf}
-use Rattle.roles.specs.Speech.{codeSize}
 use Rattle.roles.specs.declared.Shape.{Shape}
 use Rattle.roles.specs.declared.Shape.the-variants.{Plain, Payer, Payee, Agent, Details, Note103, Note202}
 use Rattle.roles.proofs.BreachLaws.{same-lines}
@@ -40,13 +42,18 @@ use Rattle.details.specs.declared.DetailsField.{DetailsField}
 use Rattle.details.specs.declared.DetailsField.the-variants.{In70, In72, BehindRpp}
 use Rattle.details.specs.declared.Size.{Size}
 use Rattle.details.specs.declared.Size.the-variants.{Bytes, Unfit}
-use Rattle.details.specs.Front.{rppLine}
-use Rattle.writer.specs.Spread.{coded, castParts, lineFor, codeAndText, noteLines, contentLines, fieldFor, spread}
+use Rattle.details.specs.Front.{code, rppLine}
+use Rattle.runon.specs.Run.{bankOf}
+use Rattle.runon.specs.RunOn.{tag70, tag72, tag77B, tagged, howMany, secondPart, textIn, halved, newNote, runAs, runOn}
+use Rattle.writer.proofs.CrowdLaws.{apart-kept}
+use Rattle.runon.proofs.RecordLaws.{halved-70, halved-72, halved-not, shape-70, shape-72}
+use Rattle.writer.specs.Spread.{coded, castParts, lineFor, detailsLines, restLines, noteLines, contentLines, fieldFor, spread}
 use Rattle.writer.specs.Sheet.{fieldsOf, messageFor, writeRules, MessageTo}
 use Rattle.writer.proofs.RuleLaws.{sheet-rules}
 use Rattle.written.specs.Sentences as why
 use Rattle.written.specs.Sentences.{partsSize, StuckPart, StuckAt, Own, Reason}
 use Rattle.writer.proofs.PurposeLaws.{lines-few, unfit-lines}
+use Rattle.written.proofs.RunLaws.{Ran, apart, fitting, cutting, crowding, ran}
 use Rattle.written.proofs.ToMessageTheorems.{refused-why, written}
 
 -- ---- the lines of parts: no text is written longer than four times its length
@@ -77,27 +84,44 @@ details-size p least text = go (sizeFor p least text) refl
     go (Bytes n) e = omega (arith, lines-few p least text n (sym e), crlf-size (linesFor p least text))
     go Unfit e = omega (arith, ap lines.linesSize (unfit-lines p least text e))
 
-rpps-size : (ps : List (List ℕ)) → lines.linesSize (map rppLine ps) ≤ 7 * widthOf ps
-rpps-size [] = omega arith
-rpps-size (p ∷ ps) = omega (arith, rpps-size ps)
-
-note-size : (s : Bool) (ps : List (List ℕ)) → lines.linesSize (noteLines s ps) ≤ 7 * widthOf ps + 250
-note-size s [] = omega arith
-note-size s (r ∷ ps) = go (empty r)
+-- 72: perhaps an RPP line, and what goes behind it into its lines
+note-size : (behind : DetailsField → List (List ℕ) → List (List ℕ)) → ((into : DetailsField) (ps : List (List ℕ)) → lines.linesSize (behind into ps) ≤ 250)
+    → (ps : List (List ℕ)) → lines.linesSize (noteLines behind ps) ≤ 7 * length (firstLine ps) + 257
+note-size behind h [] = omega arith
+note-size behind h (r ∷ ps) = go (empty r)
   where
-    go : (b : Bool) → lines.linesSize (pick b [] (rppLine r ∷ []) ++ linesFor (pick b In72 BehindRpp) (codeSize s) (codeAndText s ps)) ≤ 7 * widthOf (r ∷ ps) + 250
-    go true = omega (arith, details-size In72 (codeSize s) (codeAndText s ps))
-    go false = omega (arith, details-size BehindRpp (codeSize s) (codeAndText s ps))
+    go : (b : Bool) → lines.linesSize (pick b [] (rppLine r ∷ []) ++ behind (pick b In72 BehindRpp) ps) ≤ 7 * length r + 257
+    go true = omega (arith, h In72 ps)
+    go false = omega (arith, h BehindRpp ps)
 
-content-size : (s : Bool) (sh : Shape) (ps : List (List ℕ)) → lines.linesSize (contentLines s sh ps) ≤ 7 * widthOf ps + 250
+rest-size : (s : Bool) (into : DetailsField) (ps : List (List ℕ)) → lines.linesSize (restLines s into ps) ≤ 250
+rest-size s into [] = omega arith
+rest-size s into (t ∷ ts) = details-size into 0 (bankOf s t)
+
+purpose-size : (s : Bool) (into : DetailsField) (ps : List (List ℕ)) → lines.linesSize (detailsLines s into ps) ≤ 250
+purpose-size s into ps = details-size into (length (code s (firstLine ps))) (code s (firstLine ps) ++ bankOf s (secondPart ps))
+
+in70-size : (s : Bool) (ps : List (List ℕ)) → lines.linesSize (contentLines s Details ps) ≤ 250
 unfolding contentLines
-content-size s Details ps = omega (arith, details-size In70 (codeSize s) (codeAndText s ps))
-content-size s Note103 ps = omega (arith, rpps-size ps)
-content-size s Note202 ps = note-size s ps
-content-size s Plain ps = cast-size s Plain ps
-content-size s Payer ps = cast-size s Payer ps
-content-size s Payee ps = cast-size s Payee ps
-content-size s Agent ps = cast-size s Agent ps
+in70-size s ps = purpose-size s In70 ps
+
+in72-size : (s : Bool) (ps : List (List ℕ)) → lines.linesSize (contentLines s Note103 ps) ≤ 7 * length (firstLine ps) + 257
+unfolding contentLines
+in72-size s ps = note-size (restLines s) (rest-size s) ps
+
+first-within : (ps : List (List ℕ)) → length (firstLine ps) ≤ widthOf ps
+first-within [] = omega arith
+first-within (p ∷ ps) = omega arith
+
+content-size : (s : Bool) (sh : Shape) (ps : List (List ℕ)) → lines.linesSize (contentLines s sh ps) ≤ 7 * widthOf ps + 257
+unfolding contentLines
+content-size s Details ps = omega (arith, in70-size s ps)
+content-size s Note103 ps = omega (arith, in72-size s ps, first-within ps)
+content-size s Note202 ps = omega (arith, note-size (detailsLines s) (purpose-size s) ps, first-within ps)
+content-size s Plain ps = omega (arith, cast-size s Plain ps)
+content-size s Payer ps = omega (arith, cast-size s Payer ps)
+content-size s Payee ps = omega (arith, cast-size s Payee ps)
+content-size s Agent ps = omega (arith, cast-size s Agent ps)
 
 -- ---- records
 lined-size : (t : List ℕ) (ls : List (List ℕ)) → lines.linesSize (lined (field t ls)) ≤ length t + 2 + lines.linesSize ls
@@ -116,21 +140,74 @@ records-size form s [] = omega arith
 records-size form s (r ∷ rs) =
     omega (arith, record-size form s r, records-size form s rs, size-append (lined (fieldFor form s r)) (linesOf (map (fieldFor form s) rs)))
 
+-- ---- as they run on: a half takes no more than its field holds, and a new 72 no more than 300
+module _ (s : Bool) (one two : List ℕ) where
+  abbrev made : List Record → ℕ
+  made rs = lines.linesSize (linesOf (map (fieldFor Mt103 s) rs))
+
+  abbrev takes : Record → ℕ
+  takes r = lines.linesSize (lined (fieldFor Mt103 s r))
+
+  next-size : (r : Record) (rs : List Record) → made (r ∷ rs) ≡ takes r + made rs
+  next-size r rs = size-append (lined (fieldFor Mt103 s r)) (linesOf (map (fieldFor Mt103 s) rs))
+
+  halved-size : (r : Record) → takes (halved one two r) ≤ 300 * (length (line r) + 1)
+  halved-size (field t ps) = go (same t tag70) (same t tag72) refl refl
+    where
+      go : (b c : Bool) → same t tag70 ≡ b → same t tag72 ≡ c → takes (halved one two (field t ps)) ≤ 300 * (length (line (field t ps)) + 1)
+      go true c e f =
+          let qs : List (List ℕ) = firstLine ps ∷ one ∷ [] in
+          omega (arith, ap takes (halved-70 one two t ps e), lined-size t (contentLines s (shapeOf Mt103 t) qs), ap (λ (sh : Shape). lines.linesSize (contentLines s sh qs)) (shape-70 t e), in70-size s qs, line-long t ps)
+      go false true e f =
+          let qs : List (List ℕ) = firstLine ps ∷ two ∷ [] in
+          omega (arith, ap takes (halved-72 one two t ps f), lined-size t (contentLines s (shapeOf Mt103 t) qs), ap (λ (sh : Shape). lines.linesSize (contentLines s sh qs)) (shape-72 t f), in72-size s qs, first-within ps, line-long t ps)
+      go false false e f = omega (arith, ap takes (halved-not one two t ps e f), record-size Mt103 s (field t ps))
+
+  new-size : takes (newNote two) ≤ 300
+  unfolding same
+  new-size =
+      let qs : List (List ℕ) = [] ∷ two ∷ [] in
+      omega (arith, lined-size tag72 (contentLines s (shapeOf Mt103 tag72) qs), ap (λ (sh : Shape). lines.linesSize (contentLines s sh qs)) (shape-72 tag72 refl), in72-size s qs)
+
+  with-72 : (rs : List Record) → made (runAs false one two rs) ≤ 300 * recordsSize rs
+  with-72 [] = omega arith
+  with-72 (r ∷ rs) = omega (arith, halved-size r, with-72 rs, next-size (halved one two r) (runAs false one two rs))
+
+  cut-size : (new : Bool) (rs : List Record) → made (runAs new one two rs) ≤ 300 * recordsSize rs + 300
+  cut-size false rs = omega (arith, with-72 rs)
+  cut-size true [] = omega (arith, new-size, next-size (newNote two) [])
+  cut-size true (r ∷ rs) = go (tagged tag77B r) (cut-size true rs)
+    where
+      go : (b : Bool) → made (runAs true one two rs) ≤ 300 * recordsSize rs + 300
+          → made (pick b (newNote two ∷ r ∷ runAs false one two rs) (halved one two r ∷ runAs true one two rs)) ≤ 300 * recordsSize (r ∷ rs) + 300
+      go true i = omega (arith, new-size, record-size Mt103 s r, with-72 rs, next-size (newNote two) (r ∷ runAs false one two rs), next-size r (runAs false one two rs))
+      go false i = omega (arith, halved-size r, i, next-size (halved one two r) (runAs true one two rs))
+
+-- the first record makes no field, and leaves room for a new 72
+run-size : (form : Form) (s : Bool) (rs : List Record) → lines.linesSize (linesOf (map (fieldFor form s) (runOn form s (tail rs)))) ≤ 300 * recordsSize rs
+run-size form s [] = omega (arith, ap (λ (us : List Record). lines.linesSize (linesOf (map (fieldFor form s) us))) (apart-kept form s [] refl))
+run-size form s (r ∷ rs) = go (ran form s rs)
+  where
+    go : {us : List Record} → Ran form s rs us → lines.linesSize (linesOf (map (fieldFor form s) us)) ≤ 300 * recordsSize (r ∷ rs)
+    go (apart e) = omega (arith, records-size form s rs)
+    go (fitting q e f) = omega (arith, records-size form s rs)
+    go (crowding q e n m) = omega (arith, records-size form s rs)
+    go (cutting q e k n l) =
+        let new : Bool = eqb (howMany tag72 rs) 0 in
+        let one : List ℕ = take k (textIn rs) in
+        let two : List ℕ = drop k (textIn rs) in
+        omega (arith, ap (λ (x : Form). lines.linesSize (linesOf (map (fieldFor x s) (runAs new one two rs)))) q, cut-size s one two new rs)
+
 -- the records take no more than the sheet
 records-within : (s : List ℕ) → recordsSize (records s) ≤ length s
 records-within s = omega (arith, size-sheet (records s), ap length (sheet-rest s), length-append (sheet (records s)) (rest s))
-
-tail-within : (rs : List Record) → recordsSize (tail rs) ≤ recordsSize rs
-tail-within [] = omega arith
-tail-within (r ∷ rs) = omega arith
 
 -- ---- the message: 300 bytes at most for each of the sheet's, and its frame
 pub message-within : (s : List ℕ) → length (messageFor s) ≤ 300 * length s + 7
 unfolding messageFor fieldsOf spread message
 message-within s =
-    let rs : List Record = tail (records s) in
-    let ls : List (List ℕ) = linesOf (map (fieldFor (sheetForm s) (sheetSign s)) rs) in
-    omega (arith, records-size (sheetForm s) (sheetSign s) rs, tail-within (records s), records-within s, crlf-size ls, length-append (withCrLf ls) closing)
+    let ls : List (List ℕ) = linesOf (map (fieldFor (sheetForm s) (sheetSign s)) (runOn (sheetForm s) (sheetSign s) (tail (records s)))) in
+    omega (arith, run-size (sheetForm s) (sheetSign s) (records s), records-within s, crlf-size ls, length-append (withCrLf ls) closing)
 
 -- so the place of 17 is small: the longest message of a sheet within the limit
 abbrev pub longest : ℕ
@@ -167,7 +244,8 @@ width : (sh : Shape) (ps : List (List ℕ)) → partsSize (castParts sh ps) ≡ 
 width Details ps = coded-width ps
 width Note202 [] = refl
 width Note202 (r ∷ ps) = omega (arith, coded-width ps)
-width Note103 ps = cast-width Note103 ps
+width Note103 [] = refl
+width Note103 (r ∷ ts) = coded-width (r ∷ ts)
 width Plain ps = cast-width Plain ps
 width Payer ps = cast-width Payer ps
 width Payee ps = cast-width Payee ps

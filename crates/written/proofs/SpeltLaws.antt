@@ -11,7 +11,7 @@ use borrow.Author.Tests.{eqb-true, ne-eqb}
 use Rattle.base.specs.Choice.{all}
 use Rattle.base.specs.Bytes.{byte, begins, empty, isIn, digit, capital, letter, marks, shared, xset, same}
 use Rattle.base.specs.Quoted.{bytes}
-use Rattle.base.specs.Calls.{Answer, said, stuck, textOf}
+use Rattle.base.specs.Calls.{Answer, said, stuck}
 use Rattle.base.proofs.Bools.{left, right, both}
 use Rattle.base.proofs.ByteLaws.{begins-byte}
 use Rattle.base.proofs.CallLaws.{not-said}
@@ -25,15 +25,6 @@ use Rattle.alphabets.proofs.Theorems.{Written, written, plain-only, plain-iff, 
 use Rattle.fields.specs.Shapes.{goesOn}
 use Rattle.contents.specs.Tests.{looksTax, starts}
 use Rattle.roles.specs.Rule14.{hidden, isCyrillicInn}
-
--- ---- an answer that is a text
-abbrev pub isSaid : Answer → Bool
-isSaid (said t) = true
-isSaid (stuck k) = false
-
-pub said-is : (a : Answer) → isSaid a ≡ true → a ≡ said (textOf a)
-said-is (said t) e = refl
-said-is (stuck k) e = absurd (false≢true e)
 
 -- ---- without the sign, and copied: the text itself
 pub plain-same : (p t : List ℕ) → plainly p ≡ said t → t ≡ p

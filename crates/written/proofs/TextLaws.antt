@@ -3,11 +3,11 @@
 use Prim.Native.Nat.{ℕ, _+_}
 use mathlib.Core.Path.{_≡_, refl, sym, ap, ap₂, _∙_, subst}
 use mathlib.Core.Bool.{Bool, true, false, not, _||_, false≢true}
-use mathlib.Core.List.{List, [], _∷_, _++_, map, tail}
+use mathlib.Core.List.{List, [], _∷_, _++_, map}
 use lib.ListN.{length}
 use Rattle.types.specs.declared.Form.{Form}
-use Rattle.base.specs.Choice.{pick, all}
-use Rattle.base.specs.Bytes.{empty, same}
+use Rattle.base.specs.Choice.{all}
+use Rattle.base.specs.Bytes.{empty}
 use Rattle.base.specs.Calls.{Answer, said, textOf}
 use Rattle.base.specs.declared.Verdict.the-variants.{Fine}
 use Rattle.base.proofs.Bools.{left, right, both, isnt, all-imp}
@@ -15,34 +15,33 @@ use Rattle.base.specs.Rules.{Clean}
 use Rattle.alphabets.specs.Bank.{reading}
 use Rattle.alphabets.specs.Best.{writing}
 use Rattle.alphabets.proofs.Theorems.{reads-back}
+use Rattle.alphabets.proofs.SaidLaws.{said-is}
 use Rattle.fields.specs.Field.{field}
 use Rattle.fields.specs.Places.{startOf}
 use Rattle.fields.specs.Places as fields
 use Rattle.fields.specs.Shapes.{goesOn}
 use Rattle.contents.specs.Tests.{looksTax}
 use Rattle.roles.specs.Role.{shapeOf, Part, copy, name, taxName, lineOf, cast}
-use Rattle.roles.specs.Speech.{Manner, asName, asTaxName, asDetails, Speech, speech, saidAt, nameSpeeches, noteSpeeches, codeSize, speeches}
+use Rattle.roles.specs.Speech.{Manner, asName, asTaxName, asDetails, Speech, speech, saidAt, nameSpeeches, noteSpeeches, codeSize, nzpSize, speeches}
 use Rattle.roles.specs.Speech as speech
 use Rattle.roles.specs.Rule14.{mute, isCyrillicInn, taxLike, clauses, breaks14, speechesOf, rule14}
 use Rattle.roles.specs.Sentences.{Heard}
 use Rattle.roles.specs.declared.Shape.{Shape}
 use Rattle.roles.specs.declared.Shape.the-variants.{Payer, Payee, Agent}
 use Rattle.roles.proofs.BreachLaws.{same-lines, rule14-fine}
-use Rattle.records.specs.Record.{Record, records}
+use Rattle.records.specs.Record.{Record}
 use Rattle.records.specs.Rule19.{isDigits, sheetForm, sheetSign}
 use Rattle.records.specs.Sentences.{RightParts, plain, agent, payer, payee, details, note103, note202}
 use Rattle.records.proofs.SoundLaws.{calm, cast-calm}
-use Rattle.details.specs.Layouts.{linesFor, sizeFor}
-use Rattle.details.specs.declared.DetailsField.{DetailsField}
-use Rattle.details.specs.declared.DetailsField.the-variants.{In70, In72, BehindRpp}
-use Rattle.details.specs.Front.{code, rppLine}
-use Rattle.writer.specs.Spread.{castParts, lineFor, contentLines, fieldFor, spread}
-use Rattle.writer.specs.Spread as spread
-use Rattle.writer.specs.Sheet.{isUnfit, crowded, fieldsOf, sheetRules}
-use Rattle.written.proofs.SpeltLaws.{said-is, spelt-open}
-use Rattle.written.proofs.ReadyLaws.{speaks, Laid, laid, Ready}
-use Rattle.written.proofs.CastLaws.{turned, untaxed, cast-untaxed, cast-again, frontOf, nextOf, details-again}
-use Rattle.written.proofs.BuiltLaws.{AllPass, records-pass, built-sign}
+use Rattle.details.specs.declared.DetailsField.the-variants.{In70}
+use Rattle.details.specs.Front.{code, noteField}
+use Rattle.runon.specs.Run.{bankOf, fitsIn}
+use Rattle.writer.specs.Spread.{castParts, lineFor, laidLines, rppLines, contentLines, fieldFor, spread}
+use Rattle.writer.specs.Sheet.{crowded, fieldsOf, sheetRules}
+use Rattle.written.proofs.SpeltLaws.{spelt-open}
+use Rattle.written.proofs.ReadyLaws.{speaks, RunParts, own, withRest, Ready, fits-lines}
+use Rattle.written.proofs.CastLaws.{turned, untaxed, cast-untaxed, cast-again, code-size, details-again, note-again, rpp-silent}
+use Rattle.written.proofs.BuiltLaws.{AllPass, runsAs, records-pass, built-sign}
 
 -- ---- one text: it reads as its part
 back : (p : List ℕ) → speaks true (name p) ≡ true → reading true (textOf (writing true p)) ≡ said p
@@ -96,50 +95,43 @@ parts-heard o sh p ps r n g e =
     let k : all some (map lineOf xs) ≡ true = ap (all some) (same-lines sh (p ∷ ps)) ∙ both (ap not n) (on-some ps g) in
     subst (λ (l : List Part). Heard (nameSpeeches o l)) (sym (cast-again true sh (p ∷ ps) r e)) (names-heard o xs e k (cast-untaxed sh (p ∷ ps)) (cast-calm sh (p ∷ ps) r))
 
--- ---- details
-heard-details : (q : DetailsField) (vo p : List ℕ) (o : ℕ) → isDigits 5 vo ≡ true → empty p ≡ false → speaks true (name p) ≡ true → Laid q (codeSize true) (code true vo ++ textOf (writing true p))
-    → Heard (speech.detailsSpeech (frontOf q true) (nextOf q) o (linesFor q (codeSize true) (code true vo ++ textOf (writing true p))))
-heard-details q vo p o d n e h =
-    let w = details-again q true vo (textOf (writing true p)) o d h in
-    subst Heard (sym (w .1)) (details-heard p e n, tt)
+-- ---- details: the one text that their lines hold
+text-heard : {xs : List Speech} {at : ℕ} (p : List ℕ) → empty p ≡ false → speaks true (name p) ≡ true → xs ≡ speech asDetails at (bankOf true p) ∷ [] → Heard xs
+text-heard p n e q = subst Heard (sym q) (details-heard p e n, tt)
 
--- /NZP/ is no RPP line, /RPP/ is one
-note-first : (o : ℕ) (least : ℕ) (text : List ℕ) → Laid In72 least text → noteSpeeches true o (linesFor In72 least text) ≡ speech.detailsSpeech (frontOf In72 true) (nextOf In72) o (linesFor In72 least text)
-unfolding noteSpeeches same
-note-first o least text h = ap (noteSpeeches true o) (h .is) ∙ ap (speech.detailsSpeech (frontOf In72 true) (nextOf In72) o) (sym (h .is))
+heard-details : (vo p : List ℕ) (o : ℕ) → isDigits 5 vo ≡ true → empty p ≡ false → speaks true (name p) ≡ true → not (fitsIn true In70 (code true vo) p) ≡ false
+    → Heard (speech.detailsSpeech (codeSize true) 0 o (laidLines true In70 (code true vo) p))
+heard-details vo p o d n e u =
+    let w = details-again In70 (code true vo) (bankOf true p) o (fits-lines true In70 (code true vo) p u) in
+    text-heard p n e (ap (λ (k : ℕ). speech.detailsSpeech k 0 o (laidLines true In70 (code true vo) p)) (sym (code-size true vo d)) ∙ w .1)
 
-note-behind : (o : ℕ) (r : List ℕ) (ls : List (List ℕ)) → noteSpeeches true o (rppLine r ∷ ls) ≡ speech.detailsSpeech (frontOf BehindRpp true) (nextOf BehindRpp) (o + length (rppLine r) + 2) ls
-unfolding noteSpeeches same
-note-behind o r ls = refl
-
-note-heard : (b : Bool) (o : ℕ) (r vo p : List ℕ) → isDigits 5 vo ≡ true → empty p ≡ false → speaks true (name p) ≡ true
-    → isUnfit (sizeFor (pick b In72 BehindRpp) (codeSize true) (code true vo ++ textOf (writing true p))) ≡ false
-    → Heard (noteSpeeches true o (pick b [] (rppLine r ∷ []) ++ linesFor (pick b In72 BehindRpp) (codeSize true) (code true vo ++ textOf (writing true p))))
-note-heard true o r vo p d n e u =
-    let text : List ℕ = code true vo ++ textOf (writing true p) in
-    let h = laid In72 (codeSize true) text u in
-    subst Heard (sym (note-first o (codeSize true) text h)) (heard-details In72 vo p o d n e h)
-note-heard false o r vo p d n e u =
-    let text : List ℕ = code true vo ++ textOf (writing true p) in
-    let h = laid BehindRpp (codeSize true) text u in
-    subst Heard (sym (note-behind o r (linesFor BehindRpp (codeSize true) text))) (heard-details BehindRpp vo p (o + length (rppLine r) + 2) d n e h)
+-- in 72, behind a front of so many bytes
+note-heard : (r front p : List ℕ) (o n : ℕ) → length front ≡ n → empty p ≡ false → speaks true (name p) ≡ true → not (fitsIn true (noteField r) front p) ≡ false
+    → Heard (noteSpeeches (nzpSize + n) o (rppLines r ++ laidLines true (noteField r) front p))
+note-heard r front p o n l s e u =
+    let w = note-again (empty r) r front (bankOf true p) o (fits-lines true (noteField r) front p u) in
+    text-heard p s e (ap (λ (k : ℕ). noteSpeeches (nzpSize + k) o (rppLines r ++ laidLines true (noteField r) front p)) (sym l) ∙ w .1)
 
 -- ---- a record, the records
 ready-heard : (o : ℕ) (sh : Shape) (ps : List (List ℕ)) → Ready true sh ps → Heard (speeches true sh o (contentLines true sh ps))
 unfolding speeches contentLines crowded
 ready-heard o sh ps w = go (w .is-right) (w .says) (w .fits)
   where
-    go : {sh : Shape} {ps : List (List ℕ)} → RightParts true sh ps → all (speaks true) (castParts sh ps) ≡ true → crowded true sh ps ≡ false
+    right-heard : {sh : Shape} {ps : List (List ℕ)} → RightParts true sh ps → all (speaks true) (castParts sh ps) ≡ true → crowded true sh ps ≡ false
         → Heard (speeches true sh o (contentLines true sh ps))
-    go (plain p ps e g) a u = tt
-    go (agent p ps e g) a u = parts-heard o Agent p ps (agent p ps e g) e g a
-    go (payer p ps e g n) a u = parts-heard o Payer p ps (payer p ps e g n) e g a
-    go (payee p ps e g n) a u = parts-heard o Payee p ps (payee p ps e g n) e g a
-    go (details v t d e) a u =
-        heard-details In70 v t o d e (left (speaks true (name t)) _ (right (speaks true (copy v)) _ a)) (laid In70 (codeSize true) (spread.codeAndText true (v ∷ t ∷ [])) u)
-    go (note103 r e) a u = tt
-    go (note202 r v t d e) a u =
-        note-heard (empty r) o r v t d e (left (speaks true (name t)) _ (right (speaks true (copy v)) _ (right (speaks true (copy r)) _ a))) u
+    right-heard (plain p ps e g) a u = tt
+    right-heard (agent p ps e g) a u = parts-heard o Agent p ps (agent p ps e g) e g a
+    right-heard (payer p ps e g n) a u = parts-heard o Payer p ps (payer p ps e g n) e g a
+    right-heard (payee p ps e g n) a u = parts-heard o Payee p ps (payee p ps e g n) e g a
+    right-heard (details v t d e) a u = heard-details v t o d e (left (speaks true (name t)) _ (right (speaks true (copy v)) _ a)) u
+    right-heard (note103 r e) a u = subst Heard (sym (rpp-silent nzpSize o r e)) tt
+    right-heard (note202 r v t d e) a u =
+        note-heard r (code true v) t o (codeSize true) (code-size true v d) e (left (speaks true (name t)) _ (right (speaks true (copy v)) _ (right (speaks true (copy r)) _ a))) u
+
+    go : {sh : Shape} {ps : List (List ℕ)} → RunParts true sh ps → all (speaks true) (castParts sh ps) ≡ true → crowded true sh ps ≡ false
+        → Heard (speeches true sh o (contentLines true sh ps))
+    go (own r) a u = right-heard r a u
+    go (withRest r t e) a u = note-heard r [] t o 0 refl e (left (speaks true (name t)) _ (right (speaks true (copy r)) _ a)) u
 
 records-heard : (form : Form) (o : ℕ) (rs : List Record) → AllPass form true rs → Heard (speechesOf form o (map (fieldFor form true) rs))
 unfolding speechesOf
@@ -157,4 +149,4 @@ signed-heard form false rs q w = absurd (false≢true q)
 module _ (s : List ℕ) (c : Clean (sheetRules s)) where
   pub built-rule14 : rule14 (sheetForm s) (fieldsOf s) ≡ Fine
   unfolding fieldsOf spread
-  built-rule14 = rule14-fine (sheetForm s) (fieldsOf s) .1 (λ q. signed-heard (sheetForm s) (sheetSign s) (tail (records s)) (sym (built-sign s c) ∙ q) (records-pass s c))
+  built-rule14 = rule14-fine (sheetForm s) (fieldsOf s) .1 (λ q. signed-heard (sheetForm s) (sheetSign s) (runsAs s c) (sym (built-sign s c) ∙ q) (records-pass s c))

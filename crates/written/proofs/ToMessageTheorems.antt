@@ -29,11 +29,13 @@ use Rattle.records.specs.Record.{records}
 use Rattle.records.specs.Rule19.{sheetForm, sheetSign, rule19}
 use Rattle.records.specs.Sentences.{BadSheetAt}
 use Rattle.records.proofs.RuleLaws.{rule19-bad, bad-rule19}
+use Rattle.runon.specs.RunOn.{runOn}
 use Rattle.writer.specs.Sheet.{rule15, rule16, messageFor, sheetRules, atStart, ownRule, writeRules, MessageTo}
 use Rattle.writer.proofs.RuleLaws.{sheet-holds, rules-sheet, write-by, write-rules}
 use Rattle.written.specs.Sentences as why
-use Rattle.written.specs.Sentences.{OneByOne, Made, StuckAt, CrowdedIn, Own, NoType, Reason}
-use Rattle.written.proofs.ExactLaws.{rule15-broken, rule15-iff, rule16-broken, crowded-rule16}
+use Rattle.written.specs.Sentences.{OneByOne, RunsOn, Made, StuckAt, Crowded, Own, NoType, Reason}
+use Rattle.written.proofs.BuiltLaws.{fine-good, fine-said, built-runs}
+use Rattle.written.proofs.ExactLaws.{rule15-broken, rule15-iff, rule16-broken, rule16-number, crowded-rule16}
 use Rattle.written.proofs.OwnLaws.{own-refusal, own-fine}
 use Rattle.written.proofs.MadeLaws.{built-made}
 
@@ -89,6 +91,10 @@ module _ (s out : List ℕ) where
     abbrev Why : Verdict → Type 0
     Why v = v ≡ Broken n p → Reason s out p n
 
+    -- where it is the first of the sheet's rules
+    abbrev WhyFirst : Verdict → Type 0
+    WhyFirst v = first (sheetRules s) ≡ Broken n p → Why v
+
     step : (v w : Verdict) → Why v → (v ≡ Fine → Why w) → Why (then v w)
     step Fine w f g e = g refl e
     step (Broken m q) w f g e = f e
@@ -105,14 +111,28 @@ module _ (s out : List ℕ) where
     why-15 : Why (rule15 (sheetForm s) (sheetSign s) 0 (records s))
     why-15 e = let h = rule15-broken (sheetSign s) (sheetForm s) 0 (records s) n p e in by-number 15 (h .0) (why.unsaid (h .1))
 
-    why-16 : Why (rule16 (sheetForm s) (sheetSign s) (tail (records s)))
-    why-16 e = let h = rule16-broken (sheetSign s) (sheetForm s) (tail (records s)) n p e in by-number 16 (h .0) (why.crowded (h .2) (h .1))
+    -- 19 goes before 16
+    sound-first : n ≡ 16 → first (sheetRules s) ≡ Broken n p → rule19 s ≡ Fine
+    sound-first z = go (long limit s) (rule19 s) refl refl
+      where
+        go : (v w : Verdict) → long limit s ≡ v → rule19 s ≡ w → then v (then w (first (rule18 (sheetForm s) ∷ rule15 (sheetForm s) (sheetSign s) 0 (records s) ∷ rule16 (sheetForm s) (sheetSign s) (tail (records s)) ∷ []))) ≡ Broken n p
+            → w ≡ Fine
+        go (Broken m q) w f g e = absurd (omega (arith, long-broken m q f .0, same-broken e .0))
+        go Fine (Broken m q) f g e = absurd (omega (arith, rule19-bad s m q g .0, same-broken e .0))
+        go Fine Fine f g e = refl
+
+    why-16 : WhyFirst (rule16 (sheetForm s) (sheetSign s) (tail (records s)))
+    why-16 f e =
+        let h = rule16-number (sheetSign s) (sheetForm s) (tail (records s)) n p e in
+        by-number 16 (h .0) (why.crowded (rule16-broken (sheetSign s) (sheetForm s) (tail (records s)) (fine-good s (sound-first (h .0) f)) n p e) (h .1))
 
     why-17 : Why (short (messageFor s) out)
     why-17 e = let h = short-broken n p e in by-number 17 (h .0) (why.short (h .2) (h .1))
 
     why-sheet : Why (first (sheetRules s))
-    why-sheet = sheet-holds Why s (λ e. absurd (fine-broken n p e)) (record { size = why-1; sound = why-19; type = why-18; texts = why-15; details = why-16 })
+    why-sheet e =
+        sheet-holds WhyFirst s (λ f e. absurd (fine-broken n p e))
+        (record { size = λ f. why-1; sound = λ f. why-19; type = λ f. why-18; texts = λ f. why-15; details = why-16 }) e e
 
     -- a refusal has one of the reasons
     pub refusal-reason : Why (first (writeRules s out))
@@ -126,7 +146,7 @@ module _ (s out : List ℕ) (p : ℕ) where
       pick (eqb n 19) (BadSheetAt s p)
       (pick (eqb n 18) ((p ≡ 0) × NoType (sheetForm s))
       (pick (eqb n 15) (StuckAt (sheetForm s) (sheetSign s) 0 (records s) p)
-      (pick (eqb n 16) ((p ≡ 0) × CrowdedIn (sheetForm s) (sheetSign s) (tail (records s)))
+      (pick (eqb n 16) ((p ≡ 0) × Crowded (sheetForm s) (sheetSign s) (tail (records s)))
       (pick (eqb n 17) ((p ≡ length (messageFor s)) × (length out < length (messageFor s)))
       (pick (eqb n 1) (((p ≡ limit) × (limit < length s)) ⊎ (p ≡ 0)) (Unit {0}))))))
 
@@ -205,12 +225,12 @@ module _ (s out : List ℕ) (r : Outcome) (after : List ℕ) (g : MessageTo s ou
       (λ b. given 15 p (rw (size, sound, type, rule15-iff (sheetSign s) (sheetForm s) 0 (records s) p .1 b))),
     )
 
-    -- 16 exactly if some details record of the type has no division in any way
+    -- 16 exactly if neither the whole nor any cut of the details fits; where nothing may run on, if some details have no division in any way
     pub exact-16 : Clean (long limit s ∷ rule19 s ∷ rule18 (sheetForm s) ∷ rule15 (sheetForm s) (sheetSign s) 0 (records s) ∷ [])
-        → (r ≡ Refused 16 p) ↔ ((p ≡ 0) × CrowdedIn (sheetForm s) (sheetSign s) (tail (records s)))
+        → (r ≡ Refused 16 p) ↔ ((p ≡ 0) × Crowded (sheetForm s) (sheetSign s) (tail (records s)))
     exact-16 (size, (sound, (type, (texts, z)))) = (
       (λ e. because 16 p e),
-      (λ b. given 16 p (rw (size, sound, type, texts, crowded-rule16 (sheetSign s) (sheetForm s) (tail (records s)) (b .1), b .0))),
+      (λ b. given 16 p (rw (size, sound, type, texts, crowded-rule16 (sheetSign s) (sheetForm s) (tail (records s)) (fine-good s sound) (fine-said s texts) (b .1), b .0))),
     )
 
     -- 17 exactly if the room is shorter than the message, whose length is the place
@@ -246,9 +266,10 @@ module _ (s out : List ℕ) (r : Outcome) (after : List ℕ) (g : MessageTo s ou
     pub count : n ≡ length (messageFor s)
     pub room : length (messageFor s) ≤ length out
     pub filled : after ≡ over (messageFor s) out
-    -- the message is accepted, and has just the fields of the records
+    -- the message is accepted, and has just the fields of the records as they run on
     pub message-fine : verdictOf (sheetForm s) (messageFor s) ≡ Fine
-    pub made : OneByOne (Made (sheetForm s) (sheetSign s)) (tail (records s)) (fields (messageFor s))
+    pub running : RunsOn (sheetForm s) (sheetSign s) (tail (records s)) (runOn (sheetForm s) (sheetSign s) (tail (records s)))
+    pub made : OneByOne (Made (sheetForm s) (sheetSign s)) (runOn (sheetForm s) (sheetSign s) (tail (records s))) (fields (messageFor s))
 
   pub written : (n : ℕ) → r ≡ Done n → Written n
   unfolding MessageTo
@@ -256,7 +277,7 @@ module _ (s out : List ℕ) (r : Outcome) (after : List ℕ) (g : MessageTo s ou
       let a = accepted (writeRules s out) (messageFor s) out n after (subst (λ (q : Outcome). Gives (writeRules s out) (messageFor s) out q after) e g) in
       let c = write-rules s out (a .clean) in
       let k : Clean (sheetRules s) = rules-sheet s (c .sheet) in
-      record { clean = k; count = a .count; room = short-within (messageFor s) out (c .room); filled = a .filled; message-fine = own-fine s k (c .own); made = built-made s k }
+      record { clean = k; count = a .count; room = short-within (messageFor s) out (c .room); filled = a .filled; message-fine = own-fine s k (c .own); running = built-runs s k; made = built-made s k }
 
   -- written exactly if the message is accepted, where the sheet is fine and there is room
   pub exact-done : Clean (sheetRules s) → length (messageFor s) ≤ length out

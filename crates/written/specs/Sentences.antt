@@ -1,5 +1,5 @@
--- What is said of a sheet written as a message, in sentences: the fields made of its records, 15 and 16, and the message's own refusal (S2, S7,
--- T9, T11, T12, B1-B5, N15, N16, O2, D3). Assumes nothing.
+-- What is said of a sheet written as a message, in sentences: the records as they run on, the fields made of them, 15 and 16, and the message's own
+-- refusal (S2, S7, T9, T11, T12, B1-B9, N15, N16, O2, D3). Assumes nothing.
 use Prim.Native.Nat.{ℕ, _+_, _≤_, _<_}
 use mathlib.Core.Path.{_≡_}
 use mathlib.Core.Logic.{_⊎_}
@@ -7,7 +7,7 @@ use mathlib.Core.Bool.{Bool, true, false}
 use mathlib.Core.List.{List, [], _∷_, _++_, tail}
 use lib.ListN.{length}
 use Rattle.types.specs.declared.Form.{Form}
-use Rattle.types.specs.declared.Form.the-variants.{Other}
+use Rattle.types.specs.declared.Form.the-variants.{Other, Mt103, Mt202}
 use Rattle.base.specs.Choice.{all}
 use Rattle.base.specs.Bytes.{empty, xset}
 use Rattle.base.specs.Calls.{said}
@@ -19,7 +19,6 @@ use Rattle.alphabets.specs.Bank.{reading}
 use Rattle.fields.specs.Field.{Field, field}
 use Rattle.fields.specs.Frame.{limit}
 use Rattle.roles.specs.Role.{shapeOf, Part, copy, name, taxName, lineOf, cast}
-use Rattle.roles.specs.Speech.{codeSize}
 use Rattle.roles.specs.declared.Shape.{Shape}
 use Rattle.roles.specs.declared.Shape.the-variants.{Plain, Payer, Payee, Agent, Details, Note103, Note202}
 use Rattle.message.specs.Message.{verdictOf}
@@ -32,8 +31,10 @@ use Rattle.details.specs.Breaking.{opens}
 use Rattle.details.specs.Layouts.{layout, DivisionIn, marked}
 use Rattle.details.specs.declared.DetailsField.{DetailsField}
 use Rattle.details.specs.declared.DetailsField.the-variants.{In70, In72, BehindRpp}
-use Rattle.details.specs.Front.{code, rppLine}
-use Rattle.writer.specs.Spread.{castParts, codeAndText}
+use Rattle.details.specs.Front.{code, rppLine, noteField}
+use Rattle.runon.specs.Cut.{Fits, Lawful, Taken}
+use Rattle.runon.specs.RunOn.{tag70, tag72, tag77B, tagged, howMany, frontIn, textIn, rppIn, mayRun, newNote}
+use Rattle.writer.specs.Spread.{castParts}
 use Rattle.writer.specs.Sheet.{messageFor}
 
 -- ---- lists
@@ -44,22 +45,53 @@ OneByOne P [] (y ∷ ys) = ⊥
 OneByOne P (x ∷ xs) [] = ⊥
 OneByOne P (x ∷ xs) (y ∷ ys) = P x y × OneByOne P xs ys
 
--- ---- the fields made of records; s: with the sign
+-- ---- the records behind the first as the fields are made of them; s: with the sign
+-- details may run on: in a 103 with just one 70 and at most one 72
+abbrev pub mayRunOn : Form → List Record → Bool
+mayRunOn Mt103 rs = mayRun rs
+mayRunOn Mt202 rs = false
+mayRunOn Other rs = false
+
+-- a record where the text of 70 is cut: 70 has the first half behind its VO digits, 72 the second behind its RPP part, any other is as it was
+pub data Halved (one two : List ℕ) : Record → Record → Type 0 where
+  firstIn70 : (vo text : List ℕ) → Halved one two (field tag70 (vo ∷ text ∷ [])) (field tag70 (vo ∷ one ∷ []))
+  secondIn72 : (rpp : List ℕ) → Halved one two (field tag72 (rpp ∷ [])) (field tag72 (rpp ∷ two ∷ []))
+  asItWas : (r : Record) → tagged tag70 r ≡ false → tagged tag72 r ≡ false → Halved one two r r
+
+-- a 77B, or nothing, comes next
+abbrev pub At77B : List Record → Type 0
+At77B [] = Unit {0}
+At77B (r ∷ rs) = tagged tag77B r ≡ true
+
+-- the records: where there is a 72 it takes the second half, else a new one stands before the first 77B, or last
+pub data HalvedAll (one two : List ℕ) (rs : List Record) : List Record → Type 0 where
+  with72 : (us : List Record) → howMany tag72 rs ≡ 1 → OneByOne (Halved one two) rs us → HalvedAll one two rs us
+  new72 : (before behind us vs : List Record) → howMany tag72 rs ≡ 0 → rs ≡ before ++ behind → howMany tag77B before ≡ 0 → At77B behind
+      → OneByOne (Halved one two) before us → OneByOne (Halved one two) behind vs → HalvedAll one two rs (us ++ newNote two ∷ vs)
+
+-- nothing may run on, or the text of 70 fits whole: they are the sheet's own; else that text is cut
+pub data RunsOn (form : Form) (s : Bool) (rs : List Record) : List Record → Type 0 where
+  unmoved : mayRunOn form rs ≡ false → RunsOn form s rs rs
+  fitsWhole : mayRunOn form rs ≡ true → Fits s In70 (frontIn s rs) (textIn rs) → RunsOn form s rs rs
+  isCut : mayRunOn form rs ≡ true → (Fits s In70 (frontIn s rs) (textIn rs) → ⊥) → {one two : List ℕ} → Taken s (frontIn s rs) (noteField (rppIn rs)) (textIn rs) one two
+      → {us : List Record} → HalvedAll one two rs us → RunsOn form s rs us
+
+-- ---- the fields made of records
 -- the line of a part: a copied part itself; for a name the shortest text that reads as it (D3)
 abbrev pub PartLine : Bool → Part → List ℕ → Type 0
 PartLine s (copy p) l = l ≡ p
 PartLine s (name p) l = Shortest s p l
 PartLine s (taxName p) l = Shortest s p l
 
--- details: their lines, the marks left out, are together the code and the shortest text for it (D3); they are a division, and each has the most
--- that it lawfully can
-pub record WrittenDetails (s : Bool) (into : DetailsField) (vo text : List ℕ) (ls : List (List ℕ)) : Type 0 where
+-- details behind a front, which is the code or nothing: their lines, the marks left out, are together the front and the shortest text (D3); they
+-- are a division, and each has the most that it lawfully can
+pub record WrittenDetails (s : Bool) (into : DetailsField) (front text : List ℕ) (ls : List (List ℕ)) : Type 0 where
   pub spelt : List ℕ
   pub shortest : Shortest s text spelt
   pub rows : List (List ℕ)
   pub marks : ls ≡ marked (layout into) rows
-  pub spells : together rows ≡ code s vo ++ spelt
-  pub division : DivisionIn (layout into) (codeSize s) (code s vo ++ spelt) rows
+  pub spells : together rows ≡ front ++ spelt
+  pub division : DivisionIn (layout into) (length front) (front ++ spelt) rows
   pub fullest : Most (opens (layout into .barred)) (layout into .widths) rows
 
 pub data Content (s : Bool) : Shape → List (List ℕ) → List (List ℕ) → Type 0 where
@@ -67,10 +99,12 @@ pub data Content (s : Bool) : Shape → List (List ℕ) → List (List ℕ) → 
   payer : {ps ls : List (List ℕ)} → OneByOne (PartLine s) (cast Payer ps) ls → Content s Payer ps ls
   payee : {ps ls : List (List ℕ)} → OneByOne (PartLine s) (cast Payee ps) ls → Content s Payee ps ls
   agent : {ps ls : List (List ℕ)} → OneByOne (PartLine s) (cast Agent ps) ls → Content s Agent ps ls
-  details : {vo text : List ℕ} {ls : List (List ℕ)} → WrittenDetails s In70 vo text ls → Content s Details (vo ∷ text ∷ []) ls
-  note103 : {r : List ℕ} → Content s Note103 (r ∷ []) (rppLine r ∷ [])
-  note202 : {vo text : List ℕ} {ls : List (List ℕ)} → WrittenDetails s In72 vo text ls → Content s Note202 ([] ∷ vo ∷ text ∷ []) ls
-  behindRpp : {r vo text : List ℕ} {ls : List (List ℕ)} → empty r ≡ false → WrittenDetails s BehindRpp vo text ls → Content s Note202 (r ∷ vo ∷ text ∷ []) (rppLine r ∷ ls)
+  details : {vo text : List ℕ} {ls : List (List ℕ)} → WrittenDetails s In70 (code s vo) text ls → Content s Details (vo ∷ text ∷ []) ls
+  note103 : {r : List ℕ} → empty r ≡ false → Content s Note103 (r ∷ []) (rppLine r ∷ [])
+  rest : {text : List ℕ} {ls : List (List ℕ)} → WrittenDetails s In72 [] text ls → Content s Note103 ([] ∷ text ∷ []) ls
+  restBehind : {r text : List ℕ} {ls : List (List ℕ)} → empty r ≡ false → WrittenDetails s BehindRpp [] text ls → Content s Note103 (r ∷ text ∷ []) (rppLine r ∷ ls)
+  note202 : {vo text : List ℕ} {ls : List (List ℕ)} → WrittenDetails s In72 (code s vo) text ls → Content s Note202 ([] ∷ vo ∷ text ∷ []) ls
+  behindRpp : {r vo text : List ℕ} {ls : List (List ℕ)} → empty r ≡ false → WrittenDetails s BehindRpp (code s vo) text ls → Content s Note202 (r ∷ vo ∷ text ∷ []) (rppLine r ∷ ls)
 
 -- a field made of a record: the same tag, and such a content
 abbrev pub Made : Form → Bool → Record → Field → Type 0
@@ -125,15 +159,16 @@ pub record StuckAt (form : Form) (s : Bool) (o : ℕ) (rs : List Record) (p : �
   pub stuck : StuckPart s (o + recordsSize before + length tag + 1) (castParts (shapeOf form tag) parts) p
 
 -- ---- 16
--- the code and the text written for it can't be divided in any way
-abbrev pub Undivided : Bool → DetailsField → List (List ℕ) → Type 0
-Undivided s into ps = (rows : List (List ℕ)) → DivisionIn (layout into) (codeSize s) (codeAndText s ps) rows → ⊥
+-- a text behind its front can't be divided in any way
+abbrev pub NoFit : Bool → DetailsField → List ℕ → List ℕ → Type 0
+NoFit s into front text = Fits s into front text → ⊥
 
 pub data NoWay (s : Bool) : Shape → List (List ℕ) → Type 0 where
-  in70 : {ps : List (List ℕ)} → Undivided s In70 ps → NoWay s Details ps
-  in72 : {ps : List (List ℕ)} → Undivided s In72 ps → NoWay s Note202 ([] ∷ ps)
-  pastRpp : {r : List ℕ} {ps : List (List ℕ)} → empty r ≡ false → Undivided s BehindRpp ps → NoWay s Note202 (r ∷ ps)
+  in70 : {vo text : List ℕ} → NoFit s In70 (code s vo) text → NoWay s Details (vo ∷ text ∷ [])
+  in72 : {vo text : List ℕ} → NoFit s In72 (code s vo) text → NoWay s Note202 ([] ∷ vo ∷ text ∷ [])
+  pastRpp : {r vo text : List ℕ} → empty r ≡ false → NoFit s BehindRpp (code s vo) text → NoWay s Note202 (r ∷ vo ∷ text ∷ [])
 
+-- of some record
 pub record CrowdedIn (form : Form) (s : Bool) (rs : List Record) : Type 0 where
   pub before : List Record
   pub tag : List ℕ
@@ -141,6 +176,11 @@ pub record CrowdedIn (form : Form) (s : Bool) (rs : List Record) : Type 0 where
   pub behind : List Record
   pub list : rs ≡ before ++ field tag parts ∷ behind
   pub no-way : NoWay s (shapeOf form tag) parts
+
+-- of a sheet's records: nothing may run on, and some details don't fit; or neither the whole text of the one 70 fits nor is any cut of it lawful
+pub data Crowded (form : Form) (s : Bool) (rs : List Record) : Type 0 where
+  apart : mayRunOn form rs ≡ false → CrowdedIn form s rs → Crowded form s rs
+  uncut : mayRunOn form rs ≡ true → NoFit s In70 (frontIn s rs) (textIn rs) → ((one two : List ℕ) → Lawful s (frontIn s rs) (noteField (rppIn rs)) (textIn rs) one two → ⊥) → Crowded form s rs
 
 -- ---- the built message's own refusal: 1, or 5 to 13
 abbrev pub Own : ℕ → Type 0
@@ -156,6 +196,6 @@ pub data Reason (s out : List ℕ) (p : ℕ) : ℕ → Type 0 where
   against : BadSheetAt s p → Reason s out p 19
   typeless : NoType (sheetForm s) → p ≡ 0 → Reason s out p 18
   unsaid : StuckAt (sheetForm s) (sheetSign s) 0 (records s) p → Reason s out p 15
-  crowded : CrowdedIn (sheetForm s) (sheetSign s) (tail (records s)) → p ≡ 0 → Reason s out p 16
+  crowded : Crowded (sheetForm s) (sheetSign s) (tail (records s)) → p ≡ 0 → Reason s out p 16
   short : length out < length (messageFor s) → p ≡ length (messageFor s) → Reason s out p 17
   own : {n : ℕ} (q : ℕ) → Own n → verdictOf (sheetForm s) (messageFor s) ≡ Broken n q → p ≡ 0 → Reason s out p n

@@ -157,7 +157,7 @@ pub fn write_text(sign: bool, text: &[u8], room: &mut [u8]) -> Result<usize, Ref
 
 /// A message judged by every rule; colon, content start and content end of each field go into the list.
 ///
-/// Refused by the first broken rule of 18, 1 to 14, then by 17; [`LIST_ROOM`] numbers are always enough.
+/// Refused by the first broken rule of 18, 1 to 14, 21, then by 17; [`LIST_ROOM`] numbers are always enough.
 ///
 /// ```
 /// use rimpelsloot::{check, mt103, Kind, LIST_ROOM};
@@ -229,7 +229,8 @@ pub fn date(kind: Kind, message: &[u8]) -> Result<Date, Refusal> {
     })
 }
 
-/// A message read into its sheet; answers the bytes written. No sheet is longer than its message.
+/// A message read into its sheet; answers the bytes written. No sheet is longer than its message. Its record of 70 holds
+/// all of the details, also those that run on into 72.
 ///
 /// Refused by the message's refusal, then by 17.
 ///
@@ -247,7 +248,8 @@ pub fn to_sheet(kind: Kind, message: &[u8], room: &mut [u8]) -> Result<usize, Re
     accepted(calls::to_sheet(kind.number(), message, room)).map(units)
 }
 
-/// A sheet written as its message; answers the bytes written. The type stands in the sheet.
+/// A sheet written as its message; answers the bytes written. The type stands in the sheet. Details of a 103 that field
+/// 70 can't hold run on into 72.
 ///
 /// Refused by 1, 19, 18, 15, 16, then by 17 (which may ask for more than [`MESSAGE_LIMIT`] bytes), then by the refusal
 /// of the message itself (1, 5 to 13) with place 0.

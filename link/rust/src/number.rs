@@ -38,3 +38,5 @@ pub const ROOM: u32 = 17;
 pub const TYPE: u32 = 18;
 /// The build of a sheet.
 pub const SHEET: u32 = 19;
+/// Details that run on and are too long together.
+pub const RUN_ON: u32 = 21;

@@ -20,7 +20,7 @@ use std::fmt;
 /// ```
 #[derive(Clone, Copy, Debug, PartialEq, Eq, Hash)]
 pub struct Refusal {
-    /// The number a clerk sees, 1 to 19.
+    /// The number a clerk sees, one of docs/NUMBERS.md.
     pub number: u32,
     /// What the number points at, mostly a byte of the input.
     pub place: usize,
@@ -37,8 +37,8 @@ impl Refusal {
     /// assert_eq!(Refusal { number: 20, place: 0 }.meaning(), None);
     /// ```
     pub fn meaning(&self) -> Option<&'static str> {
-        let before = self.number.checked_sub(1)?;
-        MEANINGS.get(before as usize).copied()
+        let told = MEANINGS.iter().find(|told| told.0 == self.number)?;
+        Some(told.1)
     }
 }
 
@@ -54,25 +54,26 @@ impl fmt::Display for Refusal {
 
 impl Error for Refusal {}
 
-/// What each number means, from 1 on: docs/NUMBERS.md, its column in English.
-const MEANINGS: [&str; 19] = [
-    "The input is longer than 10,000 bytes; of a sheet with place 0, the message built from it would be. (A text alone: 5,000 bytes typed, 10,000 in bank letters.)",
-    "The message does not begin with `{4:` and a line end, or does not end with a line end and `-}`.",
-    "A byte that a message may not hold, or a broken line end.",
-    "A line that is empty, begins with `-`, or has no right tag; or the first line opens no field.",
-    "A tag that this type of message does not have.",
-    "A field out of order, or a second time.",
-    "A field that must be there is missing.",
-    "A field's content is not as its tag asks.",
-    "A date that is no day of the calendar.",
-    "A currency other than RUB.",
-    "A 56 (intermediary) without a 57.",
-    "A BIK and an account that do not belong together: their last three digits differ.",
-    "A payment to the budget that is not whole: 26T without 77B, or without INN and KPP of both payer and payee; or 77B without 26T.",
-    "A text that does not read back to Russian letters, or a name that would be taken for something else: an account, a new field, a tax line.",
-    "A character that can't be sent: a small Russian letter, an apostrophe in a name or in details; without the sign `+` any Russian letter.",
-    "The details do not fit the lines of their field.",
-    "The room lent is too short (a matter for the program, not for the clerk).",
-    "A type that is neither 103 nor 202.",
-    "The sheet is not built as a sheet must be: a record without its end, an empty part, a wrong tag, VO digits that are not five.",
+/// What each number means: docs/NUMBERS.md, its column in English.
+const MEANINGS: [(u32, &str); 20] = [
+    (1, "The input is longer than 10,000 bytes; of a sheet with place 0, the message built from it would be. (A text alone: 5,000 bytes typed, 10,000 in bank letters.)"),
+    (2, "The message does not begin with `{4:` and a line end, or does not end with a line end and `-}`."),
+    (3, "A byte that a message may not hold, or a broken line end."),
+    (4, "A line that is empty, begins with `-`, or has no right tag; or the first line opens no field."),
+    (5, "A tag that this type of message does not have."),
+    (6, "A field out of order, or a second time."),
+    (7, "A field that must be there is missing."),
+    (8, "A field's content is not as its tag asks."),
+    (9, "A date that is no day of the calendar."),
+    (10, "A currency other than RUB."),
+    (11, "A 56 (intermediary) without a 57."),
+    (12, "A BIK and an account that do not belong together: their last three digits differ."),
+    (13, "A payment to the budget that is not whole: 26T without 77B, or without INN and KPP of both payer and payee; or 77B without 26T."),
+    (14, "A text that does not read back to Russian letters, or a name that would be taken for something else: an account, a new field, a tax line."),
+    (15, "A character that can't be sent: a small Russian letter, an apostrophe in a name or in details; without the sign `+` any Russian letter."),
+    (16, "The details do not fit the lines of their field; those of a 103 do not fit the fields 70 and 72 together."),
+    (17, "The room lent is too short (a matter for the program, not for the clerk)."),
+    (18, "A type that is neither 103 nor 202."),
+    (19, "The sheet is not built as a sheet must be: a record without its end, an empty part, a wrong tag, VO digits that are not five."),
+    (21, "The details of a 103, run on from field 70 into field 72, have more than 210 bytes with their code."),
 ];

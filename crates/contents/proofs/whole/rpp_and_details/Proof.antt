@@ -1,7 +1,7 @@
 -- `contents::whole::rpp_and_details` meets its contract. Assumes nothing.
 use mathlib.Core.Logic.{⊎-elim}
 use Rattle.contents.proofs.FieldLaws.{taken-0, front-0, last-0, on-0}
-use Rattle.contents.proofs.VoLaws.{rpp-not-nzp, in72-some}
+use Rattle.contents.proofs.VoLaws.{rpp-not-72, in72-some}
 use borrow.Author.Needs.{needs}
 use Rattle.contents.proofs.whole.rpp_and_details.Statement.{statement}
 use Rattle.contents.proofs.whole.rpp_and_details.Tie as tie
@@ -28,7 +28,7 @@ enum-known-n : tie.Need-enum-known-n
 enum-known-n c = search needs
 
 returns-2 : tie.Need-returns-2
-returns-2 c = rw (last-0 (c .before .before .before .before .before .before .before .before .args .c .now) (c .before .before .before .before .before .before .mark-at .result) (c .before .before .before .before .before .before .mark-at .ensures) (c .if2 .taken)) (⊎-elim (rpp-not-nzp (c .before .before .before .before .before .before .before .before .args .sign) 6 (c .before .before .n .given .0 .0) (c .before .before .n .given .0 .1 .0) _ _ (rw (c .before .before .n .given .1) at (c .before .before .before .before .rpp-line .ensures))) (λ x. in72-some (c .before .before .before .before .before .before .before .before .args .sign) 5 (x .1)))
+returns-2 c = rw (last-0 (c .before .before .before .before .before .before .before .before .args .c .now) (c .before .before .before .before .before .before .mark-at .result) (c .before .before .before .before .before .before .mark-at .ensures) (c .if2 .taken)) (⊎-elim (rpp-not-72 (c .before .before .before .before .before .before .before .before .args .sign) 6 (c .before .before .n .given .0 .0) (c .before .before .n .given .0 .1 .0) _ _ (rw (c .before .before .n .given .1) at (c .before .before .before .before .rpp-line .ensures))) (λ x. in72-some (c .before .before .before .before .before .before .before .before .args .sign) 5 (x .1)))
 
 next-line-requires : tie.Need-next-line-requires
 next-line-requires c κs = search needs
@@ -46,7 +46,7 @@ returns-4 c = let f = front-0 (c .before .before .before .before .before .before
 
 returns-5 : tie.Need-returns-5
 returns-5 c = let g = on-0 (c .before .before .before .before .before .before .before .before .before .before .before .args .c .now) (c .before .before .before .before .before .before .before .before .before .mark-at .result) (c .before .before .before .before .before .before .before .before .before .mark-at .ensures) (c .before .before .next-line .result) (c .before .before .before .if2 .left) (c .before .before .next-line .ensures) in
-    rw (g .0) (⊎-elim (rpp-not-nzp (c .before .before .before .before .before .before .before .before .before .before .before .args .sign) 6 (c .before .before .before .before .before .n .given .0 .0) (c .before .before .before .before .before .n .given .0 .1 .0) _ _ (rw (c .before .before .before .before .before .n .given .1) at (c .before .before .before .before .before .before .before .rpp-line .ensures))) (λ x. c .before .details-722 .ensures .not-so (c .if3 .left) (x .1)))
+    rw (g .0) (⊎-elim (rpp-not-72 (c .before .before .before .before .before .before .before .before .before .before .before .args .sign) 6 (c .before .before .before .before .before .n .given .0 .0) (c .before .before .before .before .before .n .given .0 .1 .0) _ _ (rw (c .before .before .before .before .before .n .given .1) at (c .before .before .before .before .before .before .before .rpp-line .ensures))) (λ x. c .before .details-722 .ensures .not-so (c .if3 .left) (x .1)))
 
 pub rpp-and-details-spec : {M : Type 1} → statement M
 rpp-and-details-spec =

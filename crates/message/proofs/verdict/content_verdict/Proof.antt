@@ -1,7 +1,7 @@
 -- `message::verdict::content_verdict` meets its contract. Assumes nothing.
 use mathlib.Core.Path.{refl, _∙_}
 use Rattle.fields.specs.Field.{fields}
-use Rattle.message.proofs.JudgeLaws.{read-wrong, read-right, sign-is, content-refused, content-inner}
+use Rattle.message.proofs.JudgeLaws.{read-wrong, read-right, sign-is, right-contents, content-refused, content-inner}
 use Rattle.message.proofs.FieldLaws.{signed-is}
 use borrow.Author.Needs.{needs}
 use Rattle.message.proofs.verdict.content_verdict.Statement.{statement}
@@ -24,7 +24,9 @@ inner-verdict-requires c κs =
     let y = c .before .before .before in
     let s = y .before .before .before in
     let a = s .args in
-    (s .pre .0, s .pre .1, sign-is (a .form) (a .m .now) (s .pre .2) (y .before .is-signed .ensures ∙ signed-is (s .pre .0)), read-right (a .form) _ (fields (a .m .now)) (y .read-fields .ensures) (c .before .f .given .1) .1)
+    let g = sign-is (a .form) (a .m .now) (s .pre .2) (y .before .is-signed .ensures ∙ signed-is (s .pre .0)) in
+    let r = read-right (a .form) _ (fields (a .m .now)) (y .read-fields .ensures) (c .before .f .given .1) in
+    (s .pre .0, s .pre .1, g, r .1, s .pre .3, s .pre .2, right-contents (a .form) (a .m .now) g refl (r .0))
 
 returns : tie.Need-returns
 returns c =

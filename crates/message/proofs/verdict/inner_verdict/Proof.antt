@@ -1,8 +1,6 @@
 -- `message::verdict::inner_verdict` meets its contract. Assumes nothing.
-use mathlib.Core.Path.{_∙_}
-use borrow.Author.Tests.{not-true, not-false}
 use Rattle.fields.specs.Field.{fields}
-use Rattle.message.proofs.JudgeLaws.{inner-refused, inner-plain, inner-signed}
+use Rattle.message.proofs.JudgeLaws.{inner-refused, inner-texts, inner-lengths}
 use borrow.Author.Needs.{needs}
 use Rattle.message.proofs.verdict.inner_verdict.Statement.{statement}
 use Rattle.message.proofs.verdict.inner_verdict.Tie as tie
@@ -14,24 +12,28 @@ enum-known-v : tie.Need-enum-known-v
 enum-known-v c = search needs
 
 returns : tie.Need-returns
-returns c = let s = c .before .before .before .before .before in let a = s .args in inner-refused (a .form) (fields (a .m .now)) (s .pre .3) (c .before .before .before .values-rule .ensures) (c .before .v .given .1)
+returns c = let a = c .before .before .before .before .before .args in inner-refused (a .form) (fields (a .m .now)) (c .before .before .before .before .before .pre .3) (c .before .before .before .values-rule .ensures) (c .before .v .given .1)
 
 enum-told : tie.Need-enum-told
 enum-told c = search needs
 
+texts-rule-requires : tie.Need-texts-rule-requires
+texts-rule-requires c κs = search needs
+
+enum-known-t : tie.Need-enum-known-t
+enum-known-t c = search needs
+
 returns-2 : tie.Need-returns-2
-returns-2 c = let s = c .before .before .before .before .before in let a = s .args in
-    inner-plain (a .form) (fields (a .m .now)) (s .pre .3) (c .before .before .before .values-rule .ensures) (c .before .enum-told .given .1) (s .pre .2) (not-true _ (c .if1 .taken))
+returns-2 c = let a = c .before .before .before .before .before .before .before .before .args in inner-texts (a .form) (fields (a .m .now)) (c .before .before .before .before .before .before .before .before .pre .3) (c .before .before .before .before .before .before .values-rule .ensures) (c .before .before .before .before .enum-told .given .1) (c .before .before .before .texts-rule .ensures) (c .before .t .given .1)
 
-back-table-requires : tie.Need-back-table-requires
-back-table-requires c κs = search needs
+enum-told-2 : tie.Need-enum-told-2
+enum-told-2 c = search needs
 
-speeches-rule-requires : tie.Need-speeches-rule-requires
-speeches-rule-requires c κs = search needs
+lengths-rule-requires : tie.Need-lengths-rule-requires
+lengths-rule-requires c κs = search needs
 
 returns-3 : tie.Need-returns-3
-returns-3 c = let s = c .before .before .before .before .before .before .before .before in let a = s .args in
-    c .speeches-rule .ensures ∙ inner-signed (a .form) (fields (a .m .now)) (s .pre .3) (c .before .before .before .before .before .before .values-rule .ensures) (c .before .before .before .before .enum-told .given .1) (s .pre .2) (not-false _ (c .before .before .before .if1 .left))
+returns-3 c = let a = c .before .before .before .before .before .before .before .before .args in inner-lengths (a .form) (fields (a .m .now)) (c .before .before .before .before .before .before .before .before .pre .3) (c .before .before .before .before .before .before .values-rule .ensures) (c .before .before .before .before .enum-told .given .1) (c .before .before .before .texts-rule .ensures) (c .before .enum-told2 .given .1) (c .lengths-rule .ensures)
 
 pub inner-verdict-spec : {M : Type 1} → statement M
 inner-verdict-spec =
@@ -41,7 +43,9 @@ inner-verdict-spec =
     enum-known-v
     returns
     enum-told
+    texts-rule-requires
+    enum-known-t
     returns-2
-    back-table-requires
-    speeches-rule-requires
+    enum-told-2
+    lengths-rule-requires
     returns-3)

@@ -27,7 +27,7 @@ content-verdict-requires c κs =
     let e = (c .before .before .before .before .frame .ensures) in
     let q = (c .before .enum-told2 .given .1) in
     let f = found (a .form) (a .m .now) e q in
-    (settled f, fields-counted (a .form) (a .m .now) e q, taken (a .form) (a .m .now) (f .clean) .walk-fine)
+    (settled f, fields-counted (a .form) (a .m .now) e q, taken (a .form) (a .m .now) (f .clean) .walk-fine, f .word-is)
 
 enum-known-v : tie.Need-enum-known-v
 enum-known-v c = search needs

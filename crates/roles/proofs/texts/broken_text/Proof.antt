@@ -3,7 +3,8 @@ use mathlib.Core.Path.{_∙_, sym}
 use Rattle.fields.specs.Shapes.{unpack}
 use Rattle.roles.specs.declared.Shape.the-variants.{Plain, Payer, Payee, Agent, Details, Note103, Note202}
 use Rattle.fields.specs.Lines.{linesIn}
-use Rattle.roles.proofs.FoundLaws.{by-shape, plain-none, note103-none, details-whole}
+use Rattle.roles.specs.Speech.{speeches}
+use Rattle.roles.proofs.FoundLaws.{by-shape, plain-none, details-whole}
 use borrow.Author.Needs.{needs}
 use Rattle.roles.proofs.texts.broken_text.Statement.{statement}
 use Rattle.roles.proofs.texts.broken_text.Tie as tie
@@ -41,11 +42,14 @@ in-details-requires c κs = search needs
 enum-told-6 : tie.Need-enum-told-6
 enum-told-6 c = search needs
 
+in-note-requires : tie.Need-in-note-requires
+in-note-requires c κs = search needs
+
 enum-told-7 : tie.Need-enum-told-7
 enum-told-7 c = search needs
 
-in-note-requires : tie.Need-in-note-requires
-in-note-requires c κs = search needs
+in-note-requires-2 : tie.Need-in-note-requires-2
+in-note-requires-2 c κs = search needs
 
 returns : tie.Need-returns
 returns c = let w = c in let s = w .before .before in let a = s .before .before .args in by-shape (a .back .now) (a .form) (unpack (a .tag)) (a .content .now) Plain _ (sym (w .enum-told .given .1) ∙ s .shape-of .ensures) (plain-none (a .back .now) (linesIn (a .content .now)))
@@ -63,10 +67,12 @@ returns-5 : tie.Need-returns-5
 returns-5 c = let w = c .before in let s = w .before .before in let a = s .before .before .args in by-shape (a .back .now) (a .form) (unpack (a .tag)) (a .content .now) Details _ (sym (w .enum-told5 .given .1) ∙ s .shape-of .ensures) (c .in-details .ensures ∙ details-whole (a .back .now) (a .content .now))
 
 returns-6 : tie.Need-returns-6
-returns-6 c = let w = c in let s = w .before .before in let a = s .before .before .args in by-shape (a .back .now) (a .form) (unpack (a .tag)) (a .content .now) Note103 _ (sym (w .enum-told6 .given .1) ∙ s .shape-of .ensures) (note103-none (a .back .now) (linesIn (a .content .now)))
+unfolding speeches
+returns-6 c = let w = c .before in let s = w .before .before in let a = s .before .before .args in by-shape (a .back .now) (a .form) (unpack (a .tag)) (a .content .now) Note103 _ (sym (w .enum-told6 .given .1) ∙ s .shape-of .ensures) (c .in-note .ensures)
 
 returns-7 : tie.Need-returns-7
-returns-7 c = let w = c .before in let s = w .before .before in let a = s .before .before .args in by-shape (a .back .now) (a .form) (unpack (a .tag)) (a .content .now) Note202 _ (sym (w .enum-told7 .given .1) ∙ s .shape-of .ensures) (c .in-note .ensures)
+unfolding speeches
+returns-7 c = let w = c .before in let s = w .before .before in let a = s .before .before .args in by-shape (a .back .now) (a .form) (unpack (a .tag)) (a .content .now) Note202 _ (sym (w .enum-told7 .given .1) ∙ s .shape-of .ensures) (c .in-note2 .ensures)
 
 pub broken-text-spec : {M : Type 1} → statement M
 broken-text-spec =
@@ -83,8 +89,9 @@ broken-text-spec =
     enum-told-5
     in-details-requires
     enum-told-6
-    enum-told-7
     in-note-requires
+    enum-told-7
+    in-note-requires-2
     returns
     returns-2
     returns-3

@@ -20,10 +20,10 @@ in-details-requires : tie.Need-in-details-requires
 in-details-requires c κs = search needs
 
 returns : tie.Need-returns
-returns c = let s = c .before .before in let n = s .before .before in let a = n .before .before .args in c .in-details .ensures ∙ note-none (a .back .now) (a .c .now) (n .mark-at .result) (n .mark-at .ensures) (sym (not-true _ (c .before .if1 .taken)) ∙ s .opens-rpp .ensures)
+returns c = let s = c .before .before in let n = s .before .before in let a = n .before .before .args in c .in-details .ensures ∙ note-none (a .back .now) (a .c .now) (n .mark-at .result) (n .mark-at .ensures) (a .front) (sym (not-true _ (c .before .if1 .taken)) ∙ s .opens-rpp .ensures)
 
 returns-2 : tie.Need-returns-2
-returns-2 c = let s = c .before .before in let n = s .before .before in let a = n .before .before .args in note-alone (a .back .now) (a .c .now) (n .mark-at .result) (n .mark-at .ensures) (sym (not-false _ (c .before .if1 .left)) ∙ s .opens-rpp .ensures) (c .if2 .taken)
+returns-2 c = let s = c .before .before in let n = s .before .before in let a = n .before .before .args in note-alone (a .back .now) (a .c .now) (n .mark-at .result) (n .mark-at .ensures) (a .front) (sym (not-false _ (c .before .if1 .left)) ∙ s .opens-rpp .ensures) (c .if2 .taken)
 
 add-in-details : tie.Need-add-in-details
 add-in-details c = search needs
@@ -32,7 +32,7 @@ in-details-requires-2 : tie.Need-in-details-requires-2
 in-details-requires-2 c κs = search needs
 
 returns-3 : tie.Need-returns-3
-returns-3 c = let s = c .before .before .before in let n = s .before .before in let a = n .before .before .args in c .in-details2 .ensures ∙ note-more (a .back .now) (a .c .now) (n .mark-at .result) (n .mark-at .ensures) (sym (not-false _ (c .before .before .if1 .left)) ∙ s .opens-rpp .ensures) (c .before .if2 .left)
+returns-3 c = let s = c .before .before .before in let n = s .before .before in let a = n .before .before .args in c .in-details2 .ensures ∙ note-more (a .back .now) (a .c .now) (n .mark-at .result) (n .mark-at .ensures) (a .front) (sym (not-false _ (c .before .before .if1 .left)) ∙ s .opens-rpp .ensures) (c .before .if2 .left)
 
 pub in-note-spec : {M : Type 1} → statement M
 in-note-spec =

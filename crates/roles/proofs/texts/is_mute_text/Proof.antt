@@ -8,7 +8,8 @@ use lib.ListN.{length, drop}
 use Rattle.alphabets.specs.Pieces.{pieceIn}
 use Rattle.fields.specs.Lines.{linesIn}
 use Rattle.base.proofs.MarkLaws.{up-rest}
-use Rattle.roles.specs.Found.{detailsText, muteIn, muteAfter}
+use Rattle.roles.specs.Speech.{detailsText}
+use Rattle.roles.specs.Found.{muteIn, muteAfter}
 use Rattle.roles.proofs.FoundLaws.{mute-start, mute-past, mute-stops, mute-last, mute-on}
 use Rattle.roles.proofs.texts.is_mute_text.Statement.{statement}
 use Rattle.roles.proofs.texts.is_mute_text.Tie as tie

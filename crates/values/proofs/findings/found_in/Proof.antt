@@ -3,7 +3,7 @@ use mathlib.Core.Path.{refl}
 use Rattle.fields.specs.Lines.{linesIn}
 use Rattle.contents.specs.declared.Content.the-variants as holds
 use Rattle.values.specs.Values.{valuesOf}
-use Rattle.values.proofs.FoundLaws.{line-asks, plain-asks, bank-held, customer-held, payer-held, bic-led, name-led, bank-by-bic, bank-by-name}
+use Rattle.values.proofs.FoundLaws.{line-asks, plain-asks, bank-held, customer-held, payer-held, bic-led, name-led, bank-by-bic, bank-by-name, rest-dated, details-dated, rpp-and-rest, rpp-and-details}
 use borrow.Author.Needs.{needs}
 use Rattle.values.proofs.findings.found_in.Statement.{statement}
 use Rattle.values.proofs.findings.found_in.Tie as tie
@@ -65,14 +65,20 @@ held-found-requires-3 c κs = search needs
 enum-told-8 : tie.Need-enum-told-8
 enum-told-8 c = search needs
 
-rpp-found-requires : tie.Need-rpp-found-requires
-rpp-found-requires c κs = search needs
+rpp-and-rest-requires : tie.Need-rpp-and-rest-requires
+rpp-and-rest-requires c κs = search needs
+
+note-found-requires : tie.Need-note-found-requires
+note-found-requires c κs = rest-dated (linesIn (c .before .before .before .before .args .c .now)) (c .rpp-and-rest .result) (c .rpp-and-rest .ensures)
 
 enum-told-9 : tie.Need-enum-told-9
 enum-told-9 c = search needs
 
-note-found-requires : tie.Need-note-found-requires
-note-found-requires c κs = search needs
+rpp-and-details-requires : tie.Need-rpp-and-details-requires
+rpp-and-details-requires c κs = search needs
+
+note-found-requires-2 : tie.Need-note-found-requires-2
+note-found-requires-2 c κs = let a = c .before .before .before .before .args in details-dated (a .sign) (linesIn (a .c .now)) (c .rpp-and-details .result) (c .rpp-and-details .ensures)
 
 enum-told-10 : tie.Need-enum-told-10
 enum-told-10 c = search needs
@@ -195,10 +201,10 @@ returns-7 : tie.Need-returns-7
 returns-7 c = let a = c .before .before .before .before .before .args in rw (c .before .before .enum-told7 .given .1, c .held-found3 .ensures) (customer-held (a .sign) (linesIn (a .c .now)) (c .before .customer2 .result) (c .before .customer2 .ensures))
 
 returns-8 : tie.Need-returns-8
-returns-8 c = rw (c .before .enum-told8 .given .1) (c .rpp-found .ensures (c .before .before .before .before .args .sign))
+returns-8 c = let a = c .before .before .before .before .before .args in rw (c .before .before .enum-told8 .given .1, c .note-found .ensures) (rpp-and-rest (a .sign) (linesIn (a .c .now)) (c .before .rpp-and-rest .result) (c .before .rpp-and-rest .ensures))
 
 returns-9 : tie.Need-returns-9
-returns-9 c = rw (c .before .enum-told9 .given .1) (c .note-found .ensures)
+returns-9 c = let a = c .before .before .before .before .before .args in rw (c .before .before .enum-told9 .given .1, c .note-found2 .ensures) (rpp-and-details (a .sign) (linesIn (a .c .now)) (c .before .rpp-and-details .result) (c .before .rpp-and-details .ensures))
 
 returns-10 : tie.Need-returns-10
 returns-10 c = c .line-found .ensures (c .before .before .before .before .before .args .sign)
@@ -250,9 +256,11 @@ found-in-spec =
     customer-requires-2
     held-found-requires-3
     enum-told-8
-    rpp-found-requires
-    enum-told-9
+    rpp-and-rest-requires
     note-found-requires
+    enum-told-9
+    rpp-and-details-requires
+    note-found-requires-2
     enum-told-10
     is-reference-requires
     line-found-requires

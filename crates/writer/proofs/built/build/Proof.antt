@@ -1,6 +1,6 @@
 -- `writer::built::build` meets its contract: 1, then 19 and 18, then 15, 16, or the message. Assumes nothing.
+use Rattle.writer.proofs.BuildLaws.{builds-room, seven-within, told-good, told-built, sound-stuck, sound-put, put-unfit, too-long-sheet, bad-sheet, verdict-is, form-is, sign-is}
 use borrow.Author.Needs.{needs}
-use Rattle.writer.proofs.BuildLaws.{seven-within, told-good, told-built, sound-stuck, sound-unfit, sound-put, too-long-sheet, bad-sheet, verdict-is, form-is, sign-is}
 use Rattle.writer.proofs.built.build.Statement.{statement}
 use Rattle.writer.proofs.built.build.Tie as tie
 
@@ -31,6 +31,12 @@ enum-known-k c = search needs
 enum-told-2 : tie.Need-enum-told-2
 enum-told-2 c = search needs
 
+build-on-requires : tie.Need-build-on-requires
+build-on-requires c κs = let s = c .before .before .before .before .before .before .before .before .before .before .before .before .before .args .sheet .now in
+    let e = c .before .before .before .before .before .before .before .before .before .judge-sheet .ensures in
+    let v = verdict-is s e (c .before .before .before .before .before .before .before .enum-told .given .1) in
+    ((c .before .before .before .before .before .before .before .before .before .before .if1 .left, form-is s e, sign-is s e, v), put-unfit s v (c .before .before .before .before .before .before .before .before .before .before .if1 .left) (form-is s e) (sign-is s e) (c .before .enum-told2 .given .1) (told-built s v (form-is s e) (sign-is s e) (c .before .before .before .before .before .put-message .ensures)))
+
 enum-known-n : tie.Need-enum-known-n
 enum-known-n c = search needs
 
@@ -47,10 +53,7 @@ same-length-2 : tie.Need-same-length-2
 same-length-2 c = search needs
 
 returns-4 : tie.Need-returns-4
-returns-4 c = let s = c .before .before .before .before .before .before .before .before .before .before .before .before .args .sheet .now in
-    let e = c .before .before .before .before .before .before .before .before .judge-sheet .ensures in
-    let v = verdict-is s e (c .before .before .before .before .before .before .enum-told .given .1) in
-    sound-unfit s v (c .before .before .before .before .before .before .before .before .before .if1 .left) (c .enum-told2 .given .1) (told-built s v (form-is s e) (sign-is s e) (c .before .before .before .before .put-message .ensures))
+returns-4 c = builds-room (c .before .before .before .before .before .before .before .before .before .before .before .before .before .before .before .before .args .sheet .now) (c .before .before .before .before .before .before .before .before .before .before .before .before .before .before .before .before .args .out .now) (search needs) (c .before .before .build-on .ensures)
 
 same-length-3 : tie.Need-same-length-3
 same-length-3 c = search needs
@@ -73,6 +76,7 @@ build-spec =
     put-message-requires
     enum-known-k
     enum-told-2
+    build-on-requires
     enum-known-n
     same-length
     returns-3

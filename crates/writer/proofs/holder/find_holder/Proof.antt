@@ -14,12 +14,14 @@ use Rattle.writer.specs.Holder.{holderIn}
 use Rattle.writer.proofs.StepLaws.{within-put, not-put}
 use Rattle.writer.proofs.PutLaws.{ended, good-here, good-on}
 use Rattle.writer.proofs.HolderLaws.{texts-on, details-on, is-put, holder-hit, holder-miss, holder-end}
+use Rattle.records.specs.Places.{startsOf}
+use Rattle.writer.specs.Spread.{spread}
 use Rattle.writer.proofs.holder.find_holder.Statement.{statement}
 use Rattle.writer.proofs.holder.find_holder.Tie as tie
 
 abbrev Inv-loop : tie.InvT-loop
 Inv-loop s form sign place none₀ n₀ i₀ none n i = (i ≤ length s) × (n ≤ 5 + 400 * i) × (badSheetLine form sign i (piecesAt 10 s i) ≡ Fine) × (rule15 form sign i (recordsAt s i) ≡ Fine) × (someCrowded form sign (recordsAt s i) ≡ false)
-    × (holderIn form sign place 5 7 (recordsAt s 7) ≡ holderIn form sign place n i (recordsAt s i)) × (length none ≡ 1)
+    × (holderIn place 5 (startsOf 7 (recordsAt s 7)) (spread form sign (recordsAt s 7)) ≡ holderIn place n (startsOf i (recordsAt s i)) (spread form sign (recordsAt s i))) × (length none ≡ 1)
 
 abbrev μ-loop : tie.MeasureT-loop
 μ-loop s form sign place none₀ n₀ i₀ none n i = length s - i

@@ -31,7 +31,7 @@ returns : tie.Need-returns
 returns c =
     let s = c .before .before .before .before .before .before .before .before .before .before .before .before .before .before .before .before .before in
     let a = s .args in
-    code-puts true (a .vo .now) (c .before .before .before .before .before .before .before .before .before .before .before .before .before .before .if1 .taken) refl (omega arith) (three-puts (bytes "'(VO") (a .vo .now) (bytes ")'") refl (c .before .before .before .before .before .before .before .before .before .before .before .put .ensures) (omega (arith, s .pre)) (c .before .before .before .before .before .before .before .put2 .ensures) refl (c .before .before .put3 .ensures))
+    code-puts true (a .vo .now) (c .before .before .before .before .before .before .before .before .before .before .before .before .before .before .if1 .taken) (omega arith) (three-puts (bytes "'(VO") (a .vo .now) (bytes ")'") refl (c .before .before .before .before .before .before .before .before .before .before .before .put .ensures) (omega (arith, s .pre)) (c .before .before .before .before .before .before .before .put2 .ensures) refl (c .before .before .put3 .ensures))
 
 slice-aggregate-put-3 : tie.Need-slice-aggregate-put-3
 slice-aggregate-put-3 c = search needs
@@ -55,7 +55,7 @@ returns-2 : tie.Need-returns-2
 returns-2 c =
     let s = c .before .before .before .before .before .before .before .before .before .before .before .before .before .before .before .before .before in
     let a = s .args in
-    code-puts false (a .vo .now) (c .before .before .before .before .before .before .before .before .before .before .before .before .before .before .if1 .left) refl (omega arith) (three-puts (bytes "(VO") (a .vo .now) (bytes ")") refl (c .before .before .before .before .before .before .before .before .before .before .before .put4 .ensures) (omega (arith, s .pre)) (c .before .before .before .before .before .before .before .put5 .ensures) refl (c .before .before .put6 .ensures))
+    code-puts false (a .vo .now) (c .before .before .before .before .before .before .before .before .before .before .before .before .before .before .if1 .left) (omega arith) (three-puts (bytes "(VO") (a .vo .now) (bytes ")") refl (c .before .before .before .before .before .before .before .before .before .before .before .put4 .ensures) (omega (arith, s .pre)) (c .before .before .before .before .before .before .before .put5 .ensures) refl (c .before .before .put6 .ensures))
 
 pub put-code-spec : {M : Type 1} → statement M
 put-code-spec =

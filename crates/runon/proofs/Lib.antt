@@ -1,0 +1,12 @@
+pub mod FitLaws
+pub mod TryLaws
+pub mod CutTheorems
+pub mod SearchLaws
+pub mod RecordLaws
+pub mod JoinLaws
+pub mod NoteLaws
+pub mod AgainLaws
+pub mod NeverLaws
+pub mod WalkLaws
+pub mod AloneLaws
+pub mod Examples
