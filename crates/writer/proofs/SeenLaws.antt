@@ -38,13 +38,14 @@ use Rattle.details.specs.declared.DetailsField.{DetailsField}
 use Rattle.details.specs.declared.DetailsField.the-variants.{In72, BehindRpp}
 use Rattle.details.specs.Front.{code, noteField}
 use Rattle.runon.specs.Cut.{Comes, cut}
+use Rattle.roles.specs.Rule21.{most}
 use Rattle.runon.specs.Run.{runFor}
 use Rattle.runon.specs.RunOn.{tag70, tag72, tagged, howMany, partsOf, secondPart, frontIn, textIn, rppIn, mayRun, runOf, runOn, plainRecord}
 use Rattle.runon.specs.declared.Run.{Run}
 use Rattle.runon.specs.declared.Run.the-variants as run
 use Rattle.runon.proofs.Run.{the-type}
 use Rattle.types.proofs.Form as forms
-use Rattle.runon.proofs.CutTheorems.{comes}
+use Rattle.runon.proofs.CutTheorems.{comes, lawful-long}
 use Rattle.runon.proofs.JoinLaws.{one-part, plain-72}
 use Rattle.runon.proofs.RecordLaws.{not-70, shape-70}
 use Rattle.writer.specs.Sheet.{someCrowded}
@@ -263,6 +264,13 @@ cut-inside g front note text k e = go (subst (Comes g front note text) e (comes 
     go : Comes g front note text (run.Cut k) → (0 < k) × (k < length text)
     go (cut j n w) = let c = w .lawful .cut in (omega (arith, c .some-one, length-take k text), omega (arith, c .some-two, length-drop k text))
 
+-- and has no more bytes than 21 takes
+cut-most : (g : Bool) (front : List ℕ) (note : DetailsField) (text : List ℕ) (k : ℕ) → runFor g front note text ≡ run.Cut k → length text ≤ most
+cut-most g front note text k e = go (subst (Comes g front note text) e (comes g front note text))
+  where
+    go : Comes g front note text (run.Cut k) → length text ≤ most
+    go (cut j n w) = lawful-long g front note text (take k text) (drop k text) (w .lawful)
+
 -- ---- the cut
 not-cut-there : (r : Run) (a n : ℕ) (new : Bool) → OneOf (0 ∷ 1 ∷ 3 ∷ []) (tagOf the-type r) → Nowhere ≡ cutPlaces r a n new
 not-cut-there (run.Stuck k) a n new h = refl
@@ -329,6 +337,24 @@ module _ (s : List ℕ) (g : Bool) (h : 7 ≤ length s) (b : badSheetLine Mt103 
       unfolding same
       is-the-70 = ap (tagged tag70) (the-70 .is)
 
+      ends-at : z .start ≤ e → e ≡ z .start + 9 + length (textIn ours)
+      ends-at le =
+          let w = digits-at own is-the-70 g (the-70 .right) in
+          let n : length (textIn ours) ≡ length own - 9 = ap (λ (ps : List (List ℕ)). length (secondPart ps)) (sym (ap partsIn (the-70 .is)) ∙ w .0 ∙ w .1 .parts) ∙ text-long (w .1) in
+          let m : length own ≡ e - z .start = piece-length s (z .start) e le (omega (arith, the-70 .ends)) in
+          omega (arith, w .1 .inside)
+
+      -- a text of more bytes than 21 takes is not cut
+      pub too-long : z .start + 9 + most < e → Nowhere ≡ cutFor g ours
+      unfolding cutFor
+      too-long l = go (runOf g ours) run-is
+        where
+          go : (r : Run) → r ≡ runFor g (frontIn g ours) (noteFor (eqb (howMany tag72 ours) 0)) (textIn ours) → Nowhere ≡ cutPlaces r (start70 7 ours) (length (textIn ours)) (eqb (howMany tag72 ours) 0)
+          go (run.Stuck k) d = refl
+          go run.Whole d = refl
+          go run.Unfit d = refl
+          go (run.Cut k) d = absurd (omega (arith, l, ends-at (omega (arith, f)), cut-most g (frontIn g ours) (noteFor (eqb (howMany tag72 ours) 0)) (textIn ours) k (sym d)))
+
       module _ {r : Run} (d : r ≡ runFor g (code g (firstLine (partsIn (recordOf own)))) (noteFor (eqb (z .notes) 0)) (secondPart (partsIn (recordOf own)))) where
         came : r ≡ runOf g ours
         came = d ∙ ap₂ (λ (ps : List (List ℕ)) (n : Bool). runFor g (code g (firstLine ps)) (noteFor n) (secondPart ps)) (ap partsIn (the-70 .is)) new-is ∙ sym run-is
@@ -336,13 +362,6 @@ module _ (s : List ℕ) (g : Bool) (h : 7 ≤ length s) (b : badSheetLine Mt103 
         pub none-there : OneOf (0 ∷ 1 ∷ 3 ∷ []) (tagOf the-type r) → Nowhere ≡ cutFor g ours
         unfolding cutFor
         none-there k = not-cut-there r (start70 7 ours) (length (textIn ours)) (eqb (howMany tag72 ours) 0) k ∙ ap (λ (x : Run). cutPlaces x (start70 7 ours) (length (textIn ours)) (eqb (howMany tag72 ours) 0)) came
-
-        ends-at : z .start ≤ e → e ≡ z .start + 9 + length (textIn ours)
-        ends-at le =
-            let w = digits-at own is-the-70 g (the-70 .right) in
-            let n : length (textIn ours) ≡ length own - 9 = ap (λ (ps : List (List ℕ)). length (secondPart ps)) (sym (ap partsIn (the-70 .is)) ∙ w .0 ∙ w .1 .parts) ∙ text-long (w .1) in
-            let m : length own ≡ e - z .start = piece-length s (z .start) e le (omega (arith, the-70 .ends)) in
-            omega (arith, w .1 .inside)
 
         pub cut-there : (k : ℕ) → r ≡ run.Cut k → At (z .start) (z .start + 9 + k) e (eqb (z .notes) 0) ≡ cutFor g ours
         unfolding cutFor

@@ -21,6 +21,7 @@ use base::marks::mark_at;
 use contents::whole::SIGNED_CODE;
 use details::DetailsField;
 use records::tags::tag_number;
+use roles::lengths::MOST;
 use runon::Run;
 use runon::run_on;
 use types::tags::TAG_70;
@@ -110,7 +111,8 @@ fn run_of(sign: bool, l: &[u8], new: bool) -> Run
     run_on(sign, &line[..front], note_field(new), &l[TEXT..])
 }
 
-// The cut of a sheet that 19 lets pass. Nothing runs on unless there is one 70 and at most one 72.
+// The cut of a sheet that 19 lets pass. Nothing runs on unless there is one 70 and at most one 72. A text of more bytes than both fields take is not
+// looked at, since no bank text is shorter than its text.
 pub(crate) fn find_cut(s: &[u8], sign: bool) -> Cutting
     requires { ⌜ (length (now s) ≤ 10000) × (7 ≤ length (now s)) × (badSheetLine Mt103 sign 7 (piecesAt 10 (now s) 7) ≡ Fine) ⌝ }
     ensures { λ r. ⌜ r ≡ cutFor sign (recordsAt (now (s .entry)) 7) ⌝ }
@@ -125,6 +127,9 @@ pub(crate) fn find_cut(s: &[u8], sign: bool) -> Cutting
     let start = seen.start;
     let new = seen.notes == 0;
     let e = mark_at(b'\n', s, start);
+    if start + TEXT + MOST < e {
+        return Cutting::Nowhere;
+    }
     let Run::Cut(k) = run_of(sign, &s[start..e], new) else {
         return Cutting::Nowhere;
     };
