@@ -2,7 +2,7 @@
 use Rattle.base.specs.Says.{Not, _or_, Says}
 use Rattle.base.proofs.SaysLaws.{says-so, says-not}
 use Prim.Native.Nat.{ℕ, _+_, _≤_, _<_, min}
-use mathlib.Core.Path.{_≡_, refl, ap, _∙_}
+use mathlib.Core.Path.{_≡_, refl, sym, ap, ap₂, _∙_}
 use mathlib.Core.Bool.{Bool, true, false≢true}
 use mathlib.Core.Logic.{_⊎_, inl, inr, ⊎-elim}
 use mathlib.Core.List.{List, [], _∷_}
@@ -13,7 +13,7 @@ use lib.Seq.{take-all}
 use Rattle.base.specs.Bytes.{countUpTo}
 use Rattle.fields.specs.Lines.{linesIn}
 use Rattle.contents.specs.Words.{Text, Line}
-use Rattle.contents.specs.Fields.{IsParty, IsBic, IsRpp, One, Then, Names, Beside, Customer, Payer, BankByBic, BankByName, In72, RppAndDetails, InRest, RppAndRest}
+use Rattle.contents.specs.Fields.{IsParty, IsBic, IsRpp, One, Then, Any, Names, Beside, Customer, Payer, BankByBic, BankByName, In72, RppAndDetails, InRest, RppAndRest}
 use Rattle.contents.specs.Answers.{BesideSaid, AccountFirst, CustomerSaid, PayerSaid, IsA, BicSaid, NameSaid, RppWith, NoteSaid, RestSaid, isHeld, isBank, isNote}
 use Rattle.contents.specs.declared.lines.Party.{Party}
 use Rattle.contents.specs.declared.lines.Party.the-variants as party
@@ -24,6 +24,9 @@ use Rattle.contents.specs.declared.whole.Bank.the-variants as bank
 use Rattle.contents.specs.declared.whole.Note.{Note}
 use Rattle.contents.specs.declared.whole.Note.the-variants as note
 use Rattle.contents.proofs.FieldLaws.{last-0, on-0}
+use Rattle.contents.proofs.LineTests.{rpp-once}
+use Rattle.contents.proofs.VoLaws.{rpp-not-72}
+use Rattle.contents.proofs.MarkedLaws.{rest-alone}
 
 beside-is : (twelve : Bool) (at : ℕ) (ls : List Line) (r : Held) → isHeld r ≡ true → BesideSaid twelve at ls r → Beside twelve ls
 beside-is twelve at ls held.Wrong e s = absurd (false≢true e)
@@ -85,6 +88,59 @@ pub rest-is : (ls : List Line) (r : Note) (b : Bool) → b ≡ isNote r → Rest
 rest-is ls note.Wrong b e s = rw e (says-not s)
 rest-is ls note.Plain b e s = rw e (says-so (inr (inl s)))
 rest-is ls (note.Dated n v) b e s = rw e (says-so (rest-dated-is n v ls s))
+
+-- ---- any two answers of a reader of 72 are equal
+-- an RPP line has its number and its last date in one way only
+rpp-sizes : (n v n′ v′ : ℕ) (l : Line) → RppWith n v l → RppWith n′ v′ l → note.Dated n v ≡ note.Dated n′ v′
+rpp-sizes n v n′ v′ l a b =
+    let o = rpp-once (a .0) (b .0) in
+    ap₂ note.Dated (sym (a .1) ∙ ap length (o .0) ∙ b .1) (sym (a .2) ∙ ap length (o .4) ∙ b .2)
+
+-- either answers by the first line, so both do
+first-sizes : (n v n′ v′ : ℕ) (ls : List Line) → Then (RppWith n v) Any ls → Then (RppWith n′ v′) Any ls → note.Dated n v ≡ note.Dated n′ v′
+first-sizes n v n′ v′ [] a b = absurd a
+first-sizes n v n′ v′ (l ∷ ls) a b = rpp-sizes n v n′ v′ l (a .0) (b .0)
+
+first-rpp : (n v : ℕ) (ls : List Line) → Then (RppWith n v) Any ls → Then IsRpp Any ls
+first-rpp n v [] a = a
+first-rpp n v (l ∷ ls) a = ((_, _, _, _, _, a .0 .0), tt)
+
+details-first : (sign : Bool) (n v : ℕ) (ls : List Line) → Then (RppWith n v) (In72 sign 5) ls → Then (RppWith n v) Any ls
+details-first sign n v [] a = a
+details-first sign n v (l ∷ ls) a = (a .0, tt)
+
+rest-first : (n v : ℕ) (ls : List Line) → One (RppWith n v) ls or Then (RppWith n v) (InRest 5) ls → Then (RppWith n v) Any ls
+rest-first n v [] (inl a) = a
+rest-first n v (l ∷ []) (inl a) = (a, tt)
+rest-first n v (l ∷ k ∷ ls) (inl a) = absurd a
+rest-first n v [] (inr a) = a
+rest-first n v (l ∷ ls) (inr a) = (a .0, tt)
+
+no-details : (sign : Bool) (n v : ℕ) (ls : List Line) → In72 sign 6 ls → Not (Then (RppWith n v) Any ls)
+no-details sign n v [] d a = a
+no-details sign n v (l ∷ ls) d a = rpp-not-72 sign 6 n v l ls (a .0) d
+
+pub note-said-one : (sign : Bool) (ls : List Line) (r q : Note) → NoteSaid sign ls r → NoteSaid sign ls q → r ≡ q
+note-said-one sign ls note.Wrong note.Wrong a b = refl
+note-said-one sign ls note.Wrong note.Plain a b = absurd (a (inl b))
+note-said-one sign ls note.Wrong (note.Dated n v) a b = absurd (a (inr (dated-is sign n v ls b)))
+note-said-one sign ls note.Plain note.Wrong a b = absurd (b (inl a))
+note-said-one sign ls note.Plain note.Plain a b = refl
+note-said-one sign ls note.Plain (note.Dated n v) a b = absurd (no-details sign n v ls a (details-first sign n v ls b))
+note-said-one sign ls (note.Dated n v) note.Wrong a b = absurd (b (inr (dated-is sign n v ls a)))
+note-said-one sign ls (note.Dated n v) note.Plain a b = absurd (no-details sign n v ls b (details-first sign n v ls a))
+note-said-one sign ls (note.Dated n v) (note.Dated n′ v′) a b = first-sizes n v n′ v′ ls (details-first sign n v ls a) (details-first sign n′ v′ ls b)
+
+pub rest-said-one : (ls : List Line) (r q : Note) → RestSaid ls r → RestSaid ls q → r ≡ q
+rest-said-one ls note.Wrong note.Wrong a b = refl
+rest-said-one ls note.Wrong note.Plain a b = absurd (a (inr (inl b)))
+rest-said-one ls note.Wrong (note.Dated n v) a b = absurd (a (rest-dated-is n v ls b))
+rest-said-one ls note.Plain note.Wrong a b = absurd (b (inr (inl a)))
+rest-said-one ls note.Plain note.Plain a b = refl
+rest-said-one ls note.Plain (note.Dated n v) a b = absurd (rest-alone 6 ls a (first-rpp n v ls (rest-first n v ls b)))
+rest-said-one ls (note.Dated n v) note.Wrong a b = absurd (b (rest-dated-is n v ls a))
+rest-said-one ls (note.Dated n v) note.Plain a b = absurd (rest-alone 6 ls b (first-rpp n v ls (rest-first n v ls a)))
+rest-said-one ls (note.Dated n v) (note.Dated n′ v′) a b = first-sizes n v n′ v′ ls (rest-first n v ls a) (rest-first n′ v′ ls b)
 
 -- one line
 pub not-one : (P : Line → Type 0) (s : Text) → Not (linesIn s ≡ s ∷ []) → Not (One P (linesIn s))
