@@ -505,7 +505,7 @@ impl Builder<'_> {
     }
 
     fn rpp_line(&mut self) -> Vec<u8> {
-        let number = self.length(1, 3);
+        let number = self.length(1, 6);
         let mut line = self.digits_behind(b"/RPP/", number);
         line.push(b'.');
         line.extend(self.date());
@@ -515,6 +515,9 @@ impl Builder<'_> {
         if self.perhaps() {
             line.push(b'.');
             line.extend(self.date());
+        }
+        if self.perhaps() {
+            line.extend(self.digits_behind(b".", 2));
         }
         line
     }

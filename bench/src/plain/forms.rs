@@ -272,8 +272,8 @@ pub fn rpp_dates(line: &[u8]) -> Option<(usize, Option<usize>)> {
     let rest = line.strip_prefix(RPP)?;
     let number = rest.iter().take_while(|b| b.is_ascii_digit()).count();
     let rest = &rest[number..];
-    let in_form = (1..=3).contains(&number)
-        && (rest.len() == 14 || rest.len() == 21)
+    let in_form = (1..=6).contains(&number)
+        && rest.len() >= 14
         && rest[0] == b'.'
         && digits(&rest[1..7])
         && rest[7] == b'.'
@@ -284,9 +284,24 @@ pub fn rpp_dates(line: &[u8]) -> Option<(usize, Option<usize>)> {
         return None;
     }
     let body = RPP.len() + number;
-    match &rest[14..] {
-        [] => Some((body + 1, None)),
-        [b'.', date @ ..] if digits(date) => Some((body + 1, Some(body + 15))),
+    match endings(&rest[14..])? {
+        false => Some((body + 1, None)),
+        true => Some((body + 1, Some(body + 15))),
+    }
+}
+
+/// Whether a value date stands at the end of an RPP line, before the two digits
+/// or without them; none if it ends in anything else.
+fn endings(behind_way: &[u8]) -> Option<bool> {
+    let behind_point = |part: &[u8]| part[0] == b'.' && digits(&part[1..]);
+    match behind_way.len() {
+        0 => Some(false),
+        3 => behind_point(behind_way).then_some(false),
+        7 => behind_point(behind_way).then_some(true),
+        10 => {
+            let (date, two) = behind_way.split_at(7);
+            (behind_point(date) && behind_point(two)).then_some(true)
+        }
         _ => None,
     }
 }

@@ -128,6 +128,11 @@ fn contents_8() {
     eight(103, PLAIN, "(VO10100)|A|", "(VO1010)|A|", "(VO1");
     eight(103, PLAIN, "(VO10100)|A|", "'(VO10100)'|A|", "'(VO");
     eight(103, PLAIN, "POST", "MAIL", "/RPP");
+    eight(103, PLAIN, "/RPP/1.", "/RPP/1234567.", "/RPP");
+    eight(103, PLAIN, ".791231", ".01.791231", "/RPP");
+    eight(103, PLAIN, ".791231", ".791231.1", "/RPP");
+    eight(103, PLAIN, ".791231", ".791231.001", "/RPP");
+    eight(103, PLAIN, ".791231", ".7912", "/RPP");
     eight(103, PLAIN, ":77B:/A", ":77B:A", "A\r\n-");
     eight(202, COVER, "//B", "//", "/RPP");
     eight(202, COVER, "'(VO10100)'A|//B", "'(VO10100)'", "/RPP");
@@ -150,6 +155,23 @@ fn numbers_9_to_13() {
     number(PLAIN, "800229", "790001", 9, "7900");
     number(PLAIN, "791231", "791232", 9, "7912");
     number(PLAIN, "240229", "230229", 9, "2302");
+    // An RPP line with either ending, with both and with none: 9 looks at the
+    // dates alone.
+    number(PLAIN, ".791231", "", 0, "");
+    number(PLAIN, ".791231", ".01", 0, "");
+    number(PLAIN, ".791231", ".99", 0, "");
+    number(PLAIN, ".791231", ".791231.99", 0, "");
+    number(PLAIN, "791231", "791232.01", 9, "7912");
+    number(PLAIN, "240229.5.POST.791231", "240230.5.POST.01", 9, "2402");
+    number(PLAIN, "/RPP/1.", "/RPP/000000.", 0, "");
+    let printed = [
+        "999999.240229.5.ELEK.240229.01",
+        "346.031014.6.POST.090324.01",
+        "011.090206.5.ELEK.090213.06",
+    ];
+    for line in printed {
+        number(PLAIN, "1.240229.5.POST.791231", line, 0, "");
+    }
     number(COVER, "17.240229", "17.240230", 9, "2402");
     number(PLAIN, "RUB", "USD", 10, "USD0");
     number(COVER, "RUB", "RUR", 10, "RUR1");

@@ -98,6 +98,9 @@ module _ (first later : String) (room rest most : ℕ) (sign : Bool) where
       CodeTests first room sign (codeParts (bytes first) sign l)
       × (AllHold (Marked (bytes later) rest) ls × ((length (l ∷ ls) ≤ most) × Not ((piece 4 (codeParts (bytes first) sign l) ≡ []) × (ls ≡ []))))
 
+  first-size : (a b c d : Text) → Digits 5 b → length a + (5 + (length c + length d)) ≤ room → length (join (a ∷ b ∷ c ∷ d ∷ [])) ≤ room
+  first-size a b c d n h = simp (length-append, n .size) h
+
   made : (l : Line) (ls : List Line) → Parts l ls → IsDetails first later room rest most sign (l ∷ ls)
   made l ls p =
       let ts = codeParts (bytes first) sign l in
@@ -114,7 +117,7 @@ module _ (first later : String) (room rest most : ℕ) (sign : Bool) where
               ∙ ap₂ (λ (x y : Text). join (x ∷ y ∷ piece 2 ts ∷ piece 3 ts ∷ piece 4 ts ∷ [])) (q .0) (q .1 .0)
               ∙ ap (λ (x : Text). join (bytes first ∷ codeOpening sign ∷ piece 2 ts ∷ x ∷ piece 4 ts ∷ [])) (q .1 .1 .1 .0))
               (w .1);
-          front = simp (length-append, q .1 .1 .0 .size) (q .1 .1 .1 .1);
+          front = first-size (codeOpening sign) (piece 2 ts) (codeClosing sign) (piece 4 ts) (q .1 .1 .0) (q .1 .1 .1 .1);
           back = w .2;
           count = p .1 .1 .0;
           text = λ z. p .1 .1 .1 (z .0, w .1 ∙ ap (on later) (z .1));

@@ -4,6 +4,7 @@ use Prim.Native.Nat.{ℕ, zero, suc, _+_, _-_, _≤_, _<_}
 use Prim.Native.String.{String}
 use mathlib.Core.Path.{_≡_, refl, sym, ap, _∙_}
 use mathlib.Core.Bool.{Bool, true, false, _&&_, false≢true}
+use mathlib.Core.Logic.{inl, inr}
 use mathlib.Core.List.{List, [], _∷_, _++_}
 use native.Mathlib.Numerals.{add-one}
 use native.Mathlib.Omega.{arith}
@@ -14,7 +15,7 @@ use Rattle.base.specs.Choice.{all}
 use Rattle.base.specs.Bytes.{byte, digit}
 use Rattle.base.specs.Quoted.{bytes}
 use Rattle.base.proofs.Bools.{left, right, all-append, all-front}
-use Rattle.contents.specs.Words.{Text, Just, join, withMark}
+use Rattle.contents.specs.Words.{Text, Just, Perhaps, join, withMark}
 use Rattle.contents.specs.Answers.{cut, Leads}
 
 -- ---- cuts
@@ -156,6 +157,14 @@ made ss s e = sym (made-from 0 ss s e)
 pub mark-some : (mark : String) (s : Text) → 0 < length s → withMark mark s ≡ bytes mark ++ s
 mark-some mark [] h = absurd (omega arith)
 mark-some mark (x ∷ s) h = refl
+
+pub mark-size : (mark : String) (s : Text) → length (withMark mark s) ≤ length (bytes mark) + length s
+mark-size mark [] = omega arith
+mark-size mark (x ∷ s) = omega (arith, length-append (bytes mark) (x ∷ s))
+
+pub some-just : {kind : ℕ → Bool} (n : ℕ) (s : Text) → Perhaps (Just kind n) s → length s ≤ n
+some-just n s (inl e) = omega (arith, ap length e)
+some-just n s (inr j) = omega (arith, j .size)
 
 -- ---- the first byte
 pub head-tail : (s : Text) → 0 < length s → s ≡ byte s 0 ∷ drop 1 s

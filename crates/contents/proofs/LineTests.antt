@@ -19,9 +19,10 @@ use Rattle.base.proofs.SaysLaws.{says-so, says-not, says-by, says-as, says-and,
 use Rattle.contents.specs.Words.{Text, Line, Size, Just, capitalOrDigit, Digits, Capitals, CapitalsOrDigits, join, Perhaps, withMark, BeginsWith}
 use Rattle.contents.specs.Lines.{Reference, twoDigits, Purpose, Payment, PartyByBik, Bic, Inn, TaxLine, Way, RppLine}
 use Rattle.contents.specs.Fields.{IsPurpose, IsPayment, IsOwnAccount, IsParty, IsBic, IsAccount, IsTax, LooksTax, IsRpp}
-use Rattle.contents.specs.Tests.{sized, digits, piece, sizes, just, starts, perhaps, ends, hasPair, isReference, numberIn, isPurpose, paymentParts, paymentTest, isPayment, isOwnAccount, bikParts, isPartyByBik, isParty, bicParts, isBic, isAccount, isInn, taxParts, isTax, looksTax, isWay, rppParts, rppTest, isRpp}
+use Rattle.contents.specs.Tests.{sized, digits, allOf, piece, sizes, just, starts, perhaps, ends, hasPair, isReference, numberIn, isPurpose, paymentParts, paymentTest, isPayment, isOwnAccount, bikParts, isPartyByBik, isParty, bicParts, isBic, isAccount, isInn, taxParts, isTax, looksTax, isWay, rppPieces, rppParts, rppTest, isRpp}
 use Rattle.contents.specs.Parts.{unmarked}
-use Rattle.contents.proofs.CutLaws.{cut-whole, cut-once}
+use Rattle.contents.proofs.CutLaws.{FrontIs, cut-whole, cut-once}
+use Rattle.contents.proofs.Laws.{mark-some, mark-size, some-just}
 
 -- ---- parts
 pub size-says : (a n : ℕ) (s : Text) → Says (Size a n s) (sizes a n s)
@@ -135,7 +136,7 @@ pub paid-parts : {date currency whole decimals l : Text} → Payment date curren
 unfolding digit
 paid-parts {date} {currency} {whole} {decimals} t =
     ap paymentParts (t .line)
-    ∙ cut-once (sized 6 ∷ sized 3 ∷ digits ∷ sized 1 ∷ []) (date ∷ currency ∷ whole ∷ bytes "," ∷ decimals ∷ []) (t .day .size, (t .money .size, (t .units .each, refl, (refl, tt))))
+    ∙ cut-once (sized 6 ∷ sized 3 ∷ digits ∷ sized 1 ∷ []) (date ∷ currency ∷ whole ∷ bytes "," ∷ decimals ∷ []) (t .day .size, (t .money .size, ((t .units .each, refl), (refl, tt))))
 
 abbrev PaidTests : List Text → Type 0
 PaidTests ts =
@@ -283,7 +284,7 @@ kpp-ends (x ∷ s) = refl
 
 pub tax-parts : {twelve : Bool} {inn kpp l : Text} → TaxLine twelve inn kpp l → taxParts l ≡ bytes "INN" ∷ inn ∷ withMark ".KPP" kpp ∷ []
 tax-parts {twelve} {inn} {kpp} t =
-    ap taxParts (t .line) ∙ cut-once (sized 3 ∷ digits ∷ []) (bytes "INN" ∷ inn ∷ withMark ".KPP" kpp ∷ []) (refl, (inn-digits twelve inn (t .person), kpp-ends kpp, tt))
+    ap taxParts (t .line) ∙ cut-once (sized 3 ∷ digits ∷ []) (bytes "INN" ∷ inn ∷ withMark ".KPP" kpp ∷ []) (refl, ((inn-digits twelve inn (t .person), kpp-ends kpp), tt))
 
 abbrev TaxTests : Bool → List Text → Type 0
 TaxTests twelve ts = (piece 0 ts ≡ bytes "INN") × (Inn twelve (piece 1 ts) × ((kpp : Text) × Perhaps (Digits 9) kpp × (piece 2 ts ≡ withMark ".KPP" kpp)))
@@ -319,57 +320,66 @@ way-size w (inr (inl e)) = ap length e
 way-size w (inr (inr (inl e))) = ap length e
 way-size w (inr (inr (inr e))) = ap length e
 
-pub rpp-parts : {number date turn way value l : Text} → RppLine number date turn way value l
-    → rppParts l ≡ bytes "/RPP/" ∷ number ∷ bytes "." ∷ date ∷ bytes "." ∷ turn ∷ bytes "." ∷ way ∷ withMark "." value ∷ []
+-- a value date is all or none of the seven bytes that it takes: two digits behind it, or alone, are fewer
+value-all : (value sort : Text) → Perhaps (Digits 6) value → Perhaps (Digits 2) sort → FrontIs (allOf (length (bytes ".") + 6)) (withMark "." value) (withMark "." sort)
+value-all value sort (inl e) q = let s = mark-size "." sort in inr (ap (withMark ".") e, omega (arith, some-just 2 sort q))
+value-all value sort (inr d) q = inl (omega (arith, ap length (mark-some "." value (omega (arith, d .size))), d .size))
+
+pub rpp-parts : {number date turn way value sort l : Text} → RppLine number date turn way value sort l
+    → rppParts l ≡ bytes "/RPP/" ∷ number ∷ bytes "." ∷ date ∷ bytes "." ∷ turn ∷ bytes "." ∷ way ∷ withMark "." value ∷ withMark "." sort ∷ []
 unfolding digit
-rpp-parts {number} {date} {turn} {way} {value} t =
+rpp-parts {number} {date} {turn} {way} {value} {sort} t =
     ap rppParts (t .line)
-    ∙ cut-once (sized 5 ∷ digits ∷ sized 1 ∷ sized 6 ∷ sized 1 ∷ sized 1 ∷ sized 1 ∷ sized 4 ∷ [])
-    (bytes "/RPP/" ∷ number ∷ bytes "." ∷ date ∷ bytes "." ∷ turn ∷ bytes "." ∷ way ∷ withMark "." value ∷ [])
-    (refl, (t .serial .each, refl, (refl, (t .day .size, (refl, (t .order .size, (refl, (way-size way (t .kind), tt))))))))
+    ∙ cut-once rppPieces (bytes "/RPP/" ∷ number ∷ bytes "." ∷ date ∷ bytes "." ∷ turn ∷ bytes "." ∷ way ∷ withMark "." value ∷ withMark "." sort ∷ [])
+    (refl, ((t .serial .each, refl), (refl, (t .day .size, (refl, (t .order .size, (refl, (way-size way (t .kind), (value-all value sort (t .due) (t .last), tt)))))))))
 
 abbrev RppTests : List Text → Type 0
 RppTests ts =
-    (piece 0 ts ≡ bytes "/RPP/") × (((1 ≤ length (piece 1 ts)) × ((length (piece 1 ts) ≤ 3) × (all digit (piece 1 ts) ≡ true))) × ((piece 2 ts ≡ bytes ".")
+    (piece 0 ts ≡ bytes "/RPP/") × (((1 ≤ length (piece 1 ts)) × ((length (piece 1 ts) ≤ 6) × (all digit (piece 1 ts) ≡ true))) × ((piece 2 ts ≡ bytes ".")
     × (Digits 6 (piece 3 ts) × ((piece 4 ts ≡ bytes ".") × (Digits 1 (piece 5 ts) × ((piece 6 ts ≡ bytes ".")
-    × (Way (piece 7 ts) × ((value : Text) × Perhaps (Digits 6) value × (piece 8 ts ≡ withMark "." value)))))))))
+    × (Way (piece 7 ts) × (((value : Text) × Perhaps (Digits 6) value × (piece 8 ts ≡ withMark "." value))
+    × ((sort : Text) × Perhaps (Digits 2) sort × (piece 9 ts ≡ withMark "." sort))))))))))
 
 rpp-tests : (ts : List Text) → Says (RppTests ts) (rppTest ts)
 rpp-tests ts =
     says-and (says-text (piece 0 ts) (bytes "/RPP/"))
-    (says-and (says-and (says-le 1 (length (piece 1 ts))) (says-and (says-le (length (piece 1 ts)) 3) (says-true (all digit (piece 1 ts)))))
+    (says-and (says-and (says-le 1 (length (piece 1 ts))) (says-and (says-le (length (piece 1 ts)) 6) (says-true (all digit (piece 1 ts)))))
     (says-and (says-text (piece 2 ts) (bytes ".")) (says-and (just-says digit 6 (piece 3 ts)) (says-and (says-text (piece 4 ts) (bytes "."))
     (says-and (just-says digit 1 (piece 5 ts)) (says-and (says-text (piece 6 ts) (bytes ".")) (says-and (way-says (piece 7 ts))
-    (perhaps-says "." (Digits 6) (just digit 6) (just-says digit 6) (no-digits 6 (λ e. absurd (omega arith))) (piece 8 ts)))))))))
+    (says-and (perhaps-says "." (Digits 6) (just digit 6) (just-says digit 6) (no-digits 6 (λ e. absurd (omega arith))) (piece 8 ts))
+    (perhaps-says "." (Digits 2) (just digit 2) (just-says digit 2) (no-digits 2 (λ e. absurd (omega arith))) (piece 9 ts))))))))))
 
 pub rpp-says : (l : Line) → Says (IsRpp l) (isRpp l)
 unfolding isRpp
-rpp-says l = says-as (made (rppParts l) (cut-whole (sized 5 ∷ digits ∷ sized 1 ∷ sized 6 ∷ sized 1 ∷ sized 1 ∷ sized 1 ∷ sized 4 ∷ []) l)) (λ p. tested (p .5)) (rpp-tests (rppParts l))
+rpp-says l = says-as (made (rppParts l) (cut-whole rppPieces l)) (λ p. tested (p .6)) (rpp-tests (rppParts l))
   where
-    made : (ts : List Text) → join (piece 0 ts ∷ piece 1 ts ∷ piece 2 ts ∷ piece 3 ts ∷ piece 4 ts ∷ piece 5 ts ∷ piece 6 ts ∷ piece 7 ts ∷ piece 8 ts ∷ []) ≡ l → RppTests ts → IsRpp l
-    made ts w (a, (b, (c, (d, (e, (f, (g, (h, i)))))))) = (
+    made : (ts : List Text)
+        → join (piece 0 ts ∷ piece 1 ts ∷ piece 2 ts ∷ piece 3 ts ∷ piece 4 ts ∷ piece 5 ts ∷ piece 6 ts ∷ piece 7 ts ∷ piece 8 ts ∷ piece 9 ts ∷ []) ≡ l → RppTests ts → IsRpp l
+    made ts w (a, (b, (c, (d, (e, (f, (g, (h, (i, j))))))))) = (
       piece 1 ts,
       piece 3 ts,
       piece 5 ts,
       piece 7 ts,
       i .0,
+      j .0,
       record {
         serial = record { least = b .0; most = b .1 .0; each = b .1 .1 };
         day = d;
         order = f;
         kind = h;
         due = i .1;
+        last = j .1;
         line =
-            sym w ∙ ap₂ (λ (x y : Text). join (x ∷ piece 1 ts ∷ y ∷ piece 3 ts ∷ piece 4 ts ∷ piece 5 ts ∷ piece 6 ts ∷ piece 7 ts ∷ piece 8 ts ∷ [])) a c
-            ∙ ap₂ (λ (x y : Text). join (bytes "/RPP/" ∷ piece 1 ts ∷ bytes "." ∷ piece 3 ts ∷ x ∷ piece 5 ts ∷ y ∷ piece 7 ts ∷ piece 8 ts ∷ [])) e g
-            ∙ ap (λ (x : Text). join (bytes "/RPP/" ∷ piece 1 ts ∷ bytes "." ∷ piece 3 ts ∷ bytes "." ∷ piece 5 ts ∷ bytes "." ∷ piece 7 ts ∷ x ∷ [])) (i .2);
+            sym w ∙ ap₂ (λ (x y : Text). join (x ∷ piece 1 ts ∷ y ∷ piece 3 ts ∷ piece 4 ts ∷ piece 5 ts ∷ piece 6 ts ∷ piece 7 ts ∷ piece 8 ts ∷ piece 9 ts ∷ [])) a c
+            ∙ ap₂ (λ (x y : Text). join (bytes "/RPP/" ∷ piece 1 ts ∷ bytes "." ∷ piece 3 ts ∷ x ∷ piece 5 ts ∷ y ∷ piece 7 ts ∷ piece 8 ts ∷ piece 9 ts ∷ [])) e g
+            ∙ ap₂ (λ (x y : Text). join (bytes "/RPP/" ∷ piece 1 ts ∷ bytes "." ∷ piece 3 ts ∷ bytes "." ∷ piece 5 ts ∷ bytes "." ∷ piece 7 ts ∷ x ∷ y ∷ [])) (i .2) (j .2);
       },
     )
 
-    tested : {number date turn way value : Text} → RppLine number date turn way value l → RppTests (rppParts l)
-    tested {value = value} t =
+    tested : {number date turn way value sort : Text} → RppLine number date turn way value sort l → RppTests (rppParts l)
+    tested {value = value} {sort = sort} t =
         subst RppTests (sym (rpp-parts t))
-        (refl, ((t .serial .least, (t .serial .most, t .serial .each)), (refl, (t .day, (refl, (t .order, (refl, (t .kind, (value, t .due, refl)))))))))
+        (refl, ((t .serial .least, (t .serial .most, t .serial .each)), (refl, (t .day, (refl, (t .order, (refl, (t .kind, ((value, t .due, refl), (sort, t .last, refl))))))))))
 
 -- ---- a line has its parts once: they are the pieces that it is cut into
 pub unmarked-mark : (mark : String) (s : Text) → unmarked mark (withMark mark s) ≡ s
@@ -390,7 +400,7 @@ bik-once {a = a} {a′ = a′} t u = let e = sym (bik-parts t) ∙ bik-parts u i
 pub tax-once : {twelve : Bool} {i k i′ k′ l : Text} → TaxLine twelve i k l → TaxLine twelve i′ k′ l → (i ≡ i′) × (k ≡ k′)
 tax-once {k = k} {k′ = k′} t u = let e = sym (tax-parts t) ∙ tax-parts u in (ap (piece 1) e, mark-once ".KPP" k k′ (ap (piece 2) e))
 
-pub rpp-once : {n d t w v n′ d′ t′ w′ v′ l : Text} → RppLine n d t w v l → RppLine n′ d′ t′ w′ v′ l → (n ≡ n′) × (d ≡ d′) × (t ≡ t′) × (w ≡ w′) × (v ≡ v′)
-rpp-once {v = v} {v′ = v′} x y =
+pub rpp-once : {n d t w v s n′ d′ t′ w′ v′ s′ l : Text} → RppLine n d t w v s l → RppLine n′ d′ t′ w′ v′ s′ l → (n ≡ n′) × (d ≡ d′) × (t ≡ t′) × (w ≡ w′) × (v ≡ v′) × (s ≡ s′)
+rpp-once {v = v} {s = s} {v′ = v′} {s′ = s′} x y =
     let e = sym (rpp-parts x) ∙ rpp-parts y in
-    (ap (piece 1) e, ap (piece 3) e, ap (piece 5) e, ap (piece 7) e, mark-once "." v v′ (ap (piece 8) e))
+    (ap (piece 1) e, ap (piece 3) e, ap (piece 5) e, ap (piece 7) e, mark-once "." v v′ (ap (piece 8) e), mark-once "." s s′ (ap (piece 9) e))

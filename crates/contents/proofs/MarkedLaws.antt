@@ -13,7 +13,7 @@ use Rattle.base.specs.Examples.{AllHold}
 use Rattle.contents.specs.Words.{Text, Line, Size}
 use Rattle.contents.specs.Fields.{IsRpp, One, Then, Any, Several, Rest, InRest, RppAndRest}
 use Rattle.contents.specs.Answers.{cut, Marked, RppWith}
-use Rattle.contents.proofs.RppLaws.{rpp-front}
+use Rattle.contents.proofs.RppLaws.{rpp-front, rpp-is}
 
 -- ---- such a line, by its bytes
 pub marked-tests : (mark : Text) (l : Line) → Marked mark (35 - length mark) l → (length mark < length l) × (length l ≤ 35) × (cut 0 (length mark) l ≡ mark)
@@ -55,7 +55,7 @@ module _ (mark : Text) where
 -- ---- an RPP line does not begin with /NZP/
 pub rpp-not-nzp : (l : Line) → IsRpp l → Not (Marked (bytes "/NZP/") 30 l)
 rpp-not-nzp l r m =
-    let a = rpp-front _ _ _ _ _ l (r .5) .0 in
+    let a = rpp-front l r .0 in
     let b = marked-tests (bytes "/NZP/") l m .2 in
     let e = ap (λ (s : Text). byte s 1) (sym a ∙ b) in
     absurd (omega arith)
@@ -117,5 +117,5 @@ no-rpp-no-rest l ms f g (inr (inr x)) = f (x .0)
 pub rpp-no-rest : (n value : ℕ) (l : Line) (ms : List Line) → RppWith n value l → 1 ≤ length ms → Not (InRest 5 ms) → Not (RppAndRest (l ∷ ms))
 rpp-no-rest n value l [] t h g (inl x) = absurd (omega arith)
 rpp-no-rest n value l (m ∷ ms) t h g (inl x) = x
-rpp-no-rest n value l ms t h g (inr (inl x)) = rest-alone 6 (l ∷ ms) x ((_, _, _, _, _, t .0), tt)
+rpp-no-rest n value l ms t h g (inr (inl x)) = rest-alone 6 (l ∷ ms) x (rpp-is t, tt)
 rpp-no-rest n value l ms t h g (inr (inr x)) = g (x .1)

@@ -14,15 +14,18 @@ use Rattle.base.specs.Bytes.{countUpTo}
 use Rattle.fields.specs.Lines.{linesIn}
 use Rattle.contents.specs.Words.{Text, Line}
 use Rattle.contents.specs.Fields.{IsParty, IsBic, IsRpp, One, Then, Any, Names, Beside, Customer, Payer, BankByBic, BankByName, In72, RppAndDetails, InRest, RppAndRest}
-use Rattle.contents.specs.Answers.{BesideSaid, AccountFirst, CustomerSaid, PayerSaid, IsA, BicSaid, NameSaid, RppWith, NoteSaid, RestSaid, isHeld, isBank, isNote}
+use Rattle.contents.specs.Answers.{BesideSaid, AccountFirst, CustomerSaid, PayerSaid, IsA, BicSaid, NameSaid, RppWith, RppSaid, NoteSaid, RestSaid, isHeld, isBank, isNote}
 use Rattle.contents.specs.declared.lines.Party.{Party}
 use Rattle.contents.specs.declared.lines.Party.the-variants as party
+use Rattle.contents.specs.declared.lines.Rpp.{Rpp}
+use Rattle.contents.specs.declared.lines.Rpp.the-variants as rpp
 use Rattle.contents.specs.declared.whole.Held.{Held}
 use Rattle.contents.specs.declared.whole.Held.the-variants as held
 use Rattle.contents.specs.declared.whole.Bank.{Bank}
 use Rattle.contents.specs.declared.whole.Bank.the-variants as bank
 use Rattle.contents.specs.declared.whole.Note.{Note}
 use Rattle.contents.specs.declared.whole.Note.the-variants as note
+use Rattle.contents.proofs.RppLaws.{rpp-is}
 use Rattle.contents.proofs.FieldLaws.{last-0, on-0}
 use Rattle.contents.proofs.LineTests.{rpp-once}
 use Rattle.contents.proofs.VoLaws.{rpp-not-72}
@@ -70,7 +73,7 @@ name-is ls (bank.Led p) b e s = rw e (says-so (led-is (Names 4) p ls s))
 
 dated-is : (sign : Bool) (n v : ℕ) (ls : List Line) → Then (RppWith n v) (In72 sign 5) ls → Then IsRpp (In72 sign 5) ls
 dated-is sign n v [] s = s
-dated-is sign n v (l ∷ ls) s = ((_, _, _, _, _, s .0 .0), s .1)
+dated-is sign n v (l ∷ ls) s = (rpp-is (s .0), s .1)
 
 pub note-is : (sign : Bool) (ls : List Line) (r : Note) (b : Bool) → b ≡ isNote r → NoteSaid sign ls r → Says (RppAndDetails sign ls) b
 note-is sign ls note.Wrong b e s = rw e (says-not s)
@@ -79,31 +82,35 @@ note-is sign ls (note.Dated n v) b e s = rw e (says-so (inr (dated-is sign n v l
 
 rest-dated-is : (n v : ℕ) (ls : List Line) → One (RppWith n v) ls or Then (RppWith n v) (InRest 5) ls → RppAndRest ls
 rest-dated-is n v [] (inl s) = absurd s
-rest-dated-is n v (l ∷ []) (inl s) = inl (_, _, _, _, _, s .0)
+rest-dated-is n v (l ∷ []) (inl s) = inl (rpp-is s)
 rest-dated-is n v (l ∷ k ∷ ls) (inl s) = absurd s
 rest-dated-is n v [] (inr s) = absurd s
-rest-dated-is n v (l ∷ ls) (inr s) = inr (inr ((_, _, _, _, _, s .0 .0), s .1))
+rest-dated-is n v (l ∷ ls) (inr s) = inr (inr (rpp-is (s .0), s .1))
 
 pub rest-is : (ls : List Line) (r : Note) (b : Bool) → b ≡ isNote r → RestSaid ls r → Says (RppAndRest ls) b
 rest-is ls note.Wrong b e s = rw e (says-not s)
 rest-is ls note.Plain b e s = rw e (says-so (inr (inl s)))
 rest-is ls (note.Dated n v) b e s = rw e (says-so (rest-dated-is n v ls s))
 
--- ---- any two answers of a reader of 72 are equal
--- an RPP line has its number and its last date in one way only
-rpp-sizes : (n v n′ v′ : ℕ) (l : Line) → RppWith n v l → RppWith n′ v′ l → note.Dated n v ≡ note.Dated n′ v′
-rpp-sizes n v n′ v′ l a b =
-    let o = rpp-once (a .0) (b .0) in
-    ap₂ note.Dated (sym (a .1) ∙ ap length (o .0) ∙ b .1) (sym (a .2) ∙ ap length (o .4) ∙ b .2)
+-- ---- any two answers of the reader of an RPP line are equal, and so are those of a reader of 72
+-- an RPP line has its number and its value date in one way only
+rpp-sizes : {n v n′ v′ : ℕ} (l : Line) → RppWith n v l → RppWith n′ v′ l → (n ≡ n′) × (v ≡ v′)
+rpp-sizes l a b = let o = rpp-once (a .0 .1) (b .0 .1) in (sym (a .1) ∙ ap length (o .0) ∙ b .1, sym (a .2) ∙ ap length (o .4) ∙ b .2)
+
+pub rpp-said-one : (l : Line) (r q : Rpp) → RppSaid l r → RppSaid l q → r ≡ q
+rpp-said-one l rpp.Wrong rpp.Wrong a b = refl
+rpp-said-one l rpp.Wrong (rpp.Is n v) a b = absurd (a (rpp-is b))
+rpp-said-one l (rpp.Is n v) rpp.Wrong a b = absurd (b (rpp-is a))
+rpp-said-one l (rpp.Is n v) (rpp.Is n′ v′) a b = let s = rpp-sizes l a b in ap₂ rpp.Is (s .0) (s .1)
 
 -- either answers by the first line, so both do
 first-sizes : (n v n′ v′ : ℕ) (ls : List Line) → Then (RppWith n v) Any ls → Then (RppWith n′ v′) Any ls → note.Dated n v ≡ note.Dated n′ v′
 first-sizes n v n′ v′ [] a b = absurd a
-first-sizes n v n′ v′ (l ∷ ls) a b = rpp-sizes n v n′ v′ l (a .0) (b .0)
+first-sizes n v n′ v′ (l ∷ ls) a b = let s = rpp-sizes l (a .0) (b .0) in ap₂ note.Dated (s .0) (s .1)
 
 first-rpp : (n v : ℕ) (ls : List Line) → Then (RppWith n v) Any ls → Then IsRpp Any ls
 first-rpp n v [] a = a
-first-rpp n v (l ∷ ls) a = ((_, _, _, _, _, a .0 .0), tt)
+first-rpp n v (l ∷ ls) a = (rpp-is (a .0), tt)
 
 details-first : (sign : Bool) (n v : ℕ) (ls : List Line) → Then (RppWith n v) (In72 sign 5) ls → Then (RppWith n v) Any ls
 details-first sign n v [] a = a

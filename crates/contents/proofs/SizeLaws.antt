@@ -17,25 +17,18 @@ use Rattle.types.specs.declared.Form.{Form}
 use Rattle.types.specs.Sign.{firstLine}
 use Rattle.contents.specs.declared.Content.{Content}
 use Rattle.contents.specs.declared.Content.the-variants as holds
-use Rattle.contents.specs.Words.{Text, Line, Size, Just, Perhaps, join, withMark}
+use Rattle.contents.specs.Words.{Text, Line, Size, join}
 use Rattle.contents.specs.Lines.{Reference, Name, codeOpening, codeClosing}
 use Rattle.contents.specs.Fields.{Is, IsPurpose, IsPayment, IsOwnAccount, IsParty, IsBic, IsAccount, IsTax, IsRpp, One, Then, Names, Beside, Customer, Details, InRest, Right}
 use Rattle.contents.specs.Tags.{heldBy}
 use Rattle.contents.specs.Rule8.{rightField}
+use Rattle.contents.proofs.Laws.{mark-size, some-just}
 use Rattle.contents.proofs.LineLaws.{account-size}
 use Rattle.contents.proofs.TaxLaws.{tax-tests, inn-range}
 use Rattle.contents.proofs.LineTests.{way-size}
 use Rattle.contents.proofs.RuleLaws.{field-says}
 
 -- ---- lines
-some-just : {kind : ℕ → Bool} (n : ℕ) (s : Text) → Perhaps (Just kind n) s → length s ≤ n
-some-just n s (inl e) = omega (arith, ap length e)
-some-just n s (inr j) = omega (arith, j .size)
-
-mark-size : (mark : String) (s : Text) → length (withMark mark s) ≤ length (bytes mark) + length s
-mark-size mark [] = omega arith
-mark-size mark (x ∷ s) = omega (arith, length-append (bytes mark) (x ∷ s))
-
 reference-name : (l : Line) → Reference l → Name l
 reference-name l r = let z = r .size in record { least = z .least; most = omega arith }
 
@@ -82,7 +75,7 @@ tax-name twelve l (inn, kpp, p) = go (tax-tests twelve inn kpp l p .size)
     go (inr e) = let r = inn-range twelve (length inn) (tax-tests twelve inn kpp l p .count) .1 in record { least = omega arith; most = omega arith }
 
 rpp-name : (l : Line) → IsRpp l → Name l
-rpp-name l (number, date, turn, way, value, p) =
+rpp-name l (number, date, turn, way, value, sort, p) =
     let e = simp length-append at (ap length (p .line)) in
     let n = p .serial in
     let d = p .day in
@@ -90,6 +83,8 @@ rpp-name l (number, date, turn, way, value, p) =
     let w = way-size way (p .kind) in
     let b = mark-size "." value in
     let v = some-just 6 value (p .due) in
+    let c = mark-size "." sort in
+    let s = some-just 2 sort (p .last) in
     record { least = omega arith; most = omega arith }
 
 -- ---- a field's lines

@@ -12,6 +12,7 @@ use Rattle.contents.specs.Words.{Text, Line, Digits, join}
 use Rattle.contents.specs.Lines.{codeOpening, codeClosing}
 use Rattle.contents.specs.Fields.{Names, Several, In70, In72}
 use Rattle.contents.specs.Answers.{cut, VoFirst, textAt, Marked, NzpFirst, RppWith}
+use Rattle.contents.proofs.RppLaws.{rpp-is}
 use Rattle.contents.proofs.Laws.{Spot, spot, stands-at, made}
 use Rattle.contents.proofs.MarkedLaws.{marked-texts, texts-marked, rpp-not-nzp}
 
@@ -187,7 +188,7 @@ nzp-made sign l m v = record { rest = m .0; line = m .1; vo-first = rw (ap (drop
 
 -- an RPP line is no first line of details
 pub rpp-not-72 : (sign : Bool) (most n value : ℕ) (l : Line) (ms : List Line) → RppWith n value l → Not (In72 sign most (l ∷ ms))
-rpp-not-72 sign most n value l ms t d = rpp-not-nzp l (_, _, _, _, _, t .0) (nzp-tests sign l (in72-nzp sign most l ms d) .0)
+rpp-not-72 sign most n value l ms t d = rpp-not-nzp l (rpp-is t) (nzp-tests sign l (in72-nzp sign most l ms d) .0)
 
 pub in72-some : (sign : Bool) (most : ℕ) → Not (In72 sign most [])
 in72-some sign most d = let e = ap length (d .3 .lines) in absurd (omega arith)

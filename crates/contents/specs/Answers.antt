@@ -10,7 +10,7 @@ use Rattle.base.specs.Bytes.{byte, digit}
 use Rattle.base.specs.Quoted.{bytes, ascii}
 use Rattle.contents.specs.Words.{Text, Line, Digits, Size, join, BeginsWith}
 use Rattle.contents.specs.Lines.{Reference, PartyByBik, PartyByAccount, TaxLine, Payment, RppLine, Way, codeOpening, codeClosing, Name}
-use Rattle.contents.specs.Fields.{Is, IsPurpose, IsPayment, IsOwnAccount, In72, RppAndDetails, InRest, RppAndRest, IsParty, IsBic, BankByBic, BankByName, One, IsAccount, LooksTax, Then, Any, Names, Beside, Customer, Payer}
+use Rattle.contents.specs.Fields.{Is, IsPurpose, IsPayment, IsOwnAccount, In72, RppAndDetails, InRest, RppAndRest, IsParty, IsBic, BankByBic, BankByName, One, IsAccount, IsRpp, LooksTax, Then, Any, Names, Beside, Customer, Payer}
 use Rattle.contents.specs.declared.whole.Held.{Held}
 use Rattle.contents.specs.declared.whole.Held.the-variants as held
 use Rattle.contents.specs.declared.lines.Tax.{Tax}
@@ -60,6 +60,15 @@ pub record RppBody (i : ℕ) (l : Line) : Type 0 where
   pub point3 : byte l (9 + i) ≡ ascii "."
   pub kind : Way (cut (10 + i) 4 l)
 
+-- ---- a point and n digits from i on
+pub record Pointed (i n : ℕ) (l : Line) : Type 0 where
+  pub point : byte l i ≡ ascii "."
+  pub number : Digits n (cut (1 + i) n l)
+
+-- the line ends at i, or in a point and n digits that stand there
+abbrev pub EndsIn : ℕ → ℕ → Line → Type 0
+EndsIn i n l = (length l ≡ i) or ((length l ≡ n + (1 + i)) × Pointed i n l)
+
 -- ---- lines with their parts, of these sizes
 abbrev pub TaxWith : Bool → ℕ → ℕ → Line → Type 0
 TaxWith twelve inn kpp l = TaxLine twelve (cut 3 inn l) (cut (4 + (inn + 3)) kpp l) l × Stand 3 inn l × Stand (4 + (inn + 3)) kpp l
@@ -85,11 +94,11 @@ PaidSaid l (paid.Is whole decimals) = PaidWith whole decimals l
 
 abbrev pub RppWith : ℕ → ℕ → Line → Type 0
 RppWith n value l =
-    RppLine (cut 5 n l) (cut (1 + (n + 5)) 6 l) (cut (8 + (n + 5)) 1 l) (cut (10 + (n + 5)) 4 l) (cut (15 + (n + 5)) value l) l
+    ((sort : Text) × RppLine (cut 5 n l) (cut (1 + (n + 5)) 6 l) (cut (8 + (n + 5)) 1 l) (cut (10 + (n + 5)) 4 l) (cut (15 + (n + 5)) value l) sort l)
     × Stand 5 n l × Stand (15 + (n + 5)) value l
 
 abbrev pub RppSaid : Line → Rpp → Type 0
-RppSaid l rpp.Wrong = (number date turn way value : Text) → Not (RppLine number date turn way value l)
+RppSaid l rpp.Wrong = Not (IsRpp l)
 RppSaid l (rpp.Is n value) = RppWith n value l
 
 -- ---- fields with the parts of their tax line; at: where the first of the lines begins

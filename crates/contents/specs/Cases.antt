@@ -70,7 +70,13 @@ cases =
     ∷ case 103 plain "71A" ("OUR" ∷ [])
     ("BEN" ∷ "our" ∷ "OUR|OUR" ∷ "" ∷ [])
     ∷ case 103 plain "72" ("/RPP/417.240229.5.ELEK" ∷ "/RPP/1.240229.1.POST.240301" ∷ "/RPP/999.000000.0.BESP" ∷ "/RPP/12.240229.1.TELG" ∷ [])
-    ("/RPP/1000.240229.5.ELEK" ∷ "/RPP/.240229.5.ELEK" ∷ "/RPP/1.240229.5.MAIL" ∷ "/RPP/1.240229.5.ELEK." ∷ "/RPP/1.240229.5.ELEK.2402" ∷ "/RPP/1.240229.5ELEK" ∷ "" ∷ [])
+    ("/RPP/.240229.5.ELEK" ∷ "/RPP/1.240229.5.MAIL" ∷ "/RPP/1.240229.5.ELEK." ∷ "/RPP/1.240229.5.ELEK.2402" ∷ "/RPP/1.240229.5ELEK" ∷ "" ∷ [])
+    -- its number has one to six digits
+    ∷ case 103 plain "72" ("/RPP/1000.240229.5.ELEK" ∷ "/RPP/999999.240229.5.ELEK" ∷ "/RPP/000000.240229.5.ELEK" ∷ [])
+    ("/RPP/1234567.240229.5.ELEK" ∷ "/RPP/1234567.240229.5.ELEK.240229.01" ∷ "/RPP/12345A.240229.5.ELEK" ∷ [])
+    -- and it may end in a value date, in any two digits, or in the first and then the second
+    ∷ case 103 plain "72" ("/RPP/1.240229.5.ELEK.01" ∷ "/RPP/1.240229.5.ELEK.99" ∷ "/RPP/1.240229.5.ELEK.240229" ∷ "/RPP/1.240229.5.ELEK.240229.01" ∷ "/RPP/999999.240229.5.ELEK.240229.01" ∷ "/RPP/346.031014.6.POST.090324.01" ∷ "/RPP/011.090206.5.ELEK.090213.06" ∷ [])
+    ("/RPP/1.240229.5.ELEK.01.240229" ∷ "/RPP/1.240229.5.ELEK.1" ∷ "/RPP/1.240229.5.ELEK.001" ∷ "/RPP/1.240229.5.ELEK.0A" ∷ "/RPP/1.240229.5.ELEK01" ∷ "/RPP/1.240229.5.ELEK.01.01" ∷ "/RPP/1.240229.5.ELEK.240229." ∷ "/RPP/1.240229.5.ELEK.240229.1" ∷ "/RPP/1.240229.5.ELEK.240229.001" ∷ "/RPP/1.240229.5.ELEK.24022901" ∷ "/RPP/1.240229.5.ELEK.240229,01" ∷ "/RPP/1.240229.5.ELEK.240229.240229" ∷ [])
     -- the rest of the details, alone and behind an RPP line: six lines with that line, each uses a byte of its room
     ∷ case 103 plain "72" ("/NZP/A" ∷ "/NZP/A|//B" ∷ "/NZP/ABCDEFGHIJKLMNOPQRSTUVWXYZ1234" ∷ "/NZP/A|//ABCDEFGHIJKLMNOPQRSTUVWXYZ1234567" ∷ "/NZP/A|//B|//C|//D|//E|//F" ∷ "/RPP/1.240229.5.ELEK|/NZP/A" ∷ "/RPP/1.240229.1.POST.240301|/NZP/A|//B|//C|//D|//E" ∷ [])
     ("/NZP/" ∷ "/NZP/|//A" ∷ "/NZP/A|//" ∷ "/NZP/ABCDEFGHIJKLMNOPQRSTUVWXYZ12345" ∷ "/NZP/A|//ABCDEFGHIJKLMNOPQRSTUVWXYZ12345678" ∷ "/NZP/A|//B|//C|//D|//E|//F|//G" ∷ "/RPP/1.240229.5.ELEK|/NZP/A|//B|//C|//D|//E|//F" ∷ "/RPP/1.240229.5.MAIL|/NZP/A" ∷ "/RPP/1.240229.5.ELEK|/NZP/" ∷ [])
@@ -81,7 +87,7 @@ cases =
     ∷ case 103 plain "72" ("/NZP/(VO12345)" ∷ "/NZP/(VO12345)A|//(VO12345)" ∷ "/NZP/(VO1" ∷ "/RPP/1.240229.5.ELEK|/NZP/(VO12345)A" ∷ [])
     []
     ∷ case 103 signed "72" ("/RPP/417.240229.5.ELEK" ∷ "/RPP/1.240229.1.POST.240301" ∷ "/NZP/A" ∷ "/NZP/'(VO12345)'" ∷ "/NZP/(VO12345)A" ∷ "/RPP/1.240229.5.ELEK|/NZP/A|//B" ∷ [])
-    ("/RPP/1000.240229.5.ELEK" ∷ "/RPP/.240229.5.ELEK" ∷ "/NZP/" ∷ [])
+    ("/RPP/1234567.240229.5.ELEK" ∷ "/RPP/.240229.5.ELEK" ∷ "/NZP/" ∷ [])
     ∷ case 103 plain "77B" ("/N10/TP" ∷ "/" ∷ "/A|B|C" ∷ "/ABCDEFGHIJKLMNOPQRSTUVWXYZ12345678" ∷ [])
     ("N10" ∷ "/A|B|C|D" ∷ "/A||B" ∷ "/ABCDEFGHIJKLMNOPQRSTUVWXYZ123456789" ∷ "" ∷ [])
     -- 202
@@ -111,8 +117,8 @@ cases =
     -- six lines with the RPP line; each uses a byte of its room; the code stands right behind /NZP/
     ∷ case 202 plain "72" ("/NZP/(VO10100)A" ∷ "/RPP/1.240229.1.POST|/NZP/(VO10100)A" ∷ "/NZP/(VO10100)|//A" ∷ "/NZP/(VO10100)A|//B|//C|//D|//E|//F" ∷ "/RPP/1.240229.1.POST|/NZP/(VO10100)A|//B|//C|//D|//E" ∷ "/NZP/(VO10100)ABCDEFGHIJKLMNOPQRSTU|//ABCDEFGHIJKLMNOPQRSTUVWXYZ1234567" ∷ [])
     ("/NZP/(VO10100)" ∷ "/NZP/(VO10100)A|//" ∷ "/NZP/(VO10100)|//A|//" ∷ "/NZP/(VO10100)A|B" ∷ "/NZP/A" ∷ "/NZP/A(VO10100)B" ∷ "(VO10100)A" ∷ "/NZP/'(VO10100)'A" ∷ "/RPP/1.240229.1.POST" ∷ "/RPP/1.240229.1.MAIL|/NZP/(VO10100)A" ∷ "/NZP/(VO10100)A|//B|//C|//D|//E|//F|//G" ∷ "/RPP/1.240229.1.POST|/NZP/(VO10100)A|//B|//C|//D|//E|//F" ∷ "/NZP/(VO10100)ABCDEFGHIJKLMNOPQRSTUV" ∷ "/NZP/(VO10100)A|//ABCDEFGHIJKLMNOPQRSTUVWXYZ12345678" ∷ [])
-    ∷ case 202 signed "72" ("/NZP/'(VO10100)'A" ∷ "/RPP/1.240229.1.POST|/NZP/'(VO10100)'|//A" ∷ [])
-    ("/NZP/(VO10100)A" ∷ "/NZP/'(VO10100)'" ∷ "/RPP/1.240229.1.POST|/NZP/(VO10100)A" ∷ [])
+    ∷ case 202 signed "72" ("/NZP/'(VO10100)'A" ∷ "/RPP/1.240229.1.POST|/NZP/'(VO10100)'|//A" ∷ "/RPP/999999.240229.5.ELEK.240229.01|/NZP/'(VO10100)'A" ∷ "/RPP/1.240229.1.POST.01|/NZP/'(VO10100)'A" ∷ [])
+    ("/NZP/(VO10100)A" ∷ "/NZP/'(VO10100)'" ∷ "/RPP/1.240229.1.POST|/NZP/(VO10100)A" ∷ "/RPP/1234567.240229.5.ELEK|/NZP/'(VO10100)'A" ∷ "/RPP/1.240229.1.POST.01.240229|/NZP/'(VO10100)'A" ∷ [])
     -- a tag of the other type, and no form's type
     ∷ case 103 plain "21" []
     ("NONREF" ∷ [])

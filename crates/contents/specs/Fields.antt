@@ -39,7 +39,7 @@ abbrev pub LooksTax : Line → Type 0
 LooksTax l = (d : ℕ) × (s : Text) × BeginsTax d s l
 
 abbrev pub IsRpp : Line → Type 0
-IsRpp l = (number date turn way value : Text) × RppLine number date turn way value l
+IsRpp l = (number date turn way value sort : Text) × RppLine number date turn way value sort l
 
 abbrev pub Is : String → Line → Type 0
 Is w l = l ≡ bytes w

@@ -87,17 +87,19 @@ pub record BeginsTax (d : ℕ) (s : Text) (l : Line) : Type 0 where
 abbrev pub Name : Line → Type 0
 Name l = Size 1 35 l
 
--- Crpp: /RPP/, 1 to 3 digits, ., a date of six digits, ., a digit, ., POST, TELG, ELEK or BESP, perhaps . and a date of six digits
+-- Crpp: /RPP/, 1 to 6 digits, ., a date of six digits, ., a digit, ., POST, TELG, ELEK or BESP, perhaps . and a date of six digits, perhaps . and
+-- two digits
 abbrev pub Way : Text → Type 0
 Way w = (w ≡ bytes "POST") or (w ≡ bytes "TELG") or (w ≡ bytes "ELEK") or (w ≡ bytes "BESP")
 
-pub record RppLine (number date turn way value : Text) (l : Line) : Type 0 where
-  pub serial : Run digit 1 3 number
+pub record RppLine (number date turn way value sort : Text) (l : Line) : Type 0 where
+  pub serial : Run digit 1 6 number
   pub day : Digits 6 date
   pub order : Digits 1 turn
   pub kind : Way way
   pub due : Perhaps (Digits 6) value
-  pub line : l ≡ join (bytes "/RPP/" ∷ number ∷ bytes "." ∷ date ∷ bytes "." ∷ turn ∷ bytes "." ∷ way ∷ withMark "." value ∷ [])
+  pub last : Perhaps (Digits 2) sort
+  pub line : l ≡ join (bytes "/RPP/" ∷ number ∷ bytes "." ∷ date ∷ bytes "." ∷ turn ∷ bytes "." ∷ way ∷ withMark "." value ∷ withMark "." sort ∷ [])
 
 -- Cdetails: the VO code is (VO, five digits, ); with the sign '(VO, five digits, )'
 abbrev pub codeOpening : Bool → Text

@@ -1,6 +1,6 @@
 -- The parts of a line by name, and where they begin: those that it is cut into (Tests). Of a line of the format they are the parts that the
 -- grammar names (proofs/LineTests: `paid-parts`, `bik-parts`, `tax-parts`, `rpp-parts`). Assumes nothing.
-use Prim.Native.Nat.{ℕ, _-_}
+use Prim.Native.Nat.{ℕ, _+_}
 use Prim.Native.String.{String}
 use mathlib.Core.Bool.{Bool}
 use mathlib.Core.List.{List}
@@ -57,9 +57,9 @@ rppDate l = piece 3 (rppParts l)
 abbrev pub rppDateAt : Line → ℕ
 rppDateAt l = before 3 (rppParts l)
 
--- the value date, at the line's end
+-- the value date, behind its point
 abbrev pub rppValue : Line → Text
 rppValue l = unmarked "." (piece 8 (rppParts l))
 
 abbrev pub rppValueAt : Line → ℕ
-rppValueAt l = length l - length (rppValue l)
+rppValueAt l = length (bytes ".") + before 8 (rppParts l)

@@ -14,19 +14,24 @@ use Rattle.contents.specs.declared.Content.the-variants as holds
 use Rattle.contents.specs.Words.{Text, Line, capitalOrDigit}
 use Rattle.contents.specs.Lines.{twoDigits, codeOpening, codeClosing}
 
--- ---- a line cut up: so many bytes; the digits that stand there; and last what is left
+-- ---- a line cut up: so many bytes; the digits that stand there; so many bytes or none, if they are fewer; and last what is left
 pub data Piece : Type 0 where
   sized : ℕ → Piece
   digits : Piece
+  allOf : ℕ → Piece
 
 unfoldable pub leadDigits : Text → Text
 leadDigits [] = []
 leadDigits (x ∷ s) = pick (digit x) (x ∷ leadDigits s) []
 
+abbrev pub frontOf : Piece → Text → Text
+frontOf (sized n) s = take n s
+frontOf digits s = leadDigits s
+frontOf (allOf n) s = pick (leb n (length s)) (take n s) []
+
 abbrev pub cutBy : List Piece → Text → List Text
 cutBy [] s = s ∷ []
-cutBy (sized n ∷ ps) s = take n s ∷ cutBy ps (drop n s)
-cutBy (digits ∷ ps) s = leadDigits s ∷ cutBy ps (drop (length (leadDigits s)) s)
+cutBy (p ∷ ps) s = frontOf p s ∷ cutBy ps (drop (length (frontOf p s)) s)
 
 abbrev pub piece : ℕ → List Text → Text
 piece k ts = getD ts k []
@@ -130,15 +135,18 @@ isName l = sizes 1 35 l
 abbrev pub isWay : Text → Bool
 isWay w = same w (bytes "POST") || (same w (bytes "TELG") || (same w (bytes "ELEK") || same w (bytes "BESP")))
 
--- /RPP/, number, point, date, point, turn, point, way, and perhaps a date behind a point
+-- /RPP/, number, point, date, point, turn, point, way; perhaps a value date behind a point; and perhaps two digits behind one
+abbrev pub rppPieces : List Piece
+rppPieces = sized 5 ∷ digits ∷ sized 1 ∷ sized 6 ∷ sized 1 ∷ sized 1 ∷ sized 1 ∷ sized 4 ∷ allOf (length (bytes ".") + 6) ∷ []
+
 abbrev pub rppParts : Line → List Text
-rppParts l = cutBy (sized 5 ∷ digits ∷ sized 1 ∷ sized 6 ∷ sized 1 ∷ sized 1 ∷ sized 1 ∷ sized 4 ∷ []) l
+rppParts l = cutBy rppPieces l
 
 abbrev pub rppTest : List Text → Bool
 rppTest ts =
-    same (piece 0 ts) (bytes "/RPP/") && ((leb 1 (length (piece 1 ts)) && (leb (length (piece 1 ts)) 3 && all digit (piece 1 ts))) && (same (piece 2 ts) (bytes ".")
+    same (piece 0 ts) (bytes "/RPP/") && ((leb 1 (length (piece 1 ts)) && (leb (length (piece 1 ts)) 6 && all digit (piece 1 ts))) && (same (piece 2 ts) (bytes ".")
     && (just digit 6 (piece 3 ts) && (same (piece 4 ts) (bytes ".") && (just digit 1 (piece 5 ts) && (same (piece 6 ts) (bytes ".")
-    && (isWay (piece 7 ts) && perhaps (bytes ".") (just digit 6) (piece 8 ts))))))))
+    && (isWay (piece 7 ts) && (perhaps (bytes ".") (just digit 6) (piece 8 ts) && perhaps (bytes ".") (just digit 2) (piece 9 ts)))))))))
 
 unfoldable pub isRpp : Line → Bool
 isRpp l = rppTest (rppParts l)

@@ -6,7 +6,7 @@ ghost use Rattle.contents.specs.Fields.{IsPurpose, IsAccount, IsOwnAccou
 ghost use Rattle.contents.specs.Tests.{looksTax};
 ghost use Rattle.contents.specs.Lines.{Name, Way, Reference};
 ghost use Rattle.base.specs.Says.{Says};
-ghost use Rattle.contents.specs.Answers.{cut, HasPair, RppBody, PartySaid, InnBy, TaxSaid, PaidSaid, RppSaid};
+ghost use Rattle.contents.specs.Answers.{cut, HasPair, RppBody, Pointed, EndsIn, PartySaid, InnBy, TaxSaid, PaidSaid, RppSaid};
 use super::pieces::are_capitals;
 use super::pieces::are_capitals_or_digits;
 use super::pieces::are_digits;
@@ -58,10 +58,10 @@ const SHORTEST_PAID: usize = MONEY + 1 + COMMA;
 
 const LONGEST_PAID: usize = MONEY + AMOUNT;
 
-// An RPP line behind its mark and its number: point, date, point, digit, point, way; and perhaps point and date.
+// An RPP line behind its mark and its number: point, date, point, digit, point, way; perhaps point and date; and perhaps point and two digits.
 pub const RPP_MARK: usize = 5;
 
-const MOST_NUMBER: usize = 3;
+const MOST_NUMBER: usize = 6;
 
 const POINT: usize = 1;
 
@@ -83,7 +83,9 @@ const RPP_BODY: usize = RPP_WAY + WAY;
 
 pub const RPP_VALUE: usize = RPP_BODY + POINT;
 
-const RPP_WHOLE: usize = RPP_VALUE + DATE;
+const DUE: usize = POINT + DATE;
+
+const SORT: usize = 2;
 
 const SHORTEST_RPP: usize = RPP_MARK + 1 + RPP_BODY;
 
@@ -139,7 +141,7 @@ pub enum Paid {
     Is(usize, usize),
 }
 
-// An RPP line: the sizes of its number and of its last date; 0 for none.
+// An RPP line: the sizes of its number and of its value date; 0 for none.
 pub enum Rpp {
     Wrong,
     Is(usize, usize),
@@ -304,6 +306,31 @@ fn is_rpp_body(l: &[u8], i: usize) -> bool
     is_way(l, RPP_WAY + i)
 }
 
+// Whether a point and n digits stand from i on.
+fn is_pointed(l: &[u8], i: usize, n: usize) -> bool
+    requires { ⌜ n + (1 + i) ≤ length (now l) ⌝ }
+    ensures { λ r. ⌜ Says (Pointed i n (now (l .entry))) r ⌝ }
+{
+    if l[i] != b'.' {
+        return false;
+    }
+    are_digits(l, POINT + i, n)
+}
+
+// Whether the line ends at i, or in a point and n digits that stand there.
+fn ends_in(l: &[u8], i: usize, n: usize) -> bool
+    requires { ⌜ i ≤ length (now l) ⌝ }
+    ensures { λ r. ⌜ Says (EndsIn i n (now (l .entry))) r ⌝ }
+{
+    if l.len() == i {
+        return true;
+    }
+    if l.len() - (POINT + i) != n {
+        return false;
+    }
+    is_pointed(l, i, n)
+}
+
 pub fn rpp_line(l: &[u8]) -> Rpp
     ensures { λ r. ⌜ RppSaid (now (l .entry)) r ⌝ }
 {
@@ -324,16 +351,17 @@ pub fn rpp_line(l: &[u8]) -> Rpp
     if !is_rpp_body(l, i) {
         return Rpp::Wrong;
     }
-    if l.len() == RPP_BODY + i {
+    let end = RPP_BODY + i;
+    if l.len() < DUE + end {
+        if !ends_in(l, end, SORT) {
+            return Rpp::Wrong;
+        }
         return Rpp::Is(n, 0);
     }
-    if l.len() != RPP_WHOLE + i {
+    if !is_pointed(l, end, DATE) {
         return Rpp::Wrong;
     }
-    if l[RPP_BODY + i] != b'.' {
-        return Rpp::Wrong;
-    }
-    if !are_digits(l, RPP_VALUE + i, DATE) {
+    if !ends_in(l, DUE + end, SORT) {
         return Rpp::Wrong;
     }
     Rpp::Is(n, DATE)

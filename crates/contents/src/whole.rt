@@ -367,7 +367,7 @@ fn rest_72(c: &[u8], at: usize, most: usize) -> bool
     are_lines(true, c, next_line(e, c.len()), most - 1)
 }
 
-// 72: wrong; details, or their rest, alone; or an RPP line first, with the sizes of its number and its last date.
+// 72: wrong; details, or their rest, alone; or an RPP line first, with the sizes of its number and its value date.
 pub enum Note {
     Wrong,
     Plain,

@@ -13,6 +13,7 @@ use Rattle.base.specs.Quoted.{bytes}
 use Rattle.contents.specs.Words.{Text, Line, join}
 use Rattle.contents.specs.Fields.{IsRpp, One, Rest}
 use Rattle.contents.specs.Parts.{opensRpp}
+use Rattle.contents.proofs.RppLaws.{rpp-behind}
 use Rattle.roles.specs.Speech.{asDetails, speech, laterText, detailsSpeech, nzpSize, laterSize, noteSpeeches, speeches}
 use Rattle.roles.specs.declared.Shape.the-variants.{Note103}
 
@@ -32,7 +33,7 @@ rest-speech o {t = t} {ts = ts} r =
 
 opens : (l : Line) → IsRpp l → opensRpp l ≡ true
 unfolding same
-opens l r = ap opensRpp (r .5 .line)
+opens l r = ap opensRpp (rpp-behind l r .1)
 
 -- behind an RPP line
 past-rpp : (front o : ℕ) (l : Line) (ls : List Line) → IsRpp l → noteSpeeches front o (l ∷ ls) ≡ detailsSpeech front laterSize (o + length l + 2) ls

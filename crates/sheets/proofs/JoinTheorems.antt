@@ -1,13 +1,12 @@
 -- An accepted 103 is read as the sentences say: all of its details in 70, and a 72 exactly where there is an RPP line (S1, S2, C72, B6, D2e). Assumes
 -- nothing.
-use Prim.Native.Nat.{ℕ, _≤_}
+use Prim.Native.Nat.{ℕ}
 use mathlib.Core.Path.{_≡_, refl, sym, ap, subst, _∙_}
 use mathlib.Core.Bool.{Bool, true, false, false≢true}
 use mathlib.Core.List.{List, [], _∷_, _++_, map}
 use mathlib.Core.Logic.{inl, inr}
-use native.Mathlib.Omega.{arith}
 use native.Mathlib.Nat.{zero-add}
-use lib.ListN.{length, drop}
+use lib.ListN.{drop}
 use Rattle.base.specs.Choice.{pick, all}
 use Rattle.base.specs.Bytes.{same, empty}
 use Rattle.base.specs.Calls.{Answer, said, textOf}
@@ -25,6 +24,7 @@ use Rattle.contents.specs.Fields.{IsRpp, RppAndRest, Right}
 use Rattle.contents.specs.Tags.{tags103, heldBy, RightField}
 use Rattle.contents.specs.Parts.{opensRpp}
 use Rattle.contents.specs.Rule8.{EachRight}
+use Rattle.contents.proofs.RppLaws.{rpp-behind}
 use Rattle.roles.specs.Role.{shapeOf}
 use Rattle.roles.specs.Speech.{codeSize, laterText, nzpSize, laterSize}
 use Rattle.roles.specs.declared.Shape.{Shape}
@@ -44,13 +44,9 @@ data Opens (l : List ℕ) : Type 0 where
   rpp : IsRpp l → opensRpp l ≡ true → empty (drop 5 l) ≡ false → Opens l
   rest : opensRpp l ≡ false → Opens l
 
-some-more : (a b : List ℕ) → 1 ≤ length a → empty (a ++ b) ≡ false
-some-more [] b h = absurd (omega arith)
-some-more (x ∷ a) b h = refl
-
 opens-rpp : (l : List ℕ) → IsRpp l → Opens l
 unfolding same
-opens-rpp l (number, date, turn, way, value, d) = rpp (number, date, turn, way, value, d) (ap opensRpp (d .line)) (ap (λ (x : List ℕ). empty (drop 5 x)) (d .line) ∙ some-more number _ (d .serial .least))
+opens-rpp l d = let w = rpp-behind l d in rpp d (ap opensRpp (w .1)) (ap (λ (x : List ℕ). empty (drop 5 x)) (w .1) ∙ w .2)
 
 opens : (l : List ℕ) (ls : List (List ℕ)) → RppAndRest (l ∷ ls) → Opens l
 unfolding same

@@ -32,7 +32,8 @@ use Rattle.writer.proofs.PurposeLaws.{twice-not}
 use Rattle.written.proofs.SpeltLaws.{spelt-empty}
 use Rattle.written.proofs.ReadyLaws.{speaks, RunParts, own, withRest, Ready}
 use Rattle.sheets.specs.Gather.{contentParts}
-use Rattle.trips.proofs.DetailLaws.{IsIn, rpp-line, as-72, as-behind, divided-pass, rest-pass}
+use Rattle.contents.proofs.RppLaws.{rpp-behind}
+use Rattle.trips.proofs.DetailLaws.{IsIn, as-72, as-behind, divided-pass, rest-pass}
 
 module _ (s : Bool) where
   -- ---- a text that fits is divided
@@ -73,7 +74,7 @@ module _ (s : Bool) where
       go : {ls ks : List (List ℕ)} {k : List ℕ} → ls ≡ (bytes "/NZP/" ++ k) ∷ ks → Ready s Note202 (contentParts s Note202 ls) → RppAndDetails s (contentLines s Note202 (contentParts s Note202 ls))
       go e w = let v = rw e at w in rw e (inl (behind-pass (v .is-right) (v .says) (v .fits)))
   pass-202 [] (inr d) w = absurd d
-  pass-202 (l ∷ ls) (inr d) w = let k = rpp-line l (d .0) in go (k .0) (k .1) (k .2) (d .0) w
+  pass-202 (l ∷ ls) (inr d) w = let k = rpp-behind l (d .0) in go (k .0) (k .1) (k .2) (d .0) w
     where
       go : {l : List ℕ} (r : List ℕ) → l ≡ rppLine r → empty r ≡ false → IsRpp l → Ready s Note202 (contentParts s Note202 (l ∷ ls))
           → RppAndDetails s (contentLines s Note202 (contentParts s Note202 (l ∷ ls)))

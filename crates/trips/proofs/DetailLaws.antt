@@ -19,10 +19,11 @@ use Rattle.base.specs.Says.{Not}
 use Rattle.base.proofs.Bools.{left, right, both}
 use Rattle.base.specs.Examples.{AllHold}
 use Rattle.fields.specs.Shapes.{goesOn}
-use Rattle.contents.specs.Words.{Size, join, withMark}
+use Rattle.contents.specs.Words.{Size, join}
 use Rattle.contents.specs.Lines.{codeOpening, codeClosing}
 use Rattle.contents.specs.Fields as fields
 use Rattle.contents.specs.Fields.{IsRpp, Details, RppAndDetails, Rest, InRest, RppAndRest}
+use Rattle.contents.proofs.RppLaws.{rpp-behind}
 use Rattle.records.specs.Rule19.{isDigits}
 use Rattle.details.specs.Lines.{together, Later, none, line, Division, lines}
 use Rattle.details.specs.Breaking.{opens}
@@ -158,15 +159,6 @@ details-lines In72 s ls d g = details-by as-72 s (d .3) g
 details-lines BehindRpp s ls d g = details-by as-behind s (d .3) g
 
 -- ---- an RPP line, and nothing or details behind it
-pub rpp-line : (l : List ℕ) → IsRpp l → (r : List ℕ) × (l ≡ rppLine r) × (empty r ≡ false)
-rpp-line l (number, date, turn, way, value, d) =
-    let r : List ℕ = join (bytes "." ∷ date ∷ bytes "." ∷ turn ∷ bytes "." ∷ way ∷ withMark "." value ∷ []) in
-    (number ++ r, d .line, go number r (d .serial .least))
-  where
-    go : (a b : List ℕ) → 1 ≤ length a → empty (a ++ b) ≡ false
-    go [] b h = absurd (omega arith)
-    go (x ∷ a) b h = refl
-
 -- 72 of a 202
 pub data Note (s : Bool) (ls : List (List ℕ)) : Type 0 where
   with-rpp : (r : List ℕ) (ks : List (List ℕ)) → ls ≡ rppLine r ∷ ks → empty r ≡ false → DetailsOver BehindRpp s ks → Note s ls
@@ -180,7 +172,7 @@ pub note-lines : (s : Bool) (ls : List (List ℕ)) → RppAndDetails s ls → al
 note-lines s ls (inl d) g = without (details-lines In72 s ls d g)
 note-lines s [] (inr d) g = absurd d
 note-lines s (l ∷ ls) (inr d) g =
-    let w = rpp-line l (d .0) in
+    let w = rpp-behind l (d .0) in
     with-rpp (w .0) ls (ap (λ (k : List ℕ). k ∷ ls) (w .1)) (w .2) (details-lines BehindRpp s ls (d .1) (on ls g))
 
 -- ---- 72 of a 103: the rest of the details has no code
@@ -215,12 +207,12 @@ rest-by {p} {more} a {t} {ts} {ls} d g =
 
 pub lines-103 : (ls : List (List ℕ)) → RppAndRest ls → all goesOn (tail ls) ≡ true → Note103 ls
 lines-103 [] (inl d) g = absurd d
-lines-103 (l ∷ []) (inl d) g = let w = rpp-line l d in alone (w .0) (ap (λ (k : List ℕ). k ∷ []) (w .1)) (w .2) (rw (w .1) at d)
+lines-103 (l ∷ []) (inl d) g = let w = rpp-behind l d in alone (w .0) (ap (λ (k : List ℕ). k ∷ []) (w .1)) (w .2) (rw (w .1) at d)
 lines-103 (l ∷ k ∷ ls) (inl d) g = absurd d
 lines-103 ls (inr (inl (t, ts, d))) g = rest (rest-by as-72 d g)
 lines-103 [] (inr (inr d)) g = absurd d
 lines-103 (l ∷ ls) (inr (inr (i, (t, ts, d)))) g =
-    let w = rpp-line l i in
+    let w = rpp-behind l i in
     after (w .0) ls (ap (λ (k : List ℕ). k ∷ ls) (w .1)) (w .2) (rw (w .1) at i) (rest-by as-behind d (on ls g))
 
 -- ---- details broken into lines are right

@@ -38,7 +38,7 @@ use Rattle.trips.specs.Shown as shown
 use Rattle.trips.specs.Shown.{LineByLine}
 use Rattle.trips.proofs.Held.{Held, HeldField}
 use Rattle.trips.proofs.NameAgainLaws.{names-again}
-use Rattle.trips.proofs.DetailLaws.{rpp-line}
+use Rattle.contents.proofs.RppLaws.{rpp-behind}
 use Rattle.trips.proofs.DetailAgainLaws.{pass-70, pass-103, pass-202}
 use Rattle.trips.proofs.JoinedLaws.{each-join, each-run}
 
@@ -104,7 +104,7 @@ from-right form s t ps (in72 f e i) w = go form t f (same-is t tag72 e) w
 rpp-first : (behind : List (List ℕ) → List (List ℕ)) (l : List ℕ) (ls : List (List ℕ)) → IsRpp l → IsRpp (rppLine (firstLine (noteParts behind (l ∷ ls))))
 unfolding same
 rpp-first behind l ls d =
-    let w = rpp-line l d in
+    let w = rpp-behind l d in
     subst (λ (x : List ℕ). IsRpp (rppLine (firstLine (noteParts behind (x ∷ ls))))) (sym (w .1)) (subst IsRpp (w .1) d)
 
 nzp-first : (behind : List (List ℕ) → List (List ℕ)) {ls ks : List (List ℕ)} {k : List ℕ} → ls ≡ (bytes "/NZP/" ++ k) ∷ ks → empty (firstLine (noteParts behind ls)) ≡ true

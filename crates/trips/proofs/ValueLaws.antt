@@ -46,7 +46,7 @@ use Rattle.trips.specs.Again.{again, lineAgain}
 use Rattle.trips.specs.Shown.{LineByLine, plain, payer, payee, agent}
 use Rattle.trips.proofs.Held.{Held, HeldField, KeptPart}
 use Rattle.trips.proofs.NameLaws.{held-kept, held-lines}
-use Rattle.trips.proofs.DetailLaws.{rpp-line}
+use Rattle.contents.proofs.RppLaws.{rpp-behind}
 use Rattle.trips.proofs.JoinedLaws.{inRow, RowOf, row-again}
 
 -- ---- the tax line: wherever its place begins
@@ -156,7 +156,7 @@ dates-202 s ps = lines-dates (detailsLines s) (λ qs. laid-dates (length (code s
 rpp-dates : (behind : List (List ℕ) → List (List ℕ)) (l : List ℕ) (ls : List (List ℕ)) → IsRpp l → ofFirst noteDates (l ∷ ls) ≡ datesOf (firstLine (noteParts behind (l ∷ ls)))
 unfolding same
 rpp-dates behind l ls d =
-    let w = rpp-line l d in
+    let w = rpp-behind l d in
     ap noteDates (w .1) ∙ ap (λ (b : Bool). pick b [] (noteDates (rppLine (w .0)))) (sym (w .2)) ∙ sym (ap (λ (x : List ℕ). datesOf (firstLine (noteParts behind (x ∷ ls)))) (w .1))
 
 nzp-dates : (behind : List (List ℕ) → List (List ℕ)) {ls ks : List (List ℕ)} {k : List ℕ} → ls ≡ (bytes "/NZP/" ++ k) ∷ ks → ofFirst noteDates ls ≡ datesOf (firstLine (noteParts behind ls))

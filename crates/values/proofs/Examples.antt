@@ -21,6 +21,7 @@ worked =
     also refl also refl
     also refl
     also refl also refl also refl also refl also refl
+    also refl also refl also refl also refl also refl
     also refl also refl also refl also refl
     also refl also refl also refl also refl
     also refl also refl

@@ -158,12 +158,12 @@ module _ (content : Content) (ls : List Line) where
       pairs u h = every-first (λ k. u k ≡ false) parties (every-party (λ k. u k ≡ false) h) ls
 
 -- ---- 32A
-pub finding-paid : (l : Line) {d c : ℕ} → length (paidDate l) ≡ 6 → d ≡ pick (realDay (paidDate l)) 0 1 → c ≡ pick (same (paidCurrency l) (bytes "RUB")) 0 7
+pub finding-paid : (l : Line) {d c : ℕ} → length (paidDate l) ≡ 6 → d ≡ pick (realDay (paidDate l)) 0 1 → c ≡ pick (same (cut 6 3 l) (bytes "RUB")) 0 7
     → Finding holds.Payment (l ∷ []) (finds d c 0 false)
 unfolding valuesOf payment faultOf
 finding-paid l z a b = record {
   day-is = λ t. a ∙ swap (realDay (paidDate l)) 0 1;
-  currency-is = λ t. b ∙ swap (same (paidCurrency l) (bytes "RUB")) 0 7 ∙ ap (λ (n : ℕ). pick (not (same (paidCurrency l) (bytes "RUB"))) (suc n) 0) (sym z);
+  currency-is = λ t. b ∙ ap (λ (n : ℕ). pick (same (cut n 3 l) (bytes "RUB")) 0 7) (sym z) ∙ swap (same (paidCurrency l) (bytes "RUB")) 0 7 ∙ ap (λ (n : ℕ). pick (not (same (paidCurrency l) (bytes "RUB"))) (suc n) 0) (sym z);
   party-is = λ t. refl;
   kpp-is = λ t. refl;
 }
@@ -313,7 +313,7 @@ note-good : (content : Content) (ls : List Line) → ((t : Text) → valuesOf t 
 note-good content ls e note.Wrong d = tt
 note-good content ls e note.Plain d = finding-none content ls (λ t. e t ∙ d)
 note-good content [] e (note.Dated k v) d = absurd d
-note-good content (l ∷ ls) e (note.Dated k v) d = good-made content (l ∷ ls) _ (finding-rpp content (l ∷ ls) (λ t. e t ∙ note-values (d .0 .0)))
+note-good content (l ∷ ls) e (note.Dated k v) d = good-made content (l ∷ ls) _ (finding-rpp content (l ∷ ls) (λ t. e t ∙ note-values (d .0 .0 .1)))
 
 module _ (sign : Bool) (ls : List Line) (n : Note) where
   pub rpp-and-details : NoteSaid sign ls n → FoundIn holds.DocumentAndDetails sign ls (noteFound ls n)

@@ -21,6 +21,7 @@ use Rattle.contents.specs.Lines.{RppLine}
 use Rattle.contents.specs.Fields.{Then, Any}
 use Rattle.contents.specs.Answers.{cut, Stand, BikWith, RppWith, IsA}
 use Rattle.contents.proofs.FieldLaws.{within-0, taken-0, front-0}
+use Rattle.contents.proofs.Laws.{mark-some}
 use Rattle.contents.proofs.LineTests.{way-size}
 use Rattle.values.specs.Day.{realDay}
 use Rattle.values.specs.Values as kinds
@@ -119,14 +120,10 @@ two-dates p q d (x ∷ v) = sym (swap (realDay d) (pick (realDay (x ∷ v)) 0 (s
 
 -- a content that begins with such an RPP line: its dates are there, and what 9 says of them
 pub record RppRead (c : Text) (n value : ℕ) (ls : List Line) : Type 0 where
-  pub few : n ≤ 3
+  pub few : n ≤ 6
   pub room : 7 + (n + 5) ≤ length c
   pub due-room : Not (value ≡ 0) → 21 + (n + 5) ≤ length c
   pub faults : rppFault ls ≡ pick (realDay (cut (1 + (n + 5)) 6 c)) (pick (eqb value 0) 0 (pick (realDay (cut (15 + (n + 5)) 6 c)) 0 (16 + (n + 5)))) (2 + (n + 5))
-
-mark-size : (s : Text) → Not (length s ≡ 0) → length (withMark "." s) ≡ suc (length s)
-mark-size [] z = absurd (z refl)
-mark-size (x ∷ s) z = refl
 
 read-by : (c : Text) (n value : ℕ) (ls : List Line) → linesIn c ≡ ls → Then (RppWith n value) Any ls → RppRead c n value ls
 read-by c n value [] q w = absurd w
@@ -134,11 +131,14 @@ read-by c n value (l ∷ ls) q w = record {
   few = omega (arith, p .serial .most, w .0 .1);
   room = omega (arith, size, first-long c l ls q);
   due-room = λ z. omega (arith, due z, first-long c l ls q);
-  faults = ap (faultOf noDay) (rpp-values p) ∙ two-dates mark (length l - length v) (cut (1 + (n + 5)) 6 l) v ∙ places;
+  faults = ap (faultOf noDay) (rpp-values p) ∙ two-dates mark (1 + behind) (cut (1 + (n + 5)) 6 l) v ∙ places;
 }
   where
-    p : RppLine (cut 5 n l) (cut (1 + (n + 5)) 6 l) (cut (8 + (n + 5)) 1 l) (cut (10 + (n + 5)) 4 l) (cut (15 + (n + 5)) value l) l
-    p = w .0 .0
+    sort : Text
+    sort = w .0 .0 .0
+
+    p : RppLine (cut 5 n l) (cut (1 + (n + 5)) 6 l) (cut (8 + (n + 5)) 1 l) (cut (10 + (n + 5)) 4 l) (cut (15 + (n + 5)) value l) sort l
+    p = w .0 .0 .1
 
     v : Text
     v = cut (15 + (n + 5)) value l
@@ -146,7 +146,10 @@ read-by c n value (l ∷ ls) q w = record {
     mark : ℕ
     mark = length (join (bytes "/RPP/" ∷ cut 5 n l ∷ bytes "." ∷ []))
 
-    size : length l ≡ 14 + (n + 5) + length (withMark "." v)
+    behind : ℕ
+    behind = length (join (bytes "/RPP/" ∷ cut 5 n l ∷ bytes "." ∷ cut (1 + (n + 5)) 6 l ∷ bytes "." ∷ cut (8 + (n + 5)) 1 l ∷ bytes "." ∷ cut (10 + (n + 5)) 4 l ∷ []))
+
+    size : length l ≡ 14 + (n + 5) + (length (withMark "." v) + length (withMark "." sort))
     size =
         let z = simp length-append at (ap length (p .line)) in
         omega (arith, w .0 .1, p .day .size, p .order .size, way-size (cut (10 + (n + 5)) 4 l) (p .kind))
@@ -154,28 +157,30 @@ read-by c n value (l ∷ ls) q w = record {
     six : Not (value ≡ 0) → length v ≡ 6
     six z = perhaps-size 6 v (p .due) (λ e. z (sym (w .0 .2) ∙ e))
 
-    due : Not (value ≡ 0) → length l ≡ 21 + (n + 5)
-    due z = omega (arith, size, six z, mark-size v (λ e. z (sym (w .0 .2) ∙ e)))
+    due : Not (value ≡ 0) → 21 + (n + 5) ≤ length l
+    due z = omega (arith, size, six z, ap length (mark-some "." v (omega (arith, six z))))
 
     mark-at : suc mark ≡ 2 + (n + 5)
     mark-at = simp length-append (omega (arith, w .0 .1))
 
+    behind-at : suc (1 + behind) ≡ 16 + (n + 5)
+    behind-at = simp length-append (omega (arith, w .0 .1, p .day .size, p .order .size, way-size (cut (10 + (n + 5)) 4 l) (p .kind)))
+
     first : cut (1 + (n + 5)) 6 l ≡ cut (1 + (n + 5)) 6 c
     first = first-cut c l ls q (1 + (n + 5)) 6 (omega (arith, size))
 
-    second : (b : Bool) → eqb value 0 ≡ b → pick (empty v) 0 (pick (realDay v) 0 (suc (length l - length v))) ≡ pick b 0 (pick (realDay (cut (15 + (n + 5)) 6 c)) 0 (16 + (n + 5)))
+    second : (b : Bool) → eqb value 0 ≡ b → pick (empty v) 0 (pick (realDay v) 0 (suc (1 + behind))) ≡ pick b 0 (pick (realDay (cut (15 + (n + 5)) 6 c)) 0 (16 + (n + 5)))
     second true e = rw (is-empty v (w .0 .2 ∙ eqb-true value 0 e))
     second false e =
         let z = eqb-false value 0 e in
         let k : value ≡ 6 = sym (w .0 .2) ∙ six z in
-        let m : suc (length l - length v) ≡ 16 + (n + 5) = omega (arith, due z, six z) in
         let x : v ≡ cut (15 + (n + 5)) 6 c = ap (λ (i : ℕ). cut (15 + (n + 5)) i l) k ∙ first-cut c l ls q (15 + (n + 5)) 6 (omega (arith, due z)) in
-        ap (λ (b : Bool). pick b 0 (pick (realDay v) 0 (suc (length l - length v)))) (is-filled v (λ y. z (sym (w .0 .2) ∙ y)))
-        ∙ ap₂ (λ (d : Text) (i : ℕ). pick (realDay d) 0 i) x m
+        ap (λ (b : Bool). pick b 0 (pick (realDay v) 0 (suc (1 + behind)))) (is-filled v (λ y. z (sym (w .0 .2) ∙ y)))
+        ∙ ap₂ (λ (d : Text) (i : ℕ). pick (realDay d) 0 i) x behind-at
 
-    places : pick (realDay (cut (1 + (n + 5)) 6 l)) (pick (empty v) 0 (pick (realDay v) 0 (suc (length l - length v)))) (suc mark)
+    places : pick (realDay (cut (1 + (n + 5)) 6 l)) (pick (empty v) 0 (pick (realDay v) 0 (suc (1 + behind)))) (suc mark)
         ≡ pick (realDay (cut (1 + (n + 5)) 6 c)) (pick (eqb value 0) 0 (pick (realDay (cut (15 + (n + 5)) 6 c)) 0 (16 + (n + 5)))) (2 + (n + 5))
-    places = ap₂ (λ (d : Text) (m : ℕ). pick (realDay d) (pick (empty v) 0 (pick (realDay v) 0 (suc (length l - length v)))) m) first mark-at
+    places = ap₂ (λ (d : Text) (m : ℕ). pick (realDay d) (pick (empty v) 0 (pick (realDay v) 0 (suc (1 + behind)))) m) first mark-at
         ∙ ap (λ (k : ℕ). pick (realDay (cut (1 + (n + 5)) 6 c)) k (2 + (n + 5))) (second (eqb value 0) refl)
 
 module _ (c : Text) (n value : ℕ) (w : Then (RppWith n value) Any (linesIn c)) where

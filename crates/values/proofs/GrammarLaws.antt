@@ -1,6 +1,6 @@
 -- The values of a right line are its named parts, and they stand where these parts stand (C32A, Camount, Cdate, Crpp, Cparty, Ctax, N9, N10, N12,
 -- N13). Assumes nothing.
-use Prim.Native.Nat.{ℕ, _-_, _≤_}
+use Prim.Native.Nat.{ℕ, _+_, _≤_}
 use mathlib.Core.Path.{_≡_, refl, ap, _∙_}
 use mathlib.Core.Bool.{Bool, true, false}
 use mathlib.Core.List.{List, [], _∷_, _++_}
@@ -56,13 +56,15 @@ module _ (l : Line) (h : (d c w m : Text) → Not (Payment d c w m l)) where
   unfolding dateOf
   unpaid-date = rw unpaid-is
 
--- ---- Crpp, N9: a date behind the first point, and perhaps one at the end
-module _ {n d t w v l : Text} (p : RppLine n d t w v l) where
-  pub rpp-values : rppDates l ≡ at (length (join (bytes "/RPP/" ∷ n ∷ bytes "." ∷ []))) (date d) ∷ dateIfAny (length l - length v) v
+-- ---- Crpp, N9: a date behind the first point, and perhaps one behind the way's
+module _ {n d t w v s l : Text} (p : RppLine n d t w v s l) where
+  pub rpp-values : rppDates l
+      ≡ at (length (join (bytes "/RPP/" ∷ n ∷ bytes "." ∷ []))) (date d)
+      ∷ dateIfAny (1 + length (join (bytes "/RPP/" ∷ n ∷ bytes "." ∷ d ∷ bytes "." ∷ t ∷ bytes "." ∷ w ∷ []))) v
   unfolding rppDates
   rpp-values =
-      ap (λ (ts : List Text). at (before 3 ts) (date (piece 3 ts)) ∷ dateIfAny (length l - length (unmarked "." (piece 8 ts))) (unmarked "." (piece 8 ts))) (rpp-parts p)
-      ∙ ap (λ (s : Text). at (length (join (bytes "/RPP/" ∷ n ∷ bytes "." ∷ []))) (date d) ∷ dateIfAny (length l - length s) s) (unmarked-mark "." v)
+      ap (λ (ts : List Text). at (before 3 ts) (date (piece 3 ts)) ∷ dateIfAny (1 + before 8 ts) (unmarked "." (piece 8 ts))) (rpp-parts p)
+      ∙ ap (λ (x : Text). at (length (join (bytes "/RPP/" ∷ n ∷ bytes "." ∷ []))) (date d) ∷ dateIfAny (1 + length (join (bytes "/RPP/" ∷ n ∷ bytes "." ∷ d ∷ bytes "." ∷ t ∷ bytes "." ∷ w ∷ []))) x) (unmarked-mark "." v)
 
   -- in front of details too
   pub note-values : noteDates l ≡ rppDates l

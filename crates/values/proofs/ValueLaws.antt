@@ -1,11 +1,11 @@
 -- The values of a message come in the order of their places; and what kinds a content has. Assumes nothing.
-use Prim.Native.Nat.{ℕ, _+_, _-_, _≤_}
+use Prim.Native.Nat.{ℕ, _+_, _≤_, _<_}
 use mathlib.Core.Path.{_≡_, refl, sym, ap, subst}
 use mathlib.Core.Bool.{Bool, true, false}
 use mathlib.Core.List.{List, [], _∷_, map}
 use native.Mathlib.Omega.{arith}
 use native.Mathlib.Nat.{le-refl}
-use lib.ListN.{length, drop, length-append, length-drop, length-take}
+use lib.ListN.{length, length-append, length-drop, length-take}
 use Rattle.base.specs.Choice.{pick}
 use Rattle.base.specs.Bytes.{begins}
 use Rattle.base.specs.Examples.{AllHold}
@@ -18,9 +18,9 @@ use Rattle.types.specs.Sentences.{endOfFields}
 use Rattle.contents.specs.declared.Content.{Content}
 use Rattle.contents.specs.declared.Content.the-variants as holds
 use Rattle.contents.specs.Words.{Text, Line, join}
-use Rattle.contents.specs.Tests.{sized, digits, piece, rppParts, isPartyByBik, looksTax}
+use Rattle.contents.specs.Tests.{piece, rppPieces, rppParts, isPartyByBik, looksTax}
 use Rattle.contents.specs.Tags.{heldBy}
-use Rattle.contents.specs.Parts.{paidDate, paidCurrency, currencyAt, partyBik, partyAccount, taxInn, taxKpp, opensRpp, rppDate, rppDateAt, rppValue, rppValueAt}
+use Rattle.contents.specs.Parts.{unmarked, paidDate, paidCurrency, currencyAt, partyBik, partyAccount, taxInn, taxKpp, opensRpp, rppDate, rppValue, rppValueAt}
 use Rattle.contents.proofs.CutLaws.{cut-whole}
 use Rattle.values.specs.Values.{ValueKind, tag, date, currency, party, tax, Value, at, placeOf, kindOf, moved, payment, dateIfAny, rppDates, bothParts, parties, ofFirst, taxes, customerTaxes, payerTaxes, noteDates, valuesOf, valuesIn}
 use Rattle.values.proofs.JudgedLaws.{Ordered, none, next, ordered-low, ordered-high, ordered-append}
@@ -73,23 +73,22 @@ payment-order l =
     let k : currencyAt l ≤ length l = omega (arith, length-take 6 l) in
     next z (next h (none k))
 
--- the last part, without its mark, begins behind the first parts
-last-place : (ts : List Text) (l : Line) → join (piece 0 ts ∷ piece 1 ts ∷ piece 2 ts ∷ piece 3 ts ∷ piece 4 ts ∷ piece 5 ts ∷ piece 6 ts ∷ piece 7 ts ∷ piece 8 ts ∷ []) ≡ l
-    → length (join (piece 0 ts ∷ piece 1 ts ∷ piece 2 ts ∷ [])) ≤ length l - length (drop 1 (piece 8 ts))
-last-place ts l q =
-    let z = simp length-append at (ap length q) in
-    let y = length-drop 1 (piece 8 ts) in
-    simp length-append (omega arith)
+-- a date and perhaps one more behind it
+dates-order : (p q e : ℕ) (d s : Text) → p ≤ q → p ≤ e → (0 < length s → q ≤ e) → Ordered 0 (at p (date d) ∷ dateIfAny q s) e
+dates-order p q e d [] h k m = let z : 0 ≤ p = omega arith in next z (none k)
+dates-order p q e d (x ∷ s) h k m = let z : 0 ≤ p = omega arith in next z (next h (none (m (omega arith))))
 
 rpp-order : (l : Line) → Ordered 0 (rppDates l) (length l)
 unfolding rppDates
-rpp-order l =
-    let z : 0 ≤ rppDateAt l = omega arith in
-    next z (perhaps (rppValue l) (last-place (rppParts l) l (cut-whole (sized 5 ∷ digits ∷ sized 1 ∷ sized 6 ∷ sized 1 ∷ sized 1 ∷ sized 1 ∷ sized 4 ∷ []) l)))
+rpp-order l = go (rppParts l) (cut-whole rppPieces l)
   where
-    perhaps : (s : Text) → rppDateAt l ≤ length l - length s → Ordered (rppDateAt l) (dateIfAny (length l - length s) s) (length l)
-    perhaps [] h = let k : rppDateAt l ≤ length l = omega arith in none k
-    perhaps (x ∷ s) h = let k : length l - length (x ∷ s) ≤ length l = omega arith in next h (none k)
+    go : (ts : List Text) → join (piece 0 ts ∷ piece 1 ts ∷ piece 2 ts ∷ piece 3 ts ∷ piece 4 ts ∷ piece 5 ts ∷ piece 6 ts ∷ piece 7 ts ∷ piece 8 ts ∷ piece 9 ts ∷ []) ≡ l
+        → Ordered 0 (at (length (join (piece 0 ts ∷ piece 1 ts ∷ piece 2 ts ∷ []))) (date (piece 3 ts))
+        ∷ dateIfAny (1 + length (join (piece 0 ts ∷ piece 1 ts ∷ piece 2 ts ∷ piece 3 ts ∷ piece 4 ts ∷ piece 5 ts ∷ piece 6 ts ∷ piece 7 ts ∷ []))) (unmarked "." (piece 8 ts))) (length l)
+    go ts q =
+        let z = simp length-append at (ap length q) in
+        let y = length-drop 1 (piece 8 ts) in
+        dates-order _ _ (length l) (piece 3 ts) (unmarked "." (piece 8 ts)) (simp length-append (omega arith)) (simp length-append (omega arith)) (λ s. simp length-append (omega arith))
 
 parties-order : (l : Line) → Ordered 0 (parties l) (length l)
 unfolding parties

@@ -102,6 +102,12 @@ cases =
     ∷ refused 103 (one "72" "/RPP/7.240230.5.ELEK") 9 16
     ∷ refused 103 (one "72" "/RPP/123.240229.5.ELEK.240431") 9 32
     ∷ refused 103 (one "72" "/RPP/123.240001.5.ELEK.240431") 9 18
+    -- the two digits that may stand at its end are no date
+    ∷ passes 103 (one "72" "/RPP/7.240229.5.ELEK.31")
+    ∷ passes 103 (one "72" "/RPP/999999.240229.5.ELEK.240301.99")
+    ∷ refused 103 (one "72" "/RPP/7.240230.5.ELEK.01") 9 16
+    ∷ refused 103 (one "72" "/RPP/123.240229.5.ELEK.240431.01") 9 32
+    ∷ refused 103 (one "72" "/RPP/999999.240229.5.ELEK.240431.01") 9 35
     -- and so where the rest of the details follows, in which nothing is asked for
     ∷ passes 103 (of "72" ("/RPP/7.240229.5.ELEK" ∷ "/NZP/OPLATA" ∷ "//DOGOVOR" ∷ []) ∷ [])
     ∷ passes 103 (of "72" ("/NZP//RPP/7.240230.5.ELEK" ∷ "//RPP/7.240230.5.ELEK" ∷ []) ∷ [])

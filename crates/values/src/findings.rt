@@ -165,7 +165,7 @@ fn bank_found(c: &[u8], b: Bank) -> Found
     }
 }
 
-// The RPP line that a content begins with: the sizes of its number and of its last date.
+// The RPP line that a content begins with: the sizes of its number and of its value date.
 fn rpp_fault(c: &[u8], number: usize, value: usize) -> usize
     requires { ⌜ Then (RppWith number value) Any (linesIn (now c)) ⌝ }
     ensures { λ r. ⌜ r ≡ faultOf noDay (ofFirst rppDates (linesIn (now (c .entry)))) ⌝ }

@@ -143,10 +143,18 @@ fn payment_days(records: &mut Vec<Record>) {
         "810229.5.POST.791231",
         "000101.5.POST.000000",
         "999999.5.POST.999999",
+        "240229.5.POST.31",
+        "240229.5.POST.99",
+        "240230.5.POST.01",
+        "240229.5.POST.240301.99",
+        "240229.5.POST.240230.01",
+        "240230.5.POST.240301.01",
+        "240230.5.POST.240431.01",
+        "240230.5.POST.01.240229",
     ] {
         let message = with(103, false, "72", &format!("/RPP/1.{days}"));
         records.push(record(103, message.bytes()));
-        let content = format!("/RPP/123.{days}|/NZP/'(VO10100)'A");
+        let content = format!("/RPP/123456.{days}|/NZP/'(VO10100)'A");
         let message = with(202, true, "72", &content);
         records.push(record(202, message.bytes()));
     }

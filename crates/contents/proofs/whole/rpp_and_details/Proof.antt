@@ -42,7 +42,7 @@ returns-3 c = let g = on-0 (c .before .before .before .before .before .before .b
 
 returns-4 : tie.Need-returns-4
 returns-4 c = let f = front-0 (c .before .before .before .before .before .before .before .before .args .c .now) (c .before .before .before .before .before .before .mark-at .result) (c .before .before .before .before .before .before .mark-at .ensures) in
-    rw (f .1) (⊎-elim (rw (f .1) at (c .before .details-72 .ensures .not-so (c .if1 .left))) (λ x. (rw (c .before .before .enum-told .given .1) at (c .before .before .before .before .rpp-line .ensures)) (x .0 .0) (x .0 .1) (x .0 .2) (x .0 .3) (x .0 .4) (x .0 .5)))
+    rw (f .1) (⊎-elim (rw (f .1) at (c .before .details-72 .ensures .not-so (c .if1 .left))) (λ x. (rw (c .before .before .enum-told .given .1) at (c .before .before .before .before .rpp-line .ensures)) (x .0)))
 
 returns-5 : tie.Need-returns-5
 returns-5 c = let g = on-0 (c .before .before .before .before .before .before .before .before .before .before .before .args .c .now) (c .before .before .before .before .before .before .before .before .before .mark-at .result) (c .before .before .before .before .before .before .before .before .before .mark-at .ensures) (c .before .before .next-line .result) (c .before .before .before .if2 .left) (c .before .before .next-line .ensures) in

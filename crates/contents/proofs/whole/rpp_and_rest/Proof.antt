@@ -42,7 +42,7 @@ returns-3 c = let a = c .before .before .before .before .before .before .before 
 
 returns-4 : tie.Need-returns-4
 returns-4 c = let f = front-0 (c .before .before .before .before .before .before .before .before .args .c .now) (c .before .before .before .before .before .before .mark-at .result) (c .before .before .before .before .before .before .mark-at .ensures) in let w = rw (c .before .before .enum-told .given .1) at (c .before .before .before .before .rpp-line .ensures) in
-    rw (f .1) (no-rpp-no-rest _ (f .0) (λ x. w (x .0) (x .1) (x .2) (x .3) (x .4) (x .5)) (rw (f .1) at (c .before .rest-72 .ensures .not-so (c .if1 .left))))
+    rw (f .1) (no-rpp-no-rest _ (f .0) w (rw (f .1) at (c .before .rest-72 .ensures .not-so (c .if1 .left))))
 
 returns-5 : tie.Need-returns-5
 returns-5 c = let a = c .before .before .before .before .before .before .before .before .before .before .before .args in let g = on-0 (a .c .now) (c .before .before .before .before .before .before .before .before .before .mark-at .result) (c .before .before .before .before .before .before .before .before .before .mark-at .ensures) (c .before .before .next-line .result) (c .before .before .before .if2 .left) (c .before .before .next-line .ensures) in
