@@ -1,6 +1,7 @@
 //! Both builds on the same generated inputs: answers and lent units must agree.
 
 pub mod checks;
+pub mod rpp;
 pub mod runon;
 pub mod texts;
 pub mod tomessage;
@@ -19,6 +20,7 @@ pub fn named(name: &str) -> Option<fn(usize, u64)> {
         "tosheet" => Some(tosheet::run),
         "tomessage" => Some(tomessage::run),
         "runon" => Some(runon::run),
+        "rpp" => Some(rpp::run),
         _ => None,
     }
 }

@@ -16,6 +16,7 @@ mod long;
 mod messages;
 mod plain;
 mod random;
+mod rpp;
 mod sheets;
 mod signs;
 #[cfg(feature = "archive")]
@@ -25,7 +26,7 @@ mod streams;
 use std::env;
 use std::process::exit;
 
-const USAGE: &str = "bench differ texts|checks|tosheet|tomessage|runon [N] [SEED]
+const USAGE: &str = "bench differ texts|checks|tosheet|tomessage|runon|rpp [N] [SEED]
 bench speed texts|checks|tosheet|tomessage
 bench list > LIST
 bench expect tests < LIST > OUTPUT

@@ -284,15 +284,13 @@ pub fn rpp_dates(line: &[u8]) -> Option<(usize, Option<usize>)> {
         return None;
     }
     let body = RPP.len() + number;
-    match endings(&rest[14..])? {
-        false => Some((body + 1, None)),
-        true => Some((body + 1, Some(body + 15))),
-    }
+    let value_date = ends_dated(&rest[14..])?.then_some(body + 15);
+    Some((body + 1, value_date))
 }
 
 /// Whether a value date stands at the end of an RPP line, before the two digits
 /// or without them; none if it ends in anything else.
-fn endings(behind_way: &[u8]) -> Option<bool> {
+fn ends_dated(behind_way: &[u8]) -> Option<bool> {
     let behind_point = |part: &[u8]| part[0] == b'.' && digits(&part[1..]);
     match behind_way.len() {
         0 => Some(false),
