@@ -87,8 +87,8 @@ pub record BeginsTax (d : ℕ) (s : Text) (l : Line) : Type 0 where
 abbrev pub Name : Line → Type 0
 Name l = Size 1 35 l
 
--- Crpp: /RPP/, 1 to 6 digits, ., a date of six digits, ., a digit, ., POST, TELG, ELEK or BESP, perhaps . and a date of six digits, perhaps . and
--- two digits
+-- Crpp: /RPP/, 1 to 6 digits, ., a date of six digits, ., a digit, ., POST, TELG, ELEK or BESP, perhaps . and a date of six digits, then perhaps
+-- . and two digits: either, both or none
 abbrev pub Way : Text → Type 0
 Way w = (w ≡ bytes "POST") or (w ≡ bytes "TELG") or (w ≡ bytes "ELEK") or (w ≡ bytes "BESP")
 

@@ -24,6 +24,7 @@ unfoldable pub leadDigits : Text → Text
 leadDigits [] = []
 leadDigits (x ∷ s) = pick (digit x) (x ∷ leadDigits s) []
 
+-- the piece that a text begins with
 abbrev pub frontOf : Piece → Text → Text
 frontOf (sized n) s = take n s
 frontOf digits s = leadDigits s
