@@ -1,5 +1,6 @@
 //! Both builds on the same generated inputs: answers and lent units must agree.
 
+pub mod breaks;
 pub mod checks;
 pub mod rpp;
 pub mod runon;
@@ -21,6 +22,7 @@ pub fn named(name: &str) -> Option<fn(usize, u64)> {
         "tomessage" => Some(tomessage::run),
         "runon" => Some(runon::run),
         "rpp" => Some(rpp::run),
+        "breaks" => Some(breaks::run),
         _ => None,
     }
 }

@@ -177,6 +177,23 @@ pub fn some_long(random: &mut Random) -> Long {
 
 const RPP: &str = "417.240229.5.ELEK";
 
+/// Details of a 202, with an RPP part or an empty one.
+pub fn sheet_202(sign: bool, rpp: bool, text: &[u8]) -> Vec<u8> {
+    let reference = if sign { "+B2" } else { "B2" };
+    let rpp = if rpp { RPP } else { "" };
+    let mut sheet = format!("MT\t202\n20\t{reference}\n21\tNONREF\n32A\t240229RUB1500,5\n");
+    sheet += "53B\t/D/30111810500000100000\n58A\t/30101810400000000225\tSABRRUMM\n";
+    [
+        sheet.as_bytes(),
+        b"72\t",
+        rpp.as_bytes(),
+        b"\t10100\t",
+        text,
+        b"\n",
+    ]
+    .concat()
+}
+
 impl Long {
     pub fn sheet(&self) -> Vec<u8> {
         let Long { text, .. } = self;

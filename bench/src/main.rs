@@ -26,7 +26,7 @@ mod streams;
 use std::env;
 use std::process::exit;
 
-const USAGE: &str = "bench differ texts|checks|tosheet|tomessage|runon|rpp [N] [SEED]
+const USAGE: &str = "bench differ texts|checks|tosheet|tomessage|runon|rpp|breaks [N] [SEED]
 bench speed texts|checks|tosheet|tomessage
 bench list > LIST
 bench expect tests < LIST > OUTPUT
