@@ -146,10 +146,11 @@ module _ (ok : ℕ → Bool) (text : List ℕ) where
 
 -- where any byte may open a line, a text that is no longer breaks at the same places, as far as it goes
 module _ (ok : ℕ → Bool) (text less : List ℕ) (any : (x : ℕ) → ok x ≡ true) (k : length less ≤ length text) where
-  pub shortened : {low high : ℕ} {ws es : List ℕ} → Lawful ok text low high ws es → low < length less → (ds : List ℕ) × Lawful ok less low high ws ds
-  shortened {high = high} (end p q) h = ([], end {high = high} h (omega arith))
-  shortened {low} {high} (next {e = e} {w = w} {ws = ws} p q r o d) h = go (decLt e (length less)) (shortened d)
+  pub shortened : {low high : ℕ} {ws es : List ℕ} → Lawful ok text low high ws es → low < length less → (ds : List ℕ) × Lawful ok less low high ws ds × (length ds ≤ length es)
+  shortened {high = high} (end p q) h = ([], end {high = high} h (omega arith), omega arith)
+  shortened {low} {high} (next {e = e} {w = w} {ws = ws} {es = es} p q r o d) h = go (decLt e (length less)) (shortened d)
     where
-      go : Dec (e < length less) → (e < length less → (ds : List ℕ) × Lawful ok less e (e + w) ws ds) → (ds : List ℕ) × Lawful ok less low high (w ∷ ws) ds
-      go (yes l) ih = let i = ih l in (e ∷ i .0, next p q l (any _) (i .1))
-      go (no l) ih = ([], end {high = high} h (omega arith))
+      go : Dec (e < length less) → (e < length less → (ds : List ℕ) × Lawful ok less e (e + w) ws ds × (length ds ≤ length es))
+          → (ds : List ℕ) × Lawful ok less low high (w ∷ ws) ds × (length ds ≤ length (e ∷ es))
+      go (yes l) ih = let i = ih l in (e ∷ i .0, next p q l (any _) (i .1), omega (arith, i .2))
+      go (no l) ih = ([], end {high = high} h (omega arith), omega arith)

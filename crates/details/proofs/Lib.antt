@@ -4,8 +4,8 @@ pub mod StepLaws
 pub mod LayLaws
 pub mod LayoutLaws
 pub mod RoomLaws
+pub mod SaveLaws
 pub mod DivisionTheorems
 pub mod LaidLaws
-pub mod OnceLaws
 pub mod TrimLaws
 pub mod Examples

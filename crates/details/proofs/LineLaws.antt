@@ -1,6 +1,6 @@
 -- Lines and breaks are two ways to say one thing. Assumes nothing.
 use Prim.Native.Nat.{ℕ, suc, _+_, _-_, _≤_, _<_}
-use mathlib.Core.Path.{_≡_, sym, ap, _∙_}
+use mathlib.Core.Path.{_≡_, refl, sym, ap, _∙_}
 use mathlib.Core.Bool.{Bool, true}
 use mathlib.Core.List.{List, [], _∷_, _++_, append-assoc, append-nil}
 use native.Mathlib.Omega.{arith}
@@ -15,6 +15,17 @@ use Rattle.details.proofs.BreakLaws.{part-cons, length-part, part-drop,
 abbrev pub starts : ℕ → List (List ℕ) → List ℕ
 starts e [] = []
 starts e (l ∷ ls) = e ∷ starts (e + length l) ls
+
+pub starts-count : (e : ℕ) (ls : List (List ℕ)) → length (starts e ls) ≡ length ls
+starts-count e [] = refl
+starts-count e (l ∷ ls) = ap suc (starts-count (e + length l) ls)
+
+pub pieces-count : (text : List ℕ) (from : ℕ) (es : List ℕ) → length (linePieces text from es) ≡ suc (length es)
+pieces-count text from [] = refl
+pieces-count text from (e ∷ es) = ap suc (pieces-count text e es)
+
+pub rows-join : {ok : ℕ → Bool} {least : ℕ} {text ws : List ℕ} {rows : List (List ℕ)} → Division ok least text ws rows → together rows ≡ text
+rows-join (lines a b c m j) = j
 
 module _ (ok : ℕ → Bool) (text : List ℕ) where
   -- ---- from lines to breaks

@@ -1,4 +1,4 @@
--- The fields of details as data, and their lines as they stand in a field (B1, B3, C70, C72). Assumes nothing.
+-- The fields of details as data, and their lines as they stand in a field (B1, B3, B10, C70, C72). Assumes nothing.
 use Prim.Native.Nat.{ℕ, zero, suc, _+_}
 use mathlib.Core.Path.{_≡_}
 use mathlib.Core.Bool.{Bool, true, false}
@@ -8,7 +8,7 @@ use lib.ListN.{length, drop, replicate}
 use Rattle.base.specs.Choice.{pick}
 use Rattle.base.specs.Quoted.{bytes, ascii}
 use Rattle.base.specs.Calls.{placed}
-use Rattle.details.specs.Lines.{Division}
+use Rattle.details.specs.Lines.{Division, NoBreakSaves, NoTextSaves}
 use Rattle.details.specs.Breaking.{Fit, fits, unfit, opens, broken}
 use Rattle.details.specs.declared.DetailsField.{DetailsField}
 use Rattle.details.specs.declared.DetailsField.the-variants.{In70, In72, BehindRpp}
@@ -34,6 +34,12 @@ divided v least text = broken (opens (v .barred)) least (v .widths) text
 
 abbrev pub DivisionIn : Layout → ℕ → List ℕ → List (List ℕ) → Type 0
 DivisionIn v least text ls = Division (opens (v .barred)) least text (v .widths) ls
+
+-- why lines break where they do: no other break of the text saves a line; and where no byte is barred, as in 72, no other text does that is as long,
+-- so no other spelling
+pub record WhyThere (v : Layout) (least : ℕ) (text : List ℕ) (ls : List (List ℕ)) : Type 0 where
+  pub no-break : NoBreakSaves (opens (v .barred)) least text (v .widths) ls
+  pub no-text : v .barred ≡ [] → NoTextSaves (opens (v .barred)) least text (v .widths) ls
 
 -- the lines with their marks
 abbrev pub marked : Layout → List (List ℕ) → List (List ℕ)

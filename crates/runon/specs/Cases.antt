@@ -1,4 +1,4 @@
--- Worked examples of details that run on, as one list (B1-B3, C72, S2, N15, N16). That they hold is proved in proofs/Examples.antt. Assumes nothing.
+-- Worked examples of details that run on, and of a text that another spelling brings into fewer lines, as one list (B1-B3, B10, C72, S2, N15, N16). That they hold is proved in proofs/Examples.antt. Assumes nothing.
 use Prim.Native.Nat.{ℕ, zero, suc, _-_}
 use Prim.Native.String.{String}
 use mathlib.Core.Path.{_≡_}
@@ -6,15 +6,19 @@ use mathlib.Core.Bool.{Bool, true, false, not}
 use mathlib.Core.List.{List, [], _∷_, _++_}
 use Rattle.base.specs.Choice.{all}
 use Rattle.base.specs.Bytes.{values}
+use lib.ListN.{length}
+use Rattle.base.specs.Calls.{said}
 use Rattle.base.specs.Quoted.{bytes, desk}
+use Rattle.alphabets.specs.Bank.{reading}
 use Rattle.fields.specs.Field.{field}
 use Rattle.types.specs.declared.Form.{Form}
 use Rattle.types.specs.declared.Form.the-variants.{Other, Mt103, Mt202}
 use Rattle.records.specs.Record.{Record}
 use Rattle.details.specs.declared.DetailsField.{DetailsField}
-use Rattle.details.specs.declared.DetailsField.the-variants.{In72, BehindRpp}
+use Rattle.details.specs.declared.DetailsField.the-variants.{In70, In72, BehindRpp}
 use Rattle.details.specs.Front.{code}
-use Rattle.runon.specs.Run.{cutAt, runFor}
+use Rattle.details.specs.Layouts.{linesFor}
+use Rattle.runon.specs.Run.{bankOf, cutAt, runFor}
 use Rattle.runon.specs.RunOn.{tag70, tag72, tag77B, runOn, join}
 use Rattle.runon.specs.declared.Run.{Run}
 use Rattle.runon.specs.declared.Run.the-variants.{Stuck, Whole, Cut, Unfit}
@@ -30,6 +34,9 @@ pub data Case : Type 0 where
   runs : List Record → List Record → Case
   -- or they stay
   stays : Form → List Record → Case
+  -- a text with the sign, and another spelling of it than the one that is written, equally short: in 70 they come to so many lines, none where they don't
+  -- fit, the first as it is written and then as it is spelt otherwise
+  respelt : List ℕ → List ℕ → ℕ → ℕ → Case
 
 abbrev pub vo : List ℕ
 vo = bytes "12345"
@@ -38,12 +45,18 @@ vo = bytes "12345"
 abbrev pub upTo : ℕ → ℕ → List ℕ
 upTo a b = values (λ x. x) a (suc b - a)
 
+-- how many lines a bank text comes to in 70, with the sign
+abbrev pub linesOf70 : List ℕ → ℕ
+linesOf70 bank = length (linesFor In70 (length (code true vo)) (code true vo ++ bank))
+
 abbrev pub Holds : Case → Type 0
 Holds (gives s note text r) = runFor s (code s vo) note text ≡ r
 Holds (lawful s text a b) = all (cutAt s (code s vo) In72 text) (upTo a b) ≡ true
 Holds (unlawful s text a b) = all (λ k. not (cutAt s (code s vo) In72 text k)) (upTo a b) ≡ true
 Holds (runs rs ks) = (runOn Mt103 false rs ≡ ks) × (join Mt103 ks ≡ rs)
 Holds (stays form rs) = runOn form false rs ≡ rs
+Holds (respelt text other n m) =
+    (reading true other ≡ said text) × (length other ≡ length (bankOf true text)) × (linesOf70 (bankOf true text) ≡ n) × (linesOf70 other ≡ m)
 
 -- a text so many times
 abbrev pub times : ℕ → String → List ℕ
@@ -114,4 +127,7 @@ cases =
     ∷ stays Mt103 (fee ∷ rpp72 ∷ [])
     ∷ stays Mt202 (in70 (times 132 "A") ∷ [])
     ∷ stays Other (in70 (times 132 "A") ∷ [])
+    -- the `-` behind AB would open the second line; between the apostrophes it ends the first: a line less, and 70 holds what it can't hold else
+    ∷ respelt (times 20 "Ж" ++ (desk "AB-" ++ times 34 "Ж")) (times 20 "J" ++ (bytes "'AB-'" ++ times 34 "J")) 3 2
+    ∷ respelt (times 20 "Ж" ++ (desk "AB-" ++ times 104 "Ж")) (times 20 "J" ++ (bytes "'AB-'" ++ times 104 "J")) 0 4
     ∷ []
