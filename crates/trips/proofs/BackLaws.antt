@@ -301,7 +301,7 @@ module _ (s : List ℕ) (c : Clean (sheetRules s)) where
 
 -- ---- the two calls: a sheet that is written
 module _ (s out a : List ℕ) (n : ℕ) (g : MessageTo s out (Done n) a) where
-  abbrev is-written : writer.Written s out (Done n) a g n
+  abbrev pub is-written : writer.Written s out (Done n) a g n
   is-written = writer.written s out (Done n) a g n refl
 
   -- what stands at the front of the room is its message, and that is accepted

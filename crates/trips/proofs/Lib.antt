@@ -9,6 +9,7 @@ pub mod HeldLaws
 pub mod ValueLaws
 pub mod HeardLaws
 pub mod BackLaws
+pub mod WhyLaws
 pub mod JoinedLaws
 pub mod SheetLaws
 pub mod DetailAgainLaws

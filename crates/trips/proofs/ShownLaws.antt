@@ -55,12 +55,13 @@ rows-back : (v : Layout) (ls : List (List ℕ)) → unmarked v (marked v ls) ≡
 rows-back v [] = refl
 rows-back v (l ∷ ls) = ap₂ (λ (y : List ℕ) (ys : List (List ℕ)). y ∷ ys) (drop-append-seam (v .mark) l) (later-back (v .next) ls)
 
+pub same-rows : (v : Layout) (ks ls : List (List ℕ)) → marked v ks ≡ marked v ls → ks ≡ ls
+same-rows v ks ls e = sym (rows-back v ks) ∙ ap (unmarked v) e ∙ rows-back v ls
+
 -- so the front and the text behind it are one only
 spelt-one : {s : Bool} {p : DetailsField} {front front′ : List ℕ} {ls : List (List ℕ)} {text text′ : List ℕ} (a : ShownDetails s p front ls text) (b : ShownDetails s p front′ ls text′)
     → front ++ a .spelt ≡ front′ ++ b .spelt
-spelt-one {p = p} a b =
-    let r : a .rows ≡ b .rows = sym (rows-back (layout p) (a .rows)) ∙ ap (unmarked (layout p)) (sym (a .marks) ∙ b .marks) ∙ rows-back (layout p) (b .rows) in
-    sym (a .spells) ∙ ap together r ∙ b .spells
+spelt-one {p = p} a b = sym (a .spells) ∙ ap together (same-rows (layout p) (a .rows) (b .rows) (sym (a .marks) ∙ b .marks)) ∙ b .spells
 
 pub details-one : {s : Bool} {p : DetailsField} {ls : List (List ℕ)} {vo text vo′ text′ : List ℕ} → isDigits 5 vo ≡ true → isDigits 5 vo′ ≡ true → ShownDetails s p (code s vo) ls text → ShownDetails s p (code s vo′) ls text′
     → (vo ≡ vo′) × (text ≡ text′)
@@ -80,7 +81,7 @@ unfolding reads plainly
 none true = refl
 none false = refl
 
-no-lines : {s : Bool} {p : DetailsField} {text : List ℕ} → ShownDetails s p [] [] text → ⊥
+pub no-lines : {s : Bool} {p : DetailsField} {text : List ℕ} → ShownDetails s p [] [] text → ⊥
 no-lines {s} {p} {text} a = go (a .rows) (a .marks) (a .spells)
   where
     go : (rows : List (List ℕ)) → [] ≡ marked (layout p) rows → together rows ≡ a .spelt → ⊥
@@ -103,12 +104,9 @@ by-line payer = refl
 by-line payee = refl
 by-line agent = refl
 
-not-rpp : {s : Bool} {front r text : List ℕ} {ls : List (List ℕ)} → ShownDetails s In72 front (rppLine r ∷ ls) text → ⊥
-not-rpp {r = r} {ls = ls} a = go (a .rows) (a .marks)
-  where
-    go : (rows : List (List ℕ)) → rppLine r ∷ ls ≡ marked (layout In72) rows → ⊥
-    go [] e = omega (arith, ap length e)
-    go (x ∷ xs) e = omega (arith, ap (λ (k : List (List ℕ)). byte (firstLine k) 1) e)
+pub not-rpp : {r : List ℕ} {ls : List (List ℕ)} (rows : List (List ℕ)) → rppLine r ∷ ls ≡ marked (layout In72) rows → ⊥
+not-rpp [] e = omega (arith, ap length e)
+not-rpp (x ∷ xs) e = omega (arith, ap (λ (k : List (List ℕ)). byte (firstLine k) 1) e)
 
 -- any two records that a field's lines allow are equal
 pub shows-one : {s : Bool} {sh : Shape} {ls ps qs : List (List ℕ)} → Shows s sh ls ps → Shows s sh ls qs → ps ≡ qs
@@ -123,21 +121,21 @@ shows-one (details c a) (each v b) = absurd (true≢false (sym (by-line v)))
 shows-one (details c a) (details d b) = let t = details-one c d a b in ap₂ (λ (x y : List ℕ). x ∷ y ∷ []) (t .0) (t .1)
 shows-one (note103 z) (each v b) = absurd (true≢false (sym (by-line v)))
 shows-one (note103 z) (note103 y) = refl
-shows-one (note103 z) (rest b) = absurd (not-rpp b)
+shows-one (note103 z) (rest b) = absurd (not-rpp (b .rows) (b .marks))
 shows-one (note103 z) (restBehind y b) = absurd (no-lines b)
 shows-one (rest a) (each v b) = absurd (true≢false (sym (by-line v)))
-shows-one (rest a) (note103 z) = absurd (not-rpp a)
+shows-one (rest a) (note103 z) = absurd (not-rpp (a .rows) (a .marks))
 shows-one (rest a) (rest b) = ap (λ (x : List ℕ). [] ∷ x ∷ []) (rest-one a b)
-shows-one (rest a) (restBehind z b) = absurd (not-rpp a)
+shows-one (rest a) (restBehind z b) = absurd (not-rpp (a .rows) (a .marks))
 shows-one (restBehind z a) (each v b) = absurd (true≢false (sym (by-line v)))
 shows-one (restBehind z a) (note103 y) = absurd (no-lines a)
-shows-one (restBehind z a) (rest b) = absurd (not-rpp b)
+shows-one (restBehind z a) (rest b) = absurd (not-rpp (b .rows) (b .marks))
 shows-one (restBehind {r} z a) (restBehind y b) = ap (λ (x : List ℕ). r ∷ x ∷ []) (rest-one a b)
 shows-one (note202 c a) (each v b) = absurd (true≢false (sym (by-line v)))
 shows-one (note202 c a) (note202 d b) = let t = details-one c d a b in ap₂ (λ (x y : List ℕ). [] ∷ x ∷ y ∷ []) (t .0) (t .1)
-shows-one (note202 c a) (behindRpp z d b) = absurd (not-rpp a)
+shows-one (note202 c a) (behindRpp z d b) = absurd (not-rpp (a .rows) (a .marks))
 shows-one (behindRpp z c a) (each v b) = absurd (true≢false (sym (by-line v)))
-shows-one (behindRpp z c a) (note202 d b) = absurd (not-rpp b)
+shows-one (behindRpp z c a) (note202 d b) = absurd (not-rpp (b .rows) (b .marks))
 shows-one (behindRpp {r} z c a) (behindRpp y d b) = let t = details-one c d a b in ap₂ (λ (x y : List ℕ). r ∷ x ∷ y ∷ []) (t .0) (t .1)
 
 -- so the records of a sheet are one only

@@ -17,15 +17,15 @@ use Rattle.roles.specs.Role.{shapeOf, Part, copy, name, taxName, cast}
 use Rattle.roles.specs.declared.Shape.{Shape}
 use Rattle.roles.specs.declared.Shape.the-variants.{Plain, Payer, Payee, Agent, Note103, Note202}
 use Rattle.records.specs.Record.{Record}
-use Rattle.records.specs.Rule19.{sheetForm, sheetSign}
+use Rattle.records.specs.Rule19.{isDigits, sheetForm, sheetSign}
 use Rattle.records.specs.Sentences.{RightParts}
 use Rattle.records.specs.Sentences as sentences
-use Rattle.details.specs.Lines.{together, Division, lines}
 use Rattle.details.specs.Layouts.{layout, marked, fitLines, linesFor, sizeFor, isUnfit}
 use Rattle.details.specs.declared.DetailsField.{DetailsField}
 use Rattle.details.specs.declared.DetailsField.the-variants.{In70, In72, BehindRpp}
 use Rattle.details.specs.declared.Size.{Size}
 use Rattle.details.specs.declared.Size.the-variants.{Bytes, Unfit}
+use Rattle.details.proofs.LineLaws.{rows-join}
 use Rattle.details.proofs.DivisionTheorems.{Fitted, fitted}
 use Rattle.alphabets.proofs.Theorems.{shortest-iff}
 use Rattle.alphabets.proofs.SaidLaws.{said-is}
@@ -48,9 +48,6 @@ module _ (s : Bool) where
   line-by-line (x ∷ xs) e = (one-line x (left (speaks s x) _ e), line-by-line xs (right (speaks s x) _ e))
 
   -- ---- details
-  rows-join : {ok : ℕ → Bool} {least : ℕ} {text ws : List ℕ} {rows : List (List ℕ)} → Division ok least text ws rows → together rows ≡ text
-  rows-join (lines a b c m j) = j
-
   pub details-made : (into : DetailsField) (front text : List ℕ) → speaks s (name text) ≡ true → not (fitsIn s into front text) ≡ false → WrittenDetails s into front text (laidLines s into front text)
   unfolding linesFor
   details-made into front text e u = go (sizeFor into (length front) (front ++ bankOf s text)) refl u
@@ -69,10 +66,10 @@ module _ (s : Bool) where
           }
       go Unfit f u = absurd (true≢false u)
 
-  note-made : (r vo text : List ℕ) → speaks s (name text) ≡ true → not (fitsIn s (noteField r) (code s vo) text) ≡ false
+  note-made : (r vo text : List ℕ) → isDigits 5 vo ≡ true → speaks s (name text) ≡ true → not (fitsIn s (noteField r) (code s vo) text) ≡ false
       → Content s Note202 (r ∷ vo ∷ text ∷ []) (rppLines r ++ laidLines s (noteField r) (code s vo) text)
-  note-made [] vo text e u = note202 (details-made In72 (code s vo) text e u)
-  note-made (x ∷ r) vo text e u = behindRpp refl (details-made BehindRpp (code s vo) text e u)
+  note-made [] vo text d e u = note202 d (details-made In72 (code s vo) text e u)
+  note-made (x ∷ r) vo text d e u = behindRpp refl d (details-made BehindRpp (code s vo) text e u)
 
   rest-made : (r text : List ℕ) → speaks s (name text) ≡ true → not (fitsIn s (noteField r) [] text) ≡ false → Content s Note103 (r ∷ text ∷ []) (rppLines r ++ laidLines s (noteField r) [] text)
   rest-made [] text e u = rest (details-made In72 [] text e u)
@@ -91,9 +88,9 @@ module _ (s : Bool) where
       right-made (sentences.agent p ps e g) a u = agent (line-by-line (cast Agent (p ∷ ps)) a)
       right-made (sentences.payer p ps e g n) a u = payer (line-by-line (cast Payer (p ∷ ps)) a)
       right-made (sentences.payee p ps e g n) a u = payee (line-by-line (cast Payee (p ∷ ps)) a)
-      right-made (sentences.details v t d e) a u = details (details-made In70 (code s v) t (left (speaks s (name t)) _ (right (speaks s (copy v)) _ a)) u)
+      right-made (sentences.details v t d e) a u = details d (details-made In70 (code s v) t (left (speaks s (name t)) _ (right (speaks s (copy v)) _ a)) u)
       right-made (sentences.note103 r e) a u = rpp-made r e
-      right-made (sentences.note202 r v t d e) a u = note-made r v t (left (speaks s (name t)) _ (right (speaks s (copy v)) _ (right (speaks s (copy r)) _ a))) u
+      right-made (sentences.note202 r v t d e) a u = note-made r v t d (left (speaks s (name t)) _ (right (speaks s (copy v)) _ (right (speaks s (copy r)) _ a))) u
 
       go : {sh : Shape} {ps : List (List ℕ)} → RunParts s sh ps → all (speaks s) (castParts sh ps) ≡ true → crowded s sh ps ≡ false → Content s sh ps (contentLines s sh ps)
       go (own r) a u = right-made r a u

@@ -24,7 +24,7 @@ use Rattle.roles.specs.declared.Shape.the-variants.{Plain, Payer, Payee, Agent,
 use Rattle.message.specs.Message.{verdictOf}
 use Rattle.records.specs.Record.{Record, records}
 use Rattle.records.specs.Places.{recordsSize}
-use Rattle.records.specs.Rule19.{sheetForm, sheetSign}
+use Rattle.records.specs.Rule19.{isDigits, sheetForm, sheetSign}
 use Rattle.records.specs.Sentences.{BadSheetAt}
 use Rattle.details.specs.Lines.{together, Most}
 use Rattle.details.specs.Breaking.{opens}
@@ -99,12 +99,12 @@ pub data Content (s : Bool) : Shape → List (List ℕ) → List (List ℕ) → 
   payer : {ps ls : List (List ℕ)} → OneByOne (PartLine s) (cast Payer ps) ls → Content s Payer ps ls
   payee : {ps ls : List (List ℕ)} → OneByOne (PartLine s) (cast Payee ps) ls → Content s Payee ps ls
   agent : {ps ls : List (List ℕ)} → OneByOne (PartLine s) (cast Agent ps) ls → Content s Agent ps ls
-  details : {vo text : List ℕ} {ls : List (List ℕ)} → WrittenDetails s In70 (code s vo) text ls → Content s Details (vo ∷ text ∷ []) ls
+  details : {vo text : List ℕ} {ls : List (List ℕ)} → isDigits 5 vo ≡ true → WrittenDetails s In70 (code s vo) text ls → Content s Details (vo ∷ text ∷ []) ls
   note103 : {r : List ℕ} → empty r ≡ false → Content s Note103 (r ∷ []) (rppLine r ∷ [])
   rest : {text : List ℕ} {ls : List (List ℕ)} → WrittenDetails s In72 [] text ls → Content s Note103 ([] ∷ text ∷ []) ls
   restBehind : {r text : List ℕ} {ls : List (List ℕ)} → empty r ≡ false → WrittenDetails s BehindRpp [] text ls → Content s Note103 (r ∷ text ∷ []) (rppLine r ∷ ls)
-  note202 : {vo text : List ℕ} {ls : List (List ℕ)} → WrittenDetails s In72 (code s vo) text ls → Content s Note202 ([] ∷ vo ∷ text ∷ []) ls
-  behindRpp : {r vo text : List ℕ} {ls : List (List ℕ)} → empty r ≡ false → WrittenDetails s BehindRpp (code s vo) text ls → Content s Note202 (r ∷ vo ∷ text ∷ []) (rppLine r ∷ ls)
+  note202 : {vo text : List ℕ} {ls : List (List ℕ)} → isDigits 5 vo ≡ true → WrittenDetails s In72 (code s vo) text ls → Content s Note202 ([] ∷ vo ∷ text ∷ []) ls
+  behindRpp : {r vo text : List ℕ} {ls : List (List ℕ)} → empty r ≡ false → isDigits 5 vo ≡ true → WrittenDetails s BehindRpp (code s vo) text ls → Content s Note202 (r ∷ vo ∷ text ∷ []) (rppLine r ∷ ls)
 
 -- a field made of a record: the same tag, and such a content
 abbrev pub Made : Form → Bool → Record → Field → Type 0
