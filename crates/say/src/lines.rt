@@ -1,5 +1,5 @@
-// A bank text as details: the lines that it makes behind a VO code in 70 and in the 72 of a 202, and the room left; and, where 70 can't hold it,
-// how it runs on into the 72 of a 103.
+// A bank text as details: the lines that it makes behind a VO code in 70 and in the 72 of a 202, and the room left; where 70 can't hold it, how it
+// runs on into the 72 of a 103; and why lines break where they do.
 use crate::words::tell_bytes;
 use crate::words::tell_characters;
 use crate::words::tell_number;
@@ -108,8 +108,8 @@ fn tell_fit(into: DetailsField, least: usize, text: &[u8], last: Last) {
     }
 }
 
-// Behind an RPP line the lines are the same, where the text fits.
-fn tell_fields(least: usize, text: &[u8]) {
+// Behind an RPP line the lines are the same, where the text fits. Answers whether lines were broken, if at all then in 72, whose first one is shorter.
+fn tell_fields(least: usize, text: &[u8]) -> bool {
     write_output(b"in field 70, with your own five digits in the code:\n");
     let in70 = tell_laid(DetailsField::In70, least, text);
     tell_fit(DetailsField::In70, least, text, in70);
@@ -118,6 +118,7 @@ fn tell_fields(least: usize, text: &[u8]) {
     tell_fit(DetailsField::In72, least, text, in72);
     write_output(b"behind an RPP line ");
     tell_fit(DetailsField::BehindRpp, least, text, in72);
+    in72.line > 0
 }
 
 // A half of a text that is cut, behind the code or nothing, in the lines of its field; answers how many bytes they have, marks left out.
@@ -148,25 +149,41 @@ fn tell_halves(sign: bool, note: DetailsField, code: &[u8], one: &[u8], two: &[u
     write_output(b" left of 210\n");
 }
 
-fn tell_run(sign: bool, note: DetailsField, code: &[u8], desk: &[u8]) {
+// Answers whether it was cut.
+fn tell_run(sign: bool, note: DetailsField, code: &[u8], desk: &[u8]) -> bool {
     match run_on(sign, code, note, desk) {
-        Run::Cut(k) => tell_halves(sign, note, code, front(desk, k), past(desk, k)),
+        Run::Cut(k) => {
+            tell_halves(sign, note, code, front(desk, k), past(desk, k));
+            return true;
+        }
         Run::Whole => write_output(b"it goes into field 70 whole\n"),
         Run::Unfit => write_output(b"it can't be cut so that both fit\n"),
         Run::Stuck(_) => {}
     }
+    false
 }
 
-// Where 70 can't hold the text, it runs on.
-fn tell_runs(sign: bool, code: &[u8], desk: &[u8], text: &[u8]) {
+// Where 70 can't hold the text, it runs on. Answers whether it was cut: what can be cut behind an RPP line can be without one.
+fn tell_runs(sign: bool, code: &[u8], desk: &[u8], text: &[u8]) -> bool {
     let size = size_of(DetailsField::In70, code.len(), text);
     if let Size::Bytes(_) = size {
-        return;
+        return false;
     }
     write_output(b"in a 103, run on into field 72, ");
-    tell_run(sign, DetailsField::In72, code, desk);
+    let cut = tell_run(sign, DetailsField::In72, code, desk);
     write_output(b"and behind an RPP line, ");
     tell_run(sign, DetailsField::BehindRpp, code, desk);
+    cut
+}
+
+// Why lines break where they do, once for all that were shown. Without the sign a text is spelt in one way only, and in 72 its length alone says how many
+// lines it takes.
+fn tell_why(sign: bool) {
+    write_output(b"no other break of the same bank text saves a line");
+    if sign {
+        write_output(b"; in field 70 another spelling, equally short, may");
+    }
+    write_output(b"\n");
 }
 
 // The longest bank text goes behind the longer code.
@@ -175,8 +192,11 @@ fn tell_behind(sign: bool, code: &[u8], desk: &[u8], bank: &[u8]) {
     put(&mut room, 0, code);
     put(&mut room, code.len(), bank);
     let text = front(&room, code.len() + bank.len());
-    tell_fields(code.len(), text);
-    tell_runs(sign, code, desk, text);
+    let broken = tell_fields(code.len(), text);
+    let cut = tell_runs(sign, code, desk, text);
+    if broken || cut {
+        tell_why(sign);
+    }
 }
 
 // Details have a byte at least behind their code.
