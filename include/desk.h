@@ -183,8 +183,9 @@ DESK_NOT_NULL
 uint64_t desk_to_sheet(uint32_t kind, const uint8_t *message, size_t len, uint8_t *out, size_t out_len);
 
 /* The message of a sheet; the type stands in the sheet. Details of a 103 that field 70 can't hold run on into
- * 72. Accepted: the bytes written to out. Refused: 1, 19, 18, 15, 16, then 17 (place: the bytes needed, which may
- * be over 10,000), then the refusal of the message itself (1, 5 to 13) with place 0. */
+ * 72; no other break of the same bank text saves a line of a field. Accepted: the bytes written to out. Refused:
+ * 1, 19, 18, 15, 16, then 17 (place: the bytes needed, which may be over 10,000), then the refusal of the message
+ * itself (1, 5 to 13) with place 0. */
 DESK_NOT_NULL
 uint64_t desk_to_message(const uint8_t *sheet, size_t len, uint8_t *out, size_t out_len);
 

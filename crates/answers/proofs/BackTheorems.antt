@@ -1,5 +1,6 @@
 -- There and back through the two programs: the sheet that `tomessage` wrote comes back, byte for byte; and the sheet that `tosheet` wrote is written
--- again as a message of that sheet, or refused by 16 (D2d, D2e, K7, R1-R3). Assumes nothing.
+-- again as a message of that sheet, or refused by 16; and why details break where they do in the message that `tomessage` wrote (D2d, D2e, K7, B10,
+-- R1-R3). Assumes nothing.
 use Prim.Native.Nat.{ℕ, _≤_}
 use mathlib.Core.Path.{_≡_, refl, sym, ap, ap₂, _∙_, subst}
 use mathlib.Core.List.{List, _∷_, _++_}
@@ -26,8 +27,10 @@ use Rattle.writer.specs.Sheet.{messageFor, sheetRules, ownRule}
 use Rattle.written.proofs.OwnLaws.{own-fine}
 use Rattle.sheets.specs.Gather.{typeName, sheetOf}
 use Rattle.trips.specs.Again.{CrowdedBehindRpp}
+use Rattle.trips.specs.Why.{WhyMessage}
 use Rattle.trips.proofs.BackLaws.{type-stands, sheet-back}
 use Rattle.trips.proofs.AgainTheorems.{sheet-passes, own-again}
+use Rattle.trips.proofs.WhyLaws.{built-why}
 use Rattle.answers.specs.Line.{NoLine, shown}
 use Rattle.answers.specs.Programs.{messageVerdict, messageAnswer, MessageAnswered, namesType, messageIn, formFor, typeRule, sheetVerdict, sheetIn, sheetAnswer, SheetAnswered}
 use Rattle.answers.specs.Back.{inputOf, WritesSheet, Rewritten, again, crowded}
@@ -77,6 +80,14 @@ pub programs-back : (s out after : List ℕ) (k : ℕ) → MessageAnswered s out
 programs-back s out after k g h =
     let f = answer-front s out after (Done k) k g refl .1 in
     writes-sheet (inputOf s (take k after)) s (ap (λ (x : List ℕ). sheetAnswer (inputOf s x)) f ∙ message-back s (subst NoLine f h))
+
+-- and in what is left, where that is a message, no other break saves a line
+pub programs-why : (s out after : List ℕ) (k : ℕ) → MessageAnswered s out (Done k) after → NoLine (take k after) → WhyMessage (sheetForm s) (take k after)
+unfolding messageAnswer
+programs-why s out after k g h =
+    let f : take k after ≡ messageAnswer s = answer-front s out after (Done k) k g refl .1 in
+    let e : messageVerdict s ≡ Fine = shown-fine (messageVerdict s) (messageFor s) (subst NoLine f h) in
+    subst (WhyMessage (sheetForm s)) (sym (f ∙ ap (λ (v : Verdict). shown v (messageFor s)) e)) (built-why s (clean s e))
 
 -- ---- from a message: i is an input that `tosheet` turns into a sheet
 module _ (i : List ℕ) (e : sheetVerdict i ≡ Fine) where

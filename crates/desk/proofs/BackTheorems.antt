@@ -1,5 +1,6 @@
 -- There and back through the exports: the sheet that `desk_to_message` took comes back from `desk_to_sheet`, byte for byte; and the sheet that
--- `desk_to_sheet` left is written again as a message of that sheet, or refused by 16 (D2d, D2e, K4, K7). Assumes nothing.
+-- `desk_to_sheet` left is written again as a message of that sheet, or refused by 16; and why details break where they do in the message that
+-- `desk_to_message` left (D2d, D2e, K4, K7, B10). Assumes nothing.
 use Prim.Native.Nat.{ℕ, _≤_}
 use mathlib.Core.Path.{_≡_, sym, ap, _∙_, subst}
 use mathlib.Core.List.{List, _++_}
@@ -19,8 +20,10 @@ use Rattle.sheets.proofs.ToSheetTheorems.{sheet-wide}
 use Rattle.trips.specs.Again.{Returns}
 use Rattle.trips.specs.Again as trips
 use Rattle.trips.specs.Back.{kindIn}
+use Rattle.trips.specs.Why.{WhyMessage}
 use Rattle.trips.proofs.BackLaws.{written-type, written-reads}
 use Rattle.trips.proofs.AgainTheorems.{read-fine, limit-returns}
+use Rattle.trips.proofs.WhyLaws.{written-why}
 use Rattle.desk.specs.Answer.{word}
 use Rattle.desk.specs.Exports.{WordOf, MessageWord, SheetWord}
 use Rattle.desk.specs.Sizes.{SmallOutcome}
@@ -42,6 +45,12 @@ words-back s out k a m h back r b l n =
     let g : MessageTo s out (Done k) a = done-by m (message-fits s out m) h in
     let w = written-reads s out a k g back (n .answer) b (sheet-as (take k a) back b (n .answer) (written-type s out a k g) (n .call)) l in
     (n .value ∙ ap word (w .0), w .1)
+
+-- in the message that it left no other break saves a line
+pub words-why : (s out : List ℕ) (k : ℕ) (a : List ℕ) → MessageWord s out k a → Below k → WhyMessage (formOf (kindIn s)) (take k a)
+words-why s out k a m h =
+    let g : MessageTo s out (Done k) a = done-by m (message-fits s out m) h in
+    subst (λ (form : Form). WhyMessage form (take k a)) (sym (written-type s out a k g)) (written-why s out a k g)
 
 -- ---- from a message
 leaves-sheet : (form : Form) (m t : List ℕ) → verdictOf form m ≡ Fine → sheetOf form m ≡ t → LeavesSheet form m t

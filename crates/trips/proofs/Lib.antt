@@ -9,7 +9,6 @@ pub mod HeldLaws
 pub mod ValueLaws
 pub mod HeardLaws
 pub mod BackLaws
-pub mod WhyLaws
 pub mod JoinedLaws
 pub mod SheetLaws
 pub mod DetailAgainLaws
@@ -18,4 +17,5 @@ pub mod ShortLaws
 pub mod RightLaws
 pub mod VerdictLaws
 pub mod AgainTheorems
+pub mod WhyLaws
 pub mod Examples

@@ -5,6 +5,7 @@ use mathlib.Core.Bool.{Bool, true}
 use mathlib.Core.List.{List, [], _∷_, _++_, tail}
 use native.Mathlib.Omega.{arith}
 use lib.ListN.{length, take, length-append}
+use Rattle.base.specs.Rules.{Clean}
 use Rattle.base.specs.Calls.{said}
 use Rattle.base.specs.Examples.{AllHold}
 use Rattle.base.specs.declared.Outcome.the-variants.{Done}
@@ -21,16 +22,17 @@ use Rattle.details.specs.declared.DetailsField.{DetailsField}
 use Rattle.details.specs.Front.{code}
 use Rattle.details.proofs.SaveLaws.{fronts}
 use Rattle.details.proofs.DivisionTheorems.{why-there}
-use Rattle.runon.specs.RunOn.{runOn}
-use Rattle.writer.specs.Sheet.{messageFor, MessageTo}
+use Rattle.writer.specs.Sheet.{messageFor, sheetRules, MessageTo}
 use Rattle.written.specs.Sentences.{OneByOne, WrittenDetails, Content, Made}
 use Rattle.written.specs.Sentences as written
 use Rattle.written.proofs.CastLaws.{code-size}
-use Rattle.written.proofs.BuiltLaws.{built-fields, built-sign}
-use Rattle.trips.specs.Shown.{ShownDetails, Shows, each, details, note103, rest, restBehind, note202, behindRpp}
-use Rattle.trips.specs.Why.{WhyDetails, WhyShown, WhyField}
+use Rattle.written.proofs.BuiltLaws.{runsAs, built-fields, built-sign}
+use Rattle.written.proofs.MadeLaws.{built-made}
+use Rattle.trips.specs.Shown.{ShownDetails, Shows, each, details, note103, rest, restBehind, note202, behindRpp, ShownSheet}
+use Rattle.trips.specs.Why.{WhyDetails, WhyShown, WhyField, WhyMessage}
 use Rattle.trips.proofs.ShownLaws.{same-rows, no-lines, not-rpp}
-use Rattle.trips.proofs.BackLaws.{is-written, written-message}
+use Rattle.trips.proofs.BackLaws.{is-written, written-message, written-fine, written-sheet}
+use Rattle.trips.proofs.AgainTheorems.{sheet-shows}
 
 -- details as they were written, and as they stand there
 details-why : {s : Bool} {into : DetailsField} {front front′ text text′ : List ℕ} {ls : List (List ℕ)} → length front ≡ length front′ → WrittenDetails s into front text ls
@@ -76,11 +78,18 @@ fields-why form s (r ∷ rs) [] m = absurd m
 fields-why form s (field t ps ∷ rs) (field u ls ∷ fs) m =
     (subst (λ (x : List ℕ). WhyField form s (field x ls)) (sym (m .0 .0)) (λ qs w. content-why (m .0 .1) w), fields-why form s rs fs (m .1))
 
--- ---- at the call: the message that stands in the room
+-- ---- a sheet that no rule before 17 refuses: its message
+pub built-why : (s : List ℕ) → Clean (sheetRules s) → WhyMessage (sheetForm s) (messageFor s)
+built-why s c =
+    subst (λ (b : Bool). AllHold (WhyField (sheetForm s) b) (fields (messageFor s))) (sym (ap signOf (built-fields s c) ∙ built-sign s c))
+    (fields-why (sheetForm s) (sheetSign s) (runsAs s c) (fields (messageFor s)) (built-made s c))
+
+-- ---- at the call: the message that stands in the room, whose fields show the records of the sheet
 module _ (s out a : List ℕ) (n : ℕ) (g : MessageTo s out (Done n) a) where
-  pub written-why : AllHold (WhyField (sheetForm s) (signOf (fields (take n a)))) (fields (take n a))
-  written-why =
-      let clean = is-written s out a n g .clean in
-      subst (λ (m : List ℕ). AllHold (WhyField (sheetForm s) (signOf (fields m))) (fields m)) (sym (written-message s out a n g))
-      (subst (λ (b : Bool). AllHold (WhyField (sheetForm s) b) (fields (messageFor s))) (sym (ap signOf (built-fields s clean) ∙ built-sign s clean))
-      (fields-why (sheetForm s) (sheetSign s) (runOn (sheetForm s) (sheetSign s) (tail (records s))) (fields (messageFor s)) (is-written s out a n g .made)))
+  pub written-why : WhyMessage (sheetForm s) (take n a)
+  written-why = subst (WhyMessage (sheetForm s)) (sym (written-message s out a n g)) (built-why s (is-written s out a n g .clean))
+
+  pub written-shows : ShownSheet (sheetForm s) (signOf (fields (take n a))) (fields (take n a)) (tail (records s))
+  written-shows =
+      subst (λ (x : List ℕ). ShownSheet (sheetForm s) (signOf (fields (take n a))) (fields (take n a)) (tail (records x))) (written-sheet s out a n g)
+      (sheet-shows (sheetForm s) (take n a) (written-fine s out a n g))

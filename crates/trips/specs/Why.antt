@@ -7,9 +7,11 @@ use mathlib.Core.Bool.{Bool}
 use mathlib.Core.List.{List, [], _++_}
 use lib.ListN.{length}
 use Rattle.base.specs.Calls.{said}
+use Rattle.base.specs.Examples.{AllHold}
 use Rattle.alphabets.specs.Bank.{reading}
 use Rattle.types.specs.declared.Form.{Form}
-use Rattle.fields.specs.Field.{Field, field}
+use Rattle.types.specs.Sign.{signOf}
+use Rattle.fields.specs.Field.{Field, field, fields}
 use Rattle.roles.specs.Role.{shapeOf}
 use Rattle.roles.specs.declared.Shape.{Shape}
 use Rattle.details.specs.Lines.{NoBreakSaves}
@@ -40,3 +42,7 @@ WhyShown (behindRpp e n d) = WhyDetails d
 -- whatever a field shows
 abbrev pub WhyField : Form → Bool → Field → Type 0
 WhyField form s (field t ls) = (ps : List (List ℕ)) (w : Shows s (shapeOf form t) ls ps) → WhyShown w
+
+-- of every field of a message
+abbrev pub WhyMessage : Form → List ℕ → Type 0
+WhyMessage form m = AllHold (WhyField form (signOf (fields m))) (fields m)

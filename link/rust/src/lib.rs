@@ -249,7 +249,7 @@ pub fn to_sheet(kind: Kind, message: &[u8], room: &mut [u8]) -> Result<usize, Re
 }
 
 /// A sheet written as its message; answers the bytes written. The type stands in the sheet. Details of a 103 that field
-/// 70 can't hold run on into 72.
+/// 70 can't hold run on into 72; no other break of the same bank text saves a line of a field.
 ///
 /// Refused by 1, 19, 18, 15, 16, then by 17 (which may ask for more than [`MESSAGE_LIMIT`] bytes), then by the refusal
 /// of the message itself (1, 5 to 13) with place 0.
