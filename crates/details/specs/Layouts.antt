@@ -35,8 +35,7 @@ divided v least text = broken (opens (v .barred)) least (v .widths) text
 abbrev pub DivisionIn : Layout → ℕ → List ℕ → List (List ℕ) → Type 0
 DivisionIn v least text ls = Division (opens (v .barred)) least text (v .widths) ls
 
--- why lines break where they do: no other break of the text saves a line; and where no byte is barred, as in 72, no other text does that is as long,
--- so no other spelling
+-- why lines break where they do: no other break of the text saves a line; and where no byte is barred, as in 72, no other text does that is no shorter
 pub record WhyThere (v : Layout) (least : ℕ) (text : List ℕ) (ls : List (List ℕ)) : Type 0 where
   pub no-break : NoBreakSaves (opens (v .barred)) least text (v .widths) ls
   pub no-text : v .barred ≡ [] → NoTextSaves (opens (v .barred)) least text (v .widths) ls

@@ -1,12 +1,13 @@
--- Worked examples of details that run on, and of a text that another spelling brings into fewer lines, as one list (B1-B3, B10, C72, S2, N15, N16). That they hold is proved in proofs/Examples.antt. Assumes nothing.
+-- Worked examples of details that run on, and of texts that another spelling brings into fewer lines, as one list (B1-B3, B10, C72, S2, N15, N16). That
+-- they hold is proved in proofs/Examples.antt. Assumes nothing.
 use Prim.Native.Nat.{ℕ, zero, suc, _-_}
 use Prim.Native.String.{String}
 use mathlib.Core.Path.{_≡_}
 use mathlib.Core.Bool.{Bool, true, false, not}
 use mathlib.Core.List.{List, [], _∷_, _++_}
+use lib.ListN.{length}
 use Rattle.base.specs.Choice.{all}
 use Rattle.base.specs.Bytes.{values}
-use lib.ListN.{length}
 use Rattle.base.specs.Calls.{said}
 use Rattle.base.specs.Quoted.{bytes, desk}
 use Rattle.alphabets.specs.Bank.{reading}
@@ -34,8 +35,8 @@ pub data Case : Type 0 where
   runs : List Record → List Record → Case
   -- or they stay
   stays : Form → List Record → Case
-  -- a text with the sign, and another spelling of it than the one that is written, equally short: in 70 they come to so many lines, none where they don't
-  -- fit, the first as it is written and then as it is spelt otherwise
+  -- a text with the sign, and another spelling of it that is as short as the one written: so many lines of 70 as it is written, none if it doesn't fit,
+  -- and so many as it is spelt here
   respelt : List ℕ → List ℕ → ℕ → ℕ → Case
 
 abbrev pub vo : List ℕ
@@ -127,7 +128,7 @@ cases =
     ∷ stays Mt103 (fee ∷ rpp72 ∷ [])
     ∷ stays Mt202 (in70 (times 132 "A") ∷ [])
     ∷ stays Other (in70 (times 132 "A") ∷ [])
-    -- the `-` behind AB would open the second line; between the apostrophes it ends the first: a line less, and 70 holds what it can't hold else
+    -- the `-` behind 'AB' would open the second line; between the apostrophes it stands in the first: a line less, and 70 holds what it can't hold else
     ∷ respelt (times 20 "Ж" ++ (desk "AB-" ++ times 34 "Ж")) (times 20 "J" ++ (bytes "'AB-'" ++ times 34 "J")) 3 2
     ∷ respelt (times 20 "Ж" ++ (desk "AB-" ++ times 104 "Ж")) (times 20 "J" ++ (bytes "'AB-'" ++ times 104 "J")) 0 4
     ∷ []
