@@ -12,7 +12,6 @@ pub fn text(random: &mut Random, sign: bool) -> Vec<u8> {
     } else {
         unsigned(random)
     };
-    let code = if sign { 11 } else { 9 };
     let most = match random.below(8) {
         0 | 1 => random.between(138, 142),
         2 | 3 => random.between(207, 213),
@@ -20,7 +19,15 @@ pub fn text(random: &mut Random, sign: bool) -> Vec<u8> {
         5 => random.between(160, 215),
         _ => random.between(100, 215),
     };
-    front(text, sign, most - code)
+    front(text, sign, most - code(sign).len())
+}
+
+/// The code as it stands in the message of any sheet made here.
+pub fn code(sign: bool) -> &'static [u8] {
+    match sign {
+        true => b"'(VO10100)'",
+        false => b"(VO10100)",
+    }
 }
 
 /// No text is made longer than this, in desk bytes or in bank bytes.
@@ -215,12 +222,7 @@ impl Long {
 
     /// The message of that sheet by the exhaustive version, or 16.
     pub fn message(&self) -> Result<Vec<u8>, Refusal> {
-        let code: &[u8] = if self.sign {
-            b"'(VO10100)'"
-        } else {
-            b"(VO10100)"
-        };
-        let Some(laid) = laid(self.sign, code, &self.text, self.rpp) else {
+        let Some(laid) = laid(self.sign, code(self.sign), &self.text, self.rpp) else {
             return refuse(16, 0);
         };
         let name = |name: &str| match self.sign {

@@ -4,8 +4,9 @@
 use super::{stop, Seen};
 use crate::calls as proved;
 use crate::exhaustive::{divisions_70, divisions_72, fewest_lines, Divisions};
-use crate::long::{self, some_long};
+use crate::long::{code, sheet_202, some_long};
 use crate::random::Random;
+use std::mem::replace;
 
 /// No sheet or message made here is longer.
 const AMPLE: usize = 2_000;
@@ -37,7 +38,7 @@ fn some_sheet(random: &mut Random) -> Sheet {
     }
     let (kind, bytes) = match random.once_in(2) {
         true => (103, long.sheet()),
-        false => (202, long::sheet_202(long.sign, long.rpp, &long.text)),
+        false => (202, sheet_202(long.sign, long.rpp, &long.text)),
     };
     Sheet {
         kind,
@@ -59,27 +60,27 @@ fn hold(sheet: &Sheet, seen: &mut Seen, tally: &mut Tally) {
         return;
     };
     let message = &room[..units];
-    let code = if sheet.sign { 11 } else { 9 };
+    let code = code(sheet.sign);
     let mut runs_on = false;
     if let Some(mut note) = lines(message, b"\r\n:72:") {
         let rpp = note[0].starts_with(b"/RPP/");
         if rpp {
             note.remove(0);
         }
-        let code = if sheet.kind == 103 { 0 } else { code };
-        let rows = unmarked(&note);
+        let rows = unmarked(sheet, &note);
         if !rows.is_empty() {
             runs_on = sheet.kind == 103;
+            let code = if runs_on { 0 } else { code.len() };
             let all = divisions_72(&rows.concat(), code, rpp);
             hold_rows(sheet, "72", &rows, &all, tally);
         }
     }
     if let Some(rows) = lines(message, b"\r\n:70:") {
         let whole = rows.concat();
-        let all = divisions_70(&whole, code);
+        let all = divisions_70(&whole, code.len());
         hold_rows(sheet, "70", &rows, &all, tally);
         if sheet.sign && !runs_on {
-            let fewest = fewest_lines(&whole[..code], &sheet.text);
+            let fewest = fewest_lines(code, &sheet.text);
             tally.respell(sheet, rows.len(), fewest);
         }
     }
@@ -113,10 +114,13 @@ fn lines<'a>(message: &'a [u8], tag: &[u8]) -> Option<Vec<&'a [u8]>> {
 }
 
 /// The lines of 72 without `/NZP/` and `//`.
-fn unmarked<'a>(note: &[&'a [u8]]) -> Vec<&'a [u8]> {
-    let mark = |line: usize| if line == 0 { 5 } else { 2 };
-    let row = |(line, bytes): (usize, &&'a [u8])| &bytes[mark(line)..];
-    note.iter().enumerate().map(row).collect()
+fn unmarked<'a>(sheet: &Sheet, note: &[&'a [u8]]) -> Vec<&'a [u8]> {
+    let mut mark: &[u8] = b"/NZP/";
+    let row = |line: &&'a [u8]| {
+        let row = line.strip_prefix(replace(&mut mark, &b"//"[..]));
+        row.unwrap_or_else(|| stop("a line of 72 without its mark", &sheet.bytes))
+    };
+    note.iter().map(row).collect()
 }
 
 #[derive(Default)]
