@@ -55,7 +55,7 @@ pub plain_only : (b d : List ℕ) → reading false b ≡ said d → b ≡ d
 plain_only b d e = plain_self b d e
 
 pub no_xset_zero : (x : ℕ) → xset x ≡ true → x ≡ 0 → ⊥
-unfolding xset Rattle.base.specs.Bytes.letter Rattle.base.specs.Bytes.capital Rattle.base.specs.Bytes.shared Rattle.base.specs.Bytes.digit Rattle.base.specs.Bytes.isIn Rattle.base.specs.Bytes.marks
+unfolding xset Rattle.base.specs.Bytes.letter Rattle.base.specs.Bytes.capital Rattle.base.specs.Bytes.shared Rattle.base.specs.Bytes.digit Rattle.base.specs.Bytes.is_in Rattle.base.specs.Bytes.marks
 no_xset_zero x e z = false≢true (rw z at e)
 
 plain_fine : (d : List ℕ) → all xset d ≡ true → plainly d ≡ said d

@@ -10,7 +10,7 @@ use super::pieces::{Piece, read_piece};
 use super::runs::put_run;
 
 // How many bytes a text takes, or the first byte that has no reading or can't be written, or that a desk text has more than 10,000 bytes.
-#[derive(Drop)]
+#[derive(Clone, Copy)]
 pub enum Extent {
     Takes(usize),
     Halts(usize),

@@ -7,14 +7,14 @@ use super::backwards::BACK;
 use super::runs::{floor_of, heard_of, run_of, value};
 
 // How many characters a piece has and the side behind it, or the place where it stops.
-#[derive(Drop)]
+#[derive(Clone, Copy)]
 pub enum Piece {
     Read { units: usize, latin: bool },
     Stops(usize),
 }
 
 // A character, 0 where there is none; the place behind it, and the side there.
-#[derive(Drop)]
+#[derive(Clone, Copy)]
 pub struct Character {
     pub value: u8,
     pub next: usize,

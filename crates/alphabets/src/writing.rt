@@ -18,7 +18,7 @@ pub(crate) fn grid_table() -> [u8; 256]
 }
 
 // A stretch of characters that the Latin side takes: the place behind its last Latin letter, and the place behind it.
-#[derive(Drop)]
+#[derive(Clone, Copy)]
 struct Stretch {
     last: usize,
     end: usize,

@@ -5,14 +5,14 @@ pub mod marks;
 pub mod xset;
 
 // The answer of a call that writes: how many units it wrote, or the number and the place that a clerk sees.
-#[derive(Drop)]
+#[derive(Clone, Copy)]
 pub enum Outcome {
     Done(usize),
     Refused { number: u32, place: usize },
 }
 
 // What a rule says: nothing, or its number and place.
-#[derive(Drop)]
+#[derive(Clone, Copy)]
 pub enum Verdict {
     Fine,
     Broken { number: u32, place: usize },

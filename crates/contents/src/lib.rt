@@ -8,7 +8,7 @@ pub mod whole;
 // its BIC (52A, 56A, 57A) or by its name (56D, 57D); our account (53B); an account and a BIC (58A); a beneficiary that is a bank (58D) or none
 // (59); details (70); OUR (71A); an RPP line, the rest of the details, or both (72 in 103); details, perhaps behind an RPP line (72 in 202);
 // what the regulator asks for (77B).
-#[derive(Drop)]
+#[derive(Clone, Copy)]
 pub enum Content {
     Unknown,
     Reference,

@@ -125,28 +125,28 @@ const REFERENCE: usize = 16;
 const LAST_PURPOSE: usize = 26;
 
 // A tax line: the sizes of its INN and of its KPP; 0 for none.
-#[derive(Drop)]
+#[derive(Clone, Copy)]
 pub enum Tax {
     Wrong,
     Is(usize, usize),
 }
 
 // 32A: the sizes of the whole part and of the decimals behind the comma.
-#[derive(Drop)]
+#[derive(Clone, Copy)]
 pub enum Paid {
     Wrong,
     Is(usize, usize),
 }
 
 // An RPP line: the sizes of its number and of its value date; 0 for none.
-#[derive(Drop)]
+#[derive(Clone, Copy)]
 pub enum Rpp {
     Wrong,
     Is(usize, usize),
 }
 
 // A party line: an account; or a BIK, and the size of the account behind it, 0 for none.
-#[derive(Drop)]
+#[derive(Clone, Copy)]
 pub enum Party {
     Wrong,
     Account,

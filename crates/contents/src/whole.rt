@@ -54,7 +54,7 @@ pub const NZP_SIGNED: usize = NZP + SIGNED_CODE;
 pub const LATER: usize = 2;
 
 // 50K, 59, 58D: wrong; right without a tax line; or right with one, where it begins, and the sizes of its INN and its KPP.
-#[derive(Drop)]
+#[derive(Clone, Copy)]
 pub enum Held {
     Wrong,
     Plain,
@@ -62,7 +62,7 @@ pub enum Held {
 }
 
 // 52A, 56, 57: wrong; a BIC alone; or a party line first, as it was read.
-#[derive(Drop)]
+#[derive(Clone, Copy)]
 pub enum Bank {
     Wrong,
     Alone,
@@ -359,7 +359,7 @@ fn rest_72(c: &[u8], at: usize, most: usize) -> bool
 }
 
 // 72: wrong; details, or their rest, alone; or an RPP line first, with the sizes of its number and its value date.
-#[derive(Drop)]
+#[derive(Clone, Copy)]
 pub enum Note {
     Wrong,
     Plain,

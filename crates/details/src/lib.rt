@@ -12,7 +12,7 @@ use base::bytes::put;
 const LINE_END: usize = 2;
 
 // Where details stand: in 70; in the 72 of a 202, alone or behind its RPP line.
-#[derive(Drop)]
+#[derive(Clone, Copy)]
 pub enum DetailsField {
     In70,
     In72,
@@ -20,14 +20,14 @@ pub enum DetailsField {
 }
 
 // How many bytes the lines come to, or that the text does not fit them.
-#[derive(Drop)]
+#[derive(Clone, Copy)]
 pub enum Size {
     Bytes(usize),
     Unfit,
 }
 
 // The room of a field from one of its lines on: the bytes of that line's mark, and those of text that it and the lines behind it hold.
-#[derive(Drop)]
+#[derive(Clone, Copy)]
 pub struct Room {
     pub mark: usize,
     pub bytes: usize,
@@ -35,7 +35,7 @@ pub struct Room {
 
 // Such a field in numbers: whether a later line may not open with `:` or `-`; the room of the first line and of each later one, and how many of
 // these there may be; the bytes before the first line and before each later one.
-#[derive(Drop)]
+#[derive(Clone, Copy)]
 struct LayoutNumbers {
     barred: bool,
     first: usize,

@@ -51,11 +51,11 @@ pub in_not : (c : ℕ) → xset c ≡ false → (x : ℕ) → xset x ≡ true �
 in_not c e x h = ne_eqb x c (λ q. false≢true (sym e ∙ ap xset (sym q) ∙ h))
 
 pub no_cr : (x : ℕ) → xset x ≡ true → eqb x 13 ≡ false
-unfolding xset Rattle.base.specs.Bytes.letter Rattle.base.specs.Bytes.capital Rattle.base.specs.Bytes.shared Rattle.base.specs.Bytes.digit Rattle.base.specs.Bytes.isIn Rattle.base.specs.Bytes.marks
+unfolding xset Rattle.base.specs.Bytes.letter Rattle.base.specs.Bytes.capital Rattle.base.specs.Bytes.shared Rattle.base.specs.Bytes.digit Rattle.base.specs.Bytes.is_in Rattle.base.specs.Bytes.marks
 no_cr = in_not 13 refl
 
 pub no_lf : (x : ℕ) → xset x ≡ true → eqb x 10 ≡ false
-unfolding xset Rattle.base.specs.Bytes.letter Rattle.base.specs.Bytes.capital Rattle.base.specs.Bytes.shared Rattle.base.specs.Bytes.digit Rattle.base.specs.Bytes.isIn Rattle.base.specs.Bytes.marks
+unfolding xset Rattle.base.specs.Bytes.letter Rattle.base.specs.Bytes.capital Rattle.base.specs.Bytes.shared Rattle.base.specs.Bytes.digit Rattle.base.specs.Bytes.is_in Rattle.base.specs.Bytes.marks
 no_lf = in_not 10 refl
 
 pub set_no_cr : (l : List ℕ) → all xset l ≡ true → without 13 l ≡ true

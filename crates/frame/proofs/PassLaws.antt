@@ -303,17 +303,17 @@ module _ {form : Form} {m s : List ℕ} {at n next w : ℕ} (g : Going form m s 
     dash = let t = g.tail.within in omega arith
 
     pub finish : {t : Bool} → skips ps next (length ps) ≡ t → body_567 form m ≡ pick t (Broken 7 (length m - 2)) Fine
-    unfolding scan bad_line by_lines Rattle.fields.specs.Field.cutLines
+    unfolding scan bad_line by_lines Rattle.fields.specs.Field.cut_lines
     finish {t} q =
         g.judged ∙ ap (judged_from ps (eqb at 5) next at) none_left
         ∙ ap₂ (λ (o : ℕ) (b : Bool). pick b (Broken 7 o) Fine) dash q
 
     no_colons : colons_at at (lines (body_from m at)) ≡ []
-    unfolding colons_at Rattle.fields.specs.Field.cutLines
+    unfolding colons_at Rattle.fields.specs.Field.cut_lines
     no_colons = ap (λ (b : List ℕ). colons_at at (lines b)) none_left
 
     no_bits : word_lines ps at (lines (body_from m at)) ≡ 0
-    unfolding by_lines Rattle.fields.specs.Field.cutLines
+    unfolding by_lines Rattle.fields.specs.Field.cut_lines
     no_bits = ap (λ (b : List ℕ). word_lines ps at (lines b)) none_left
 
     module _ (fine : body_567 form m ≡ Fine) where

@@ -11,7 +11,7 @@ pub const SPOTS: usize = 15;
 
 // What the pass found: a refusal, or how many fields there are, the word of their places, their colons in order, and behind these the -.
 // Zeros stand behind, and in all of it where the message is refused.
-#[derive(Drop)]
+#[derive(Clone, Copy)]
 pub struct Frame {
     pub verdict: Verdict,
     pub fields: usize,

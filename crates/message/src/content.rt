@@ -10,7 +10,7 @@ use base::Verdict;
 use types::Form;
 
 // What a message is judged to be, and where the content of a place stands in it: nowhere where the message is refused.
-#[derive(Drop)]
+#[derive(Clone, Copy)]
 pub(crate) struct JudgedPart {
     pub(crate) verdict: Verdict,
     pub(crate) part: Span,

@@ -17,7 +17,7 @@ use values::{Finds, Found};
 
 // Places of a date that is no day, a currency that is not the rouble, a 56, a party line whose parts differ, a 26T and a 77B; and whether
 // there is a 57, a KPP of the payer, one of the beneficiary.
-#[derive(Drop)]
+#[derive(Clone, Copy)]
 pub(crate) struct Facts {
     pub day: usize,
     pub currency: usize,
@@ -31,7 +31,7 @@ pub(crate) struct Facts {
 }
 
 // Where the first content starts that isn't right; or what is found in all of them.
-#[derive(Drop)]
+#[derive(Clone, Copy)]
 pub(crate) enum Read {
     Wrong(usize),
     Right(Facts),

@@ -13,28 +13,28 @@ mod spots;
 pub mod verdict;
 
 // Where the content of a place stands in the message.
-#[derive(Drop)]
+#[derive(Clone, Copy)]
 pub enum Span {
     Part { start: usize, end: usize },
     Nothing,
 }
 
 // The answer of the check.
-#[derive(Drop)]
+#[derive(Clone, Copy)]
 pub enum Checked {
     Accepted { fields: usize, present: u32 },
     Refused { number: u32, place: usize },
 }
 
 // The kopecks of 32A, or the message's refusal.
-#[derive(Drop)]
+#[derive(Clone, Copy)]
 pub enum Amount {
     Is(u64),
     Refused { number: u32, place: usize },
 }
 
 // The date of 32A, or the message's refusal.
-#[derive(Drop)]
+#[derive(Clone, Copy)]
 pub enum Day {
     On { year: u32, month: u32, day: u32 },
     Refused { number: u32, place: usize },

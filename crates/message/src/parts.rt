@@ -7,7 +7,7 @@ use fields::{start_at, tag_at};
 use frame::SPOTS;
 
 // A field: its colon, its tag as one number, and its content.
-#[derive(Drop)]
+#[derive(Clone, Copy)]
 pub(crate) struct FieldAt {
     pub colon: usize,
     pub tag: u32,

@@ -7,7 +7,7 @@ use base::Verdict;
 use types::Form;
 
 // What a sheet comes to: 19 or 18 or nothing, its type (0 where the first record names none), and whether it has the sign.
-#[derive(Drop)]
+#[derive(Clone, Copy)]
 pub struct Judged {
     pub verdict: Verdict,
     pub form: Form,

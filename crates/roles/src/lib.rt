@@ -6,7 +6,7 @@ pub mod shapes;
 pub mod texts;
 
 // What the lines of a field are: all copied; those of 50K; of 59 and 58D; of 56D and 57D; of 70; of 72 in 103, and in 202.
-#[derive(Drop)]
+#[derive(Clone, Copy)]
 pub enum Shape {
     Plain,
     Payer,
@@ -19,7 +19,7 @@ pub enum Shape {
 
 // What the lines of a field, or the parts of a record, are from one on: all copied; from the first on of a payer, a payee, an agent; from the
 // tax place on; names.
-#[derive(Drop)]
+#[derive(Clone, Copy)]
 pub enum Role {
     Copies,
     OfPayer,
@@ -30,7 +30,7 @@ pub enum Role {
 }
 
 // A place in a content: of the first text that breaks 14, or of the /NZP/ of 21.
-#[derive(Drop)]
+#[derive(Clone, Copy)]
 pub enum Spot {
     Nowhere,
     At(usize),

@@ -19,7 +19,7 @@ const ROOM_70: usize = 140;
 const ROOM: usize = 195;
 
 // What a text comes to: a byte of it can't be written; it goes into 70 whole; it is cut behind its first bytes, so many; or it fits in no way.
-#[derive(Drop)]
+#[derive(Clone, Copy)]
 pub enum Run {
     Stuck(usize),
     Whole,
@@ -40,7 +40,7 @@ fn put_bank(sign: bool, text: &[u8], out: &mut [u8], at: usize) -> usize
 }
 
 // How long a front and the bank text behind it are, and that they go into the lines of a field.
-#[derive(Drop)]
+#[derive(Clone, Copy)]
 struct Fitting {
     size: usize,
     fits: bool,
@@ -73,7 +73,7 @@ fn fit_in(sign: bool, into: DetailsField, front: &[u8], text: &[u8]) -> Fitting
 }
 
 // A cut that is tried: its first half is so many bytes too long for 70; or the text may be cut there, or not.
-#[derive(Drop)]
+#[derive(Clone, Copy)]
 enum Tried {
     Over(usize),
     Good,

@@ -13,7 +13,7 @@ use streams::write_output;
 const MOST: usize = 210;
 
 // The last of the lines laid: which one, counted from 0, and its bytes, the mark counted.
-#[derive(Drop)]
+#[derive(Clone, Copy)]
 struct Last {
     line: usize,
     bytes: usize,

@@ -14,7 +14,7 @@ use roles::Role;
 use roles::parts::{is_spoken, next_role};
 
 // The place behind a piece of a text, and the side there.
-#[derive(Drop)]
+#[derive(Clone, Copy)]
 struct Behind {
     at: usize,
     latin: bool,

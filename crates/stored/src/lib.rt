@@ -8,7 +8,7 @@ use base::marks::mark_at;
 
 // The raw bytes of a record: where they begin, how many there are, and the place behind the LF that ends them. That place is 0
 // where the record is of wrong form.
-#[derive(Drop)]
+#[derive(Clone, Copy)]
 pub struct Body {
     pub start: usize,
     pub size: usize,

@@ -6,14 +6,14 @@ ghost use Rattle.streams.specs.Input.{Held};
 use libc::{STDERR_FILENO, STDIN_FILENO, STDOUT_FILENO};
 
 // What came of reading: so many bytes, all that there are or all that the room holds; or a read that failed.
-#[derive(Drop)]
+#[derive(Clone, Copy)]
 pub enum Input {
     Whole(usize),
     Failed,
 }
 
 // What came of one more read: how many bytes there are then, as many as before where it failed or met the end.
-#[derive(Drop)]
+#[derive(Clone, Copy)]
 struct Reached {
     bytes: usize,
     failed: bool,

@@ -5,7 +5,7 @@ use crate::tell::tell;
 pub(crate) const LONGEST: usize = 2097152;
 
 // A record that was gone through: what it is, and the place behind it. Or one of wrong form.
-#[derive(Drop)]
+#[derive(Clone, Copy)]
 pub(crate) enum Taken {
     Text(usize),
     // A text that came out otherwise.
@@ -15,7 +15,7 @@ pub(crate) enum Taken {
     Wrong,
 }
 
-#[derive(Drop)]
+#[derive(Clone, Copy)]
 pub(crate) struct Counts {
     texts: usize,
     messages: usize,

@@ -9,7 +9,7 @@ pub const PLACES: usize = 14;
 pub const TAGS: usize = 28;
 
 // A form's key, found once from the type that a caller gave: of any other type there is no form.
-#[derive(Drop)]
+#[derive(Clone, Copy)]
 pub enum Form {
     Other,
     Mt103,
@@ -17,7 +17,7 @@ pub enum Form {
 }
 
 // A field's place, and what is wrong with it there: 5, 6, 7, or 0 for nothing.
-#[derive(Drop)]
+#[derive(Clone, Copy)]
 pub struct Step {
     pub place: usize,
     pub wrong: u32,

@@ -16,7 +16,7 @@ const FEBRUARY: u32 = 2;
 
 const DECEMBER: u32 = 12;
 
-#[derive(Drop)]
+#[derive(Clone, Copy)]
 struct Day {
     year: u32,
     month: u32,

@@ -6,7 +6,7 @@ pub mod findings;
 
 // Of a content: one more than the place, counted from its start, of the first date that is no day, of a currency that isn't the rouble, of a
 // party line whose parts differ, 0 for none; and whether there is a KPP.
-#[derive(Drop)]
+#[derive(Clone, Copy)]
 pub struct Finds {
     pub day: usize,
     pub currency: usize,
@@ -15,7 +15,7 @@ pub struct Finds {
 }
 
 // A content that isn't right; a right one in which nothing is found; or what is found in it.
-#[derive(Drop)]
+#[derive(Clone, Copy)]
 pub enum Found {
     Wrong,
     Plain,

@@ -7,7 +7,7 @@ const MOST: usize = 9999999999;
 
 // About a sheet or a message, in Russian or in English: the number and the place of the refusal; where the input starts and how many bytes
 // it has; the place behind, where another question may stand.
-#[derive(Drop)]
+#[derive(Clone, Copy)]
 pub(crate) struct Question {
     pub(crate) sheet: bool,
     pub(crate) russian: bool,
@@ -19,14 +19,14 @@ pub(crate) struct Question {
 }
 
 // A question, or a first line that is none.
-#[derive(Drop)]
+#[derive(Clone, Copy)]
 pub(crate) enum Asked {
     Rightly(Question),
     Wrongly { russian: bool },
 }
 
 // How much input there is, and the place behind it, 0 where it does not end as its first line says.
-#[derive(Drop)]
+#[derive(Clone, Copy)]
 struct Extent {
     size: usize,
     next: usize,

@@ -39,7 +39,7 @@ pub(crate) fn tag_of(l: &[u8]) -> u32
 }
 
 // Records of 70 and of 72: how many, and where the last 70 starts.
-#[derive(Drop)]
+#[derive(Clone, Copy)]
 struct Seen {
     details: usize,
     notes: usize,

@@ -15,7 +15,7 @@ use base::marks::mark_at;
 use types::Form;
 
 // What holds a byte: the record that starts at this place of the sheet, or nothing that came from the sheet.
-#[derive(Drop)]
+#[derive(Clone, Copy)]
 pub enum Holder {
     Record(usize),
     Nothing,

@@ -14,7 +14,7 @@ pub mod to_message;
 
 // What putting something into the room comes to: a byte of the sheet can't be written, details don't fit their lines, or the place behind.
 // The place counts on where the room has ended.
-#[derive(Drop)]
+#[derive(Clone, Copy)]
 pub(crate) enum Step {
     Stuck(usize),
     Unfit,
@@ -22,7 +22,7 @@ pub(crate) enum Step {
 }
 
 // Where the text of 70 is cut, by places of the sheet, and whether a new 72 is to come for its rest; or it is not cut.
-#[derive(Drop)]
+#[derive(Clone, Copy)]
 pub(crate) enum Cutting {
     Nowhere,
     At {
@@ -34,7 +34,7 @@ pub(crate) enum Cutting {
 }
 
 // What building a sheet's message comes to: a refusal of the sheet; or its type, its sign, the cut of its details and the size of its message.
-#[derive(Drop)]
+#[derive(Clone, Copy)]
 pub(crate) enum Build {
     Stopped {
         number: u32,

@@ -34,7 +34,7 @@ use types::tags::{TAG_70, TAG_72, TAG_77B};
 const RPP: usize = 3;
 
 // A message half put: whether a new 72 is still to come, the place behind, and the record that holds the byte at a place.
-#[derive(Drop)]
+#[derive(Clone, Copy)]
 pub(crate) struct Running {
     pub(crate) new: bool,
     pub(crate) at: usize,

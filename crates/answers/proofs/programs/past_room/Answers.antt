@@ -1,0 +1,7 @@
+-- `answers::programs::past_room` meets its contract: 17 alone is changed. Assumes nothing.
+use Rattle.answers.proofs.CallLaws.{kept}
+use borrow.Author.Rules.{rules}
+use Rattle.answers.proofs.programs.past_room.Goals as goal
+
+pub returns : goal.returns
+returns c = let a = c.args in kept a.a _ _ c.in-Refused.is c.if-number-eq17.false

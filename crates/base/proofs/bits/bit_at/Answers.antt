@@ -1,0 +1,11 @@
+-- `base::bits::bit_at` meets its contract. Assumes nothing.
+use Prim.Native.Nat.{ℕ, ◌%◌}
+use mathlib.Core.Path.{sym, ap}
+use native.Mathlib.Nat.{div-eq_of_lt}
+use native.Mathlib.Omega.{arith}
+use Rattle.base.proofs.BitLaws.{past_word}
+use borrow.Author.Rules.{rules}
+use Rattle.base.proofs.bits.bit_at.Goals as goal
+
+pub returns-else-place-lt32 : goal.returns-else-place-lt32
+returns-else-place-lt32 c = let a = c.args in sym (ap (λ (x : ℕ). x % 2) (div-eq_of_lt (past_word a.word a.place (omega arith) c.if-place-lt32.false)))

@@ -1,0 +1,13 @@
+-- `base::bytes::front` meets its contract. Assumes nothing.
+use mathlib.Core.Path.{sym}
+use lib.ListN.{length-take}
+use lib.Seq.{take_all}
+use borrow.Author.Rules.{rules}
+use native.Mathlib.Omega.{arith}
+use Rattle.base.proofs.bytes.front.Goals as goal
+
+pub slice_bounds-result-end : goal.slice_bounds-result-end
+slice_bounds-result-end c = simp length-take (omega arith)
+
+pub returns-else-n-s : goal.returns-else-n-s
+returns-else-n-s c = sym (take_all c.args.n c.args.s.now c.if-n-s.false)

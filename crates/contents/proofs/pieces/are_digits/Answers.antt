@@ -1,0 +1,40 @@
+-- `contents::pieces::are_digits` meets its contract. Assumes nothing.
+use Rattle.base.specs.Says.{Says}
+use Rattle.base.proofs.SaysLaws.{says_so, says_not}
+use Prim.Native.Nat.{◌-◌, ◌+◌, ◌≤◌}
+use mathlib.Core.Path.{◌≡◌, refl, sym, ◌∙◌}
+use mathlib.Core.Bool.{true}
+use mathlib.Core.Logic.{⊎_elim}
+use native.Mathlib.Omega.{arith}
+use borrow.Author.Rules.{rules}
+use borrow.Author.Tests.{not-true, not-false}
+use Rattle.base.specs.Choice.{all}
+use Rattle.base.specs.Bytes.{digit}
+use Rattle.contents.specs.Answers.{cut}
+use Rattle.contents.proofs.Laws.{kind_not, flag_on, just}
+use Rattle.contents.proofs.pieces.are_digits.Goals as goal
+
+pub loop-k-init : goal.loop-k-init
+loop-k-init c = (omega arith, says_so refl)
+
+pub overflow_add-i : goal.overflow_add-i
+overflow_add-i c = omega arith
+
+pub bounds-s-i : goal.bounds-s-i
+bounds-s-i c = omega arith
+
+pub overflow_add-k : goal.overflow_add-k
+overflow_add-k c = omega arith
+
+pub loop-k-smaller : goal.loop-k-smaller
+loop-k-smaller c = omega arith
+
+pub loop-k-preserved : goal.loop-k-preserved
+loop-k-preserved c = let a = c.args in
+    ⊎_elim (λ w. (omega arith, rw w.1 (says_not (kind_not digit a.i a.s.now (c.loop-k.k + 1) c.loop-k.k (omega arith) (omega arith) (sym c.is_digit.ensures ∙ not-true _ w.0.taken)))))
+    (λ w. (omega arith, rw w.1 (flag_on digit a.i a.s.now c.loop-k.fine c.loop-k.k (omega arith) c.loop-k.invariant.1 (sym c.is_digit.ensures ∙ not-false _ w.0.left))))
+    c.if-not-is_digit.branch
+
+pub returns : goal.returns
+returns c = let a = c.args in let q : c.loop-k.k ≡ a.n = omega (arith, c.loop-k-test.false) in
+    just digit a.i a.s.now a.n c.loop-k.fine (omega arith) (rw q at c.loop-k.invariant.1)

@@ -1,0 +1,15 @@
+-- `contents::pieces::has_word` meets its contract. Assumes nothing.
+use Rattle.base.proofs.SaysLaws.{says_so, says_not}
+use Prim.Native.Nat.{◌-◌, ◌≤◌}
+use mathlib.Core.Path.{◌≡◌, refl}
+use native.Mathlib.Omega.{arith}
+use lib.ListN.{length, take}
+use Rattle.contents.specs.Answers.{cut}
+use Rattle.contents.proofs.Laws.{word_on, word_off, word_end}
+use Rattle.contents.proofs.pieces.has_word.Given as goal
+
+abbrev pub invariant-loop-k : goal.invariant-loop-k
+invariant-loop-k l = (l.k ≤ length l.w) × (cut l.i l.k l.s ≡ take l.k l.w)
+
+abbrev pub decreases-loop-k : goal.decreases-loop-k
+decreases-loop-k l = length l.w - l.k

@@ -1,0 +1,19 @@
+-- `contents::whole::are_lines` meets its contract. Assumes nothing.
+use Rattle.base.proofs.SaysLaws.{said, denied, says_so, says_not}
+use Rattle.contents.proofs.FieldLaws.{lines_on, front, names_none, names_last, names_more, names_first, names_rest}
+use Prim.Native.Nat.{◌≤◌, ◌-◌}
+use native.Mathlib.Omega.{arith}
+use borrow.Author.Rules.{rules}
+use lib.ListN.{length, drop}
+use Rattle.base.proofs.MarkLaws.{up_rest}
+use Rattle.fields.specs.Lines.{lines_in}
+use Rattle.fields.proofs.ContentLaws.{lines_last}
+use Rattle.contents.specs.Fields.{Several}
+use Rattle.contents.specs.Answers.{LaterOrName}
+use Rattle.contents.proofs.whole.are_lines.Given as goal
+
+abbrev pub invariant-loop-left : goal.invariant-loop-left
+invariant-loop-left l = (l.at ≤ length l.c) × (Several (LaterOrName l.marked) l.left (lines_in (drop l.at l.c)) → Several (LaterOrName l.marked) l.most (lines_in (drop l.from l.c))) × (Several (LaterOrName l.marked) l.most (lines_in (drop l.from l.c)) → Several (LaterOrName l.marked) l.left (lines_in (drop l.at l.c)))
+
+abbrev pub decreases-loop-left : goal.decreases-loop-left
+decreases-loop-left l = length l.c - l.at

@@ -1,0 +1,12 @@
+-- `desk::amount_of` meets its contract. Assumes nothing.
+use mathlib.Core.Path.{subst, sym, ap, ◌∙◌}
+use Rattle.desk.specs.Answer.{amount_word}
+use Rattle.desk.specs.Sizes.{SmallAmount}
+use borrow.Author.Rules.{rules}
+use Rattle.desk.proofs.amount_of.Goals as goal
+
+pub refused-requires : goal.refused-requires
+refused-requires c = subst SmallAmount c.in-Refused.is c.requires
+
+pub returns-in-Refused : goal.returns-in-Refused
+returns-in-Refused c = c.refused.ensures ∙ sym (ap amount_word c.in-Refused.is)

@@ -1,0 +1,19 @@
+-- `desk::span_of` meets its contract. Assumes nothing.
+use mathlib.Core.Path.{subst, sym, ap}
+use native.Mathlib.Omega.{arith}
+use Rattle.desk.specs.Answer.{span_word}
+use Rattle.desk.specs.Sizes.{SmallSpan}
+use borrow.Author.Rules.{rules}
+use Rattle.desk.proofs.span_of.Goals as goal
+
+pub overflow_mul-result : goal.overflow_mul-result
+overflow_mul-result c = let t = subst SmallSpan c.in-Part.is c.requires in omega (arith, t.0, t.1)
+
+pub overflow_sub-result : goal.overflow_sub-result
+overflow_sub-result c = let t = subst SmallSpan c.in-Part.is c.requires in omega (arith, t.0, t.1)
+
+pub overflow_add-result : goal.overflow_add-result
+overflow_add-result c = let t = subst SmallSpan c.in-Part.is c.requires in omega (arith, t.0, t.1)
+
+pub returns-in-Part : goal.returns-in-Part
+returns-in-Part c = sym (ap span_word c.in-Part.is)

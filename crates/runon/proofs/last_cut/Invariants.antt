@@ -1,0 +1,15 @@
+-- `last_cut`: from above down to the first place where the text may be cut. Assumes nothing.
+use Prim.Native.Nat.{◌≤◌}
+use mathlib.Core.Path.{◌≡◌, refl, sym, ap, ◌∙◌}
+use native.Mathlib.Omega.{arith}
+use borrow.Author.Rules.{rules}
+use Rattle.runon.specs.Run.{last_cut}
+use Rattle.runon.proofs.TryLaws.{good_cut, last_here, last_none}
+use Rattle.runon.proofs.SearchLaws.{step_bad, step_over}
+use Rattle.runon.proofs.last_cut.Given as goal
+
+abbrev pub invariant-loop-k : goal.invariant-loop-k
+invariant-loop-k l = (l.k ≤ l.top) × (last_cut l.sign l.front l.note l.text l.top ≡ last_cut l.sign l.front l.note l.text l.k)
+
+abbrev pub decreases-loop-k : goal.decreases-loop-k
+decreases-loop-k l = l.k

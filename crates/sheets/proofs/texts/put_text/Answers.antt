@@ -1,0 +1,19 @@
+-- `sheets::texts::put_text` meets its contract: its bytes, or what the table reads in them. Assumes nothing.
+use mathlib.Core.Path.{sym, ◌∙◌}
+use native.Mathlib.Omega.{arith}
+use borrow.Author.Rules.{rules}
+use borrow.Author.Tests.{not-true, not-false}
+use Rattle.sheets.proofs.TextLaws.{text_plain, text_halts, units_small, text_reads}
+use Rattle.sheets.proofs.texts.put_text.Goals as goal
+
+pub returns-then-not-spoken : goal.returns-then-not-spoken
+returns-then-not-spoken c = let a = c.args in text_plain a.back.now a.spoken a.latin a.p.now a.out.now a.at c.if-not-spoken.true c.put.ensures
+
+pub overflow_add-result-in-Read : goal.overflow_add-result-in-Read
+overflow_add-result-in-Read c = let a = c.args in omega (arith, units_small a.back.now a.spoken a.latin a.p.now a.out.now a.at c.if-not-spoken.false _ _ (sym c.in-Read.is ∙ c.put_piece.ensures.0), c.requires)
+
+pub returns-in-Stops : goal.returns-in-Stops
+returns-in-Stops c = let a = c.args in text_halts a.back.now a.spoken a.latin a.p.now a.out.now a.at c.if-not-spoken.false _ (sym c.in-Stops.is ∙ c.put_piece.ensures.0) c.put_piece.ensures.1
+
+pub returns-in-Read : goal.returns-in-Read
+returns-in-Read c = let a = c.args in text_reads a.back.now a.spoken a.latin a.p.now a.out.now a.at c.if-not-spoken.false _ _ (sym c.in-Read.is ∙ c.put_piece.ensures.0) c.put_piece.ensures.1

@@ -1,0 +1,17 @@
+-- `values::days::is_leap` meets its contract. Assumes nothing.
+use borrow.Author.Tests.{eq-eqb, ne_eqb}
+use Rattle.base.proofs.Flags.{flags}
+use Rattle.values.specs.Day.{leap}
+use Rattle.values.proofs.days.is_leap.Goals as goal
+
+pub returns-then-year-ne0 : goal.returns-then-year-ne0
+unfolding leap
+returns-then-year-ne0 c = search flags depth 12
+
+pub returns-then-year-ne0-2 : goal.returns-then-year-ne0-2
+unfolding leap
+returns-then-year-ne0-2 c = simp (eq-eqb _ _ c.if-year-ne0.false, ne_eqb _ _ c.if-year-ne0-2.true)
+
+pub returns : goal.returns
+unfolding leap
+returns c = simp (eq-eqb _ _ c.if-year-ne0.false, eq-eqb _ _ c.if-year-ne0-2.false)

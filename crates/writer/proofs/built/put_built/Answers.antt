@@ -1,0 +1,37 @@
+-- `writer::built::put_built` meets its contract: with its details cut or not. Assumes nothing.
+use native.Mathlib.Omega.{arith}
+use Rattle.writer.proofs.HolderLaws.{built_within, built_seven, built_good, built_lines, built_cut, put_built, put_run_built}
+use borrow.Author.Rules.{rules}
+use Rattle.writer.proofs.built.put_built.Goals as goal
+
+pub put_message-requires : goal.put_message-requires
+put_message-requires c = let s = c.args.sheet.now in let b = c.requires.0 in (built_within s b, built_seven s b, built_good s b)
+
+pub slice_bounds-put_run-count : goal.slice_bounds-put_run-count
+slice_bounds-put_run-count c = (built_cut c.args.sheet.now c.requires.0 c.in-At.is).known.first
+
+pub slice_bounds-put_run-start : goal.slice_bounds-put_run-start
+slice_bounds-put_run-start c = (built_cut c.args.sheet.now c.requires.0 c.in-At.is).known.first
+
+pub slice_bounds-put_run-end : goal.slice_bounds-put_run-end
+slice_bounds-put_run-end c = let k = (built_cut c.args.sheet.now c.requires.0 c.in-At.is).known in omega (arith, k.second, k.inside)
+
+pub slice_bounds-put_run-count-in-At : goal.slice_bounds-put_run-count-in-At
+slice_bounds-put_run-count-in-At c = (built_cut c.args.sheet.now c.requires.0 c.in-At.is).known.second
+
+pub slice_bounds-put_run-start-in-At : goal.slice_bounds-put_run-start-in-At
+slice_bounds-put_run-start-in-At c = (built_cut c.args.sheet.now c.requires.0 c.in-At.is).known.second
+
+pub slice_bounds-put_run-end-in-At : goal.slice_bounds-put_run-end-in-At
+slice_bounds-put_run-end-in-At c = (built_cut c.args.sheet.now c.requires.0 c.in-At.is).known.inside
+
+pub put_run-requires : goal.put_run-requires
+put_run-requires c = let s = c.args.sheet.now in
+    let b = c.requires.0 in
+    let k = (built_cut s b c.in-At.is).known in ((built_within s b, built_seven s b, built_lines s b c.in-At.is), (k.halves, k.each, k.fits))
+
+pub returns-in-Nowhere : goal.returns-in-Nowhere
+returns-in-Nowhere c = put_built c.args.sheet.now c.requires.0 c.in-Nowhere.is c.put_message.ensures c.requires.1
+
+pub returns-in-At : goal.returns-in-At
+returns-in-At c = put_run_built c.args.sheet.now c.requires.0 c.in-At.is c.put_run.ensures.0 c.requires.1

@@ -1,0 +1,26 @@
+-- `writer::holder::find_holder` meets its contract: from each record on as from the second. Assumes nothing.
+use Prim.Native.Nat.{◌+◌, ◌*◌, ◌-◌, ◌≤◌}
+use mathlib.Core.Path.{◌≡◌, refl, sym, ◌∙◌}
+use mathlib.Core.Bool.{false}
+use native.Mathlib.Omega.{arith}
+use lib.ListN.{length, take, drop}
+use borrow.Author.Rules.{rules}
+use Rattle.base.specs.declared.Verdict.TheVariants.{Fine}
+use Rattle.records.specs.Found.{pieces_at, bad_sheet_line}
+use Rattle.records.proofs.PieceLaws.{piece_length}
+use Rattle.writer.specs.Sheet.{rule_15, some_crowded}
+use Rattle.writer.specs.Steps.{records_at}
+use Rattle.writer.specs.Holder.{holder_in}
+use Rattle.writer.proofs.StepLaws.{within_put, not_put}
+use Rattle.writer.proofs.PutLaws.{ended, good_here, good_on}
+use Rattle.writer.proofs.HolderLaws.{texts_on, details_on, is_put, holder_hit, holder_miss, holder_end}
+use Rattle.records.specs.Places.{starts_of}
+use Rattle.writer.specs.Spread.{spread}
+use Rattle.writer.proofs.holder.find_holder.Given as goal
+
+abbrev pub invariant-loop-i : goal.invariant-loop-i
+invariant-loop-i l = (l.i ≤ length l.s) × (l.n ≤ 5 + 400 * l.i) × (bad_sheet_line l.form l.sign l.i (pieces_at 10 l.s l.i) ≡ Fine) × (rule_15 l.form l.sign l.i (records_at l.s l.i) ≡ Fine) × (some_crowded l.form l.sign (records_at l.s l.i) ≡ false)
+    × (holder_in l.place 5 (starts_of 7 (records_at l.s 7)) (spread l.form l.sign (records_at l.s 7)) ≡ holder_in l.place l.n (starts_of l.i (records_at l.s l.i)) (spread l.form l.sign (records_at l.s l.i))) × (length l.none ≡ 1)
+
+abbrev pub decreases-loop-i : goal.decreases-loop-i
+decreases-loop-i l = length l.s - l.i

@@ -1,0 +1,28 @@
+-- `writer::purposes::put_laid` meets its contract: the text behind its front, then the lines of both. Assumes nothing.
+use Prim.Native.Nat.{◌+◌}
+use native.Mathlib.Omega.{arith}
+use lib.ListN.{length, length-take}
+use borrow.Author.Rules.{rules}
+use Rattle.writer.specs.Steps.{unfit_in}
+use Rattle.writer.proofs.StepLaws.{not_put, within_more, within_any}
+use Rattle.writer.proofs.PurposeLaws.{laid_stop, laid_over, laid_put}
+use Rattle.writer.proofs.purposes.put_laid.Goals as goal
+
+pub put_text-r-requires : goal.put_text-r-requires
+put_text-r-requires c = (c.requires.0, c.requires.1, omega (arith, c.requires))
+
+pub returns-in_default : goal.returns-in_default
+returns-in_default c = let a = c.args in let t = c.put_text-r in let n = not_put t.result c.in_default-own.keys2 in (laid_stop a.sign a.into a.o a.text.now t.ensures.0 a.out.now a.at n, within_any (a.at + 250) n t.ensures.1)
+
+pub returns-then-n-gt-ROOM : goal.returns-then-n-gt-ROOM
+returns-then-n-gt-ROOM c = let a = c.args in (laid_over a.sign a.into a.o a.text.now c.put_text-r.ensures.0 c.requires.4 c.in-Put.is a.out.now a.at c.if-n-gt-ROOM.true, unfit_in)
+
+pub slice_bounds-lay_lines-end-2 : goal.slice_bounds-lay_lines-end-2
+slice_bounds-lay_lines-end-2 c = simp length-take (omega arith)
+
+pub returns : goal.returns
+returns c = let a = c.args in
+    let p = c.requires in (
+      laid_put a.sign a.into a.o a.text.now c.put_text-r.ensures.0 p.4 c.in-Put.is (omega (arith, p, c.if-n-gt-ROOM.false)) c.lay_lines.ensures.0,
+      within_more (a.o + length a.text.now) (a.at + 250) c.lay_lines.ensures.1 (omega arith) (omega arith),
+    )
