@@ -1,8 +1,9 @@
 #![tactic(auto)]
 // Standard input and output of the programs. A read that fails is told from the end of the input; a read or a write that fails is said
 // on standard error.
-ghost use Rattle.std.specs.Prelude.{◌≤◌, length};
-ghost use Rattle.streams.specs.Input.{Held};
+ghost use Rattle.std.specs.Prelude.{◌≡◌, ◌≤◌, ◌<◌, length, take, slice_range, false};
+ghost use Rattle.std.specs.Io.KnownBytes.{Consumes, IsAtEnd};
+ghost use Rattle.streams.specs.Input.{Held, Delivered};
 
 use std::io::Read;
 
@@ -26,9 +27,12 @@ pub trait Output: Print + Eprint {}
 impl Output for HostRuntime {}
 
 // One more read, behind the first n bytes of the room.
-fn read_on(input: &mut impl Read, room: &mut [u8], n: usize) -> Reached
+fn read_on<R: Read>(input: &mut R, room: &mut [u8], n: usize) -> Reached
     requires { n ≤ length room.old }
-    ensures { (n ≤ result.bytes) × (result.bytes ≤ length room.old) }
+    ensures within { (n ≤ result.bytes) × (result.bytes ≤ length room.old) }
+    ensures kept { take n room.new ≡ take n room.old }
+    ensures delivered { Consumes (R.remaining input.old) (R.remaining input.new) (slice_range room.new n result.bytes) }
+    ensures end { result.failed ≡ false → result.bytes ≡ n → n < length room.old → IsAtEnd (R.remaining input.new) }
 {
     match input.read(&mut room[n..]) {
         Ok(got) => Reached {
@@ -42,9 +46,10 @@ fn read_on(input: &mut impl Read, room: &mut [u8], n: usize) -> Reached
     }
 }
 
-// All that a reader gives, from the first byte of the room on.
-fn fill(input: &mut impl Read, room: &mut [u8]) -> Input
-    ensures { Held result room.new }
+// What a reader gives, from the first byte of the room on.
+pub fn fill<R: Read>(input: &mut R, room: &mut [u8]) -> Input
+    ensures held { Held result room.new }
+    ensures delivered { Delivered result (R.remaining input.old) (R.remaining input.new) room.new }
 {
     let mut n = 0;
     while n < room.len() {
