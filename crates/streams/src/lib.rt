@@ -89,3 +89,6 @@ pub fn write_output(rt: &impl Output, part: &[u8]) {
         complain(rt, "standard output could not be written");
     }
 }
+
+#[cfg(test)]
+mod tests;
