@@ -184,7 +184,7 @@ def convert(path, fn, said):
                     best = (path_, arm, new)
             if best and not (f not in ("match",) and best[0] == [] and f in plain and not arms):
                 if best[2].endswith("-own"):
-                    return ".".join(["c", best[2]] + sub[len(best[0]) :])
+                    return ".".join(["c", best[1], best[2]] + sub[len(best[0]) :])
                 return ".".join(["c", best[1], best[2]] + sub[len(best[0]) :])
             if f not in plain:
                 used.append(rest[0])

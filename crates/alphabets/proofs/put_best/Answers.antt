@@ -3,25 +3,23 @@ use mathlib.Core.Path.{◌≡◌, refl, sym, subst, ◌∙◌}
 use mathlib.Core.Bool.{false}
 use mathlib.Core.List.{[], ◌∷◌}
 use borrow.Author.Tests.{not-true, not-false}
-use denote.Enum.Declared.{tag_of}
-use types.Run.{OneOf, miss}
 use Rattle.base.specs.Calls.{Answer, said, stuck, text_of}
 use Rattle.alphabets.specs.Best.{best, writes}
 use Rattle.alphabets.specs.Parts.{extent_of}
-use Rattle.alphabets.specs.declared.parts.Extent.{Extent}
-use Rattle.alphabets.specs.contracts.parts.Extent.{the_type}
+use Rattle.alphabets.specs.declared.parts.Extent.TheVariants.{Takes}
+use Prim.Native.Nat.{ℕ}
 use Rattle.alphabets.proofs.PartLaws.{none_room, miss_room, fit_room, fit_put, said_put}
 use Rattle.alphabets.proofs.WriteLaws.{Measured, measured}
 use borrow.Author.Rules.{rules}
 use Rattle.alphabets.proofs.put_best.Goals as goal
 
-no_text : (a : Answer) → OneOf (1 ∷ 2 ∷ []) (tag_of the_type (extent_of a)) → text_of a ≡ []
-no_text (said t) h = absurd (miss (1 ∷ 2 ∷ []) 0 tt h)
+no_text : (a : Answer) → ((x : ℕ) → extent_of a ≡ Takes x → ⊥) → text_of a ≡ []
+no_text (said t) h = absurd (h _ refl)
 no_text (stuck k) h = refl
 
 pub returns-in_default : goal.returns-in_default
-returns-in_default c =         let a = c.args in
-    (c.measure_desk-size.ensures, none_room a.out.now a.at _ (no_text (writes a.desk.now) (subst (λ (z : Extent). OneOf (1 ∷ 2 ∷ []) (tag_of the_type z)) c.measure_desk-size.ensures c.in_default-own.keys2)))
+returns-in_default c = let a = c.args in
+    (c.measure_desk-size.ensures, none_room a.out.now a.at _ (no_text (writes a.desk.now) (λ x q. c.in_default.not-Takes x (c.measure_desk-size.ensures ∙ q))))
 
 pub returns-then-not-fits : goal.returns-then-not-fits
 returns-then-not-fits c =

@@ -32,7 +32,7 @@ put_lines-requires-in_default-into c =
     let fit : Known c.args.into c.args.least c.args.text.now c.in-Bytes.n = known c.args.into c.args.least c.args.text.now c.in-Bytes.n (sym c.in-Bytes.is ∙ c.type_size.ensures) in
     let room : c.args.at + c.in-Bytes.n ≤ length c.args.out.now = omega (arith, c.if-out-at.false, c.if-out-at-2.false) in
             let a = c.args in
-    lay_asks a.into a.least a.text.now fit a.out.now a.at (marks_72 a.into c.in_default-into-own.keys2) c.one_less-low.ensures c.layout_numbers-s.ensures room
+    lay_asks a.into a.least a.text.now fit a.out.now a.at (marks_72 a.into c.in_default-into.in_default-into-own.keys2) c.one_less-low.ensures c.layout_numbers-s.ensures room
 
 pub returns-in-In70 : goal.returns-in-In70
 returns-in-In70 c =
@@ -47,5 +47,5 @@ returns-in_default-into c =
     let fit : Known c.args.into c.args.least c.args.text.now c.in-Bytes.n = known c.args.into c.args.least c.args.text.now c.in-Bytes.n (sym c.in-Bytes.is ∙ c.type_size.ensures) in
     let room : c.args.at + c.in-Bytes.n ≤ length c.args.out.now = omega (arith, c.if-out-at.false, c.if-out-at-2.false) in
                     let a = c.args in
-    lay_done a.into a.least a.text.now fit a.out.now a.at (marks_72 a.into c.in_default-into-own.keys2) c.one_less-low.ensures c.layout_numbers-s.ensures room
+    lay_done a.into a.least a.text.now fit a.out.now a.at (marks_72 a.into c.in_default-into.in_default-into-own.keys2) c.one_less-low.ensures c.layout_numbers-s.ensures room
     c.put_lines-in_default-into.new.out c.put_lines-in_default-into.ensures

@@ -22,7 +22,7 @@ overflow_add-n c =
     let spoke : let a = c.args in Speaking a.back.now a.latin a.part.now a.out.now c.put_run-k.new.out a.at c.loop-i.side (c.loop-i.n + (c.put_run-k.result - c.loop-i.i)) c.put_run-k.result =         let a = c.args in
     subst (λ (o : List ℕ). Speaking a.back.now a.latin a.part.now a.out.now o a.at c.loop-i.side (c.loop-i.n + (c.put_run-k.result - c.loop-i.i)) c.put_run-k.result)
     (sym c.put_run-k.ensures.1) (speaking_run c.loop-i.invariant c.put_run-k.result c.put_run-k.ensures.0) in
-    omega (arith, spoke.is.room, spoke.is.auto, c)
+    omega (arith, spoke.is.room, spoke.is.kept, c)
 
 pub shape_of-out-then-k-part : goal.shape_of-out-then-k-part
 shape_of-out-then-k-part c =

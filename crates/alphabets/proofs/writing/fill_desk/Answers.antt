@@ -27,7 +27,7 @@ pub overflow_add-n : goal.overflow_add-n
 overflow_add-n c =
     let moved : let a = c.args in (c.translate-k.result ≡ c.loop-i.i + run grid_table 1 (drop c.loop-i.i a.desk.now)) × (c.translate-k.new.out ≡ sets c.loop-i.out c.loop-i.n (through grid_table false (drop c.loop-i.i a.desk.now))) = rw c.requires.0 at c.translate-k.ensures in
     let russian : let a = c.args in Writing a.desk.now a.out.now c.translate-k.new.out a.at (c.loop-i.n + (c.translate-k.result - c.loop-i.i)) c.translate-k.result = rw moved.1 (run_step c.loop-i.invariant c.translate-k.result moved.0) in
-    omega (arith, russian.is.room, russian.is.auto, c)
+    omega (arith, russian.is.room, russian.is.kept, c)
 
 pub shape_of-out-then-k-desk : goal.shape_of-out-then-k-desk
 shape_of-out-then-k-desk c =
@@ -114,7 +114,7 @@ overflow_add-n-in-loop-i c =
     let more : c.translate-k.result < length c.args.desk.now = omega (arith, russian.long) in
     let fine : bad c.args.desk.now ≡ nowhere = c.requires.1 in
     let room : c.loop-i.n + (c.translate-k.result - c.loop-i.i) + (c.stretch_from-s.result.last - c.translate-k.result + 2) ≤ length c.translate-k.new.out = group_room russian fine more stop c.stretch_from-s.result.last c.stretch_from-s.ensures.0 in
-    omega (arith, room, russian.is.auto, c)
+    omega (arith, room, russian.is.kept, c)
 
 pub overflow_add-n-in-loop-i-2 : goal.overflow_add-n-in-loop-i-2
 overflow_add-n-in-loop-i-2 c =
@@ -125,7 +125,7 @@ overflow_add-n-in-loop-i-2 c =
     let more : c.translate-k.result < length c.args.desk.now = omega (arith, russian.long) in
     let fine : bad c.args.desk.now ≡ nowhere = c.requires.1 in
     let room : c.loop-i.n + (c.translate-k.result - c.loop-i.i) + (c.stretch_from-s.result.last - c.translate-k.result + 2) ≤ length c.translate-k.new.out = group_room russian fine more stop c.stretch_from-s.result.last c.stretch_from-s.ensures.0 in
-    omega (arith, room, russian.is.auto, c)
+    omega (arith, room, russian.is.kept, c)
 
 pub loop-i-smaller : goal.loop-i-smaller
 loop-i-smaller c =

@@ -13,6 +13,7 @@ use Rattle.base.specs.Bytes.{digit}
 use Rattle.contents.specs.Answers.{cut}
 use Rattle.contents.proofs.Laws.{kind_not, flag_on, just}
 use Rattle.contents.proofs.pieces.are_digits.Goals as goal
+use Rattle.contents.proofs.pieces.are_digits.Goals.{then-not-is_digit, else-not-is_digit}
 
 pub loop-k-init : goal.loop-k-init
 loop-k-init c = (omega arith, says_so refl)
@@ -31,9 +32,10 @@ loop-k-smaller c = omega arith
 
 pub loop-k-preserved : goal.loop-k-preserved
 loop-k-preserved c = let a = c.args in
-    ⊎_elim (λ w. (omega arith, rw w.1 (says_not (kind_not digit a.i a.s.now (c.loop-k.k + 1) c.loop-k.k (omega arith) (omega arith) (sym c.is_digit.ensures ∙ not-true _ w.0.taken)))))
-    (λ w. (omega arith, rw w.1 (flag_on digit a.i a.s.now c.loop-k.fine c.loop-k.k (omega arith) c.loop-k.invariant.1 (sym c.is_digit.ensures ∙ not-false _ w.0.left))))
-    c.if-not-is_digit.branch
+    elim c.if-not-is_digit.branch [
+      then-not-is_digit w ↦ (omega arith, rw w.fine-is (says_not (kind_not digit a.i a.s.now (c.loop-k.k + 1) c.loop-k.k (omega arith) (omega arith) (sym c.is_digit.ensures ∙ w.if-not-is_digit.true))))
+    | else-not-is_digit w ↦ (omega arith, rw w.fine-is (flag_on digit a.i a.s.now c.loop-k.fine c.loop-k.k (omega arith) c.loop-k.invariant.1 (sym c.is_digit.ensures ∙ w.if-not-is_digit.false)))
+    ]
 
 pub returns : goal.returns
 returns c = let a = c.args in let q : c.loop-k.k ≡ a.n = omega (arith, c.loop-k-test.false) in

@@ -22,4 +22,4 @@ pub returns-in-3618626 : goal.returns-in-3618626
 returns-in-3618626 c = λ e. absurd (true≢false e)
 
 pub returns-in_default : goal.returns-in_default
-returns-in_default c = let r = c.in_default-own.rest in λ e. unmarked c.args.tag r.0.0.0.0.0.1 r.0.0.0.0.1 r.0.0.0.1 r.0.0.1 r.0.1 r.1
+returns-in_default c = let r = c.in_default.in_default-own.rest in λ e. unmarked c.args.tag r.0.0.0.0.0.1 r.0.0.0.0.1 r.0.0.0.1 r.0.0.1 r.0.1 r.1

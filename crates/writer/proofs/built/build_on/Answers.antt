@@ -8,7 +8,7 @@ use borrow.Author.Rules.{rules}
 use Rattle.writer.proofs.built.build_on.Goals as goal
 
 pub returns-in_default : goal.returns-in_default
-returns-in_default c = let a = c.args in let s = a.sheet.now in let p = c.requires.0 in uncut_unfit s p.3 p.0 p.1 p.2 c.requires.1.0 (other_nowhere a.form a.sign (records_at s 7) c.in_default-own.keys2) c.requires.1.1
+returns-in_default c = let a = c.args in let s = a.sheet.now in let p = c.requires.0 in uncut_unfit s p.3 p.0 p.1 p.2 c.requires.1.0 (other_nowhere a.form a.sign (records_at s 7) c.in_default.in_default-own.keys2) c.requires.1.1
 
 pub find_cut-cutting-requires : goal.find_cut-cutting-requires
 find_cut-cutting-requires c = let s = c.args.sheet.now in let p = c.requires.0 in (p.0, seven_within s p.3, lines_103 s p.3 p.0 p.1 p.2 c.requires.1.0 c.in-Mt103.is)

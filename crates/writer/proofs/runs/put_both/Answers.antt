@@ -18,7 +18,7 @@ pub returns-in_default : goal.returns-in_default
 returns-in_default c = let a = c.args in
     let p = c.requires.0 in
     let q = c.requires.1 in
-    let r = c.put_rpp in absurd (rpp_is_put a.sign a.rest.now q.3 a.l.now q.0 q.1 p.3 r.ensures.0 (not_put r.result c.in_default-own.keys2))
+    let r = c.put_rpp in absurd (rpp_is_put a.sign a.rest.now q.3 a.l.now q.0 q.1 p.3 r.ensures.0 (not_put r.result c.in_default.in_default-own.keys2))
 
 pub put_rest-requires : goal.put_rest-requires
 put_rest-requires c = let p = c.requires.0 in (p.1, omega (arith, p, tag_behind tag_72 c.put_tag-n.ensures, within_put c.in-Put.is c.put_rpp.ensures.1))
