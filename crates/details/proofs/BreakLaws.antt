@@ -122,19 +122,19 @@ module _ (ok : ℕ → Bool) (text : List ℕ) where
       next m p (omega arith) (last_ok high (omega arith)) (lawful (omega arith) t)
 
   -- ---- where there are none, no others are lawful: with no place in (low, low + w], breaks of widths up to w don't pass it
-  cross : (low w : ℕ) {q h : ℕ} {ws es : List ℕ} → low + w < length text → last ok text (low + w) ≤ low → Lawful q h ws es → h ≤ low + w → all (no_more w) ws ≡ true → ⊥
-  cross low w k m (end p r) g u = omega arith
-  cross low w k m (next {e = e} {w = v} {ws = ws} p r s o d) g u =
-      let f = last_max (low + w) e (omega arith) o in
-      let i : v ≤ w = leb-true v w (left (leb v w) (all (no_more w) ws) u) in
-      cross low w k m d (omega arith) (right (leb v w) (all (no_more w) ws) u)
+  cross : (low w v : ℕ) {q h : ℕ} {ws es : List ℕ} → v ≡ low + w → v < length text → last ok text v ≤ low → Lawful q h ws es → h ≤ v → all (no_more w) ws ≡ true → ⊥
+  cross low w v a k m (end p r) g u = omega arith
+  cross low w v a k m (next {e = e} {w = x} {ws = ws} p r s o d) g u =
+      let f = last_max v e (omega arith) o in
+      let i : x ≤ w = leb-true x w (left (leb x w) (all (no_more w) ws) u) in
+      cross low w v a k m d (omega arith) (right (leb x w) (all (no_more w) ws) u)
 
-  refuse : {low low' w : ℕ} {ws es : List ℕ} → Stuck low (low + w) ws → Lawful low' (low' + w) ws es → low' ≤ low → Steady ok (w ∷ ws) → ⊥
-  refuse (short h) (end p q) k s = omega arith
-  refuse {low} {w = w} (shut h m) d k (free f z s) = omega (arith, last_max (low + w) (low + w) (omega arith) (f _))
-  refuse {low} {w = w} (shut h m) d k (falls u s) = cross low w h m d (omega arith) u
-  refuse (later h m t) (end p q) k s = omega arith
-  refuse {low} {w = w} (later h m t) (next {e = e} p q r o d) k s = refuse t d (last_max (low + w) e (omega arith) o) (rest s)
+  refuse : {low low' v v' w : ℕ} {ws es : List ℕ} → Stuck low v ws → Lawful low' v' ws es → v ≡ low + w → v' ≡ low' + w → low' ≤ low → Steady ok (w ∷ ws) → ⊥
+  refuse (short h) (end p q) a b k s = omega arith
+  refuse {v = v} (shut h m) d a b k (free f z s) = omega (arith, last_max v v (omega arith) (f _))
+  refuse {low} {v = v} {w = w} (shut h m) d a b k (falls u s) = cross low w v a h m d (omega arith) u
+  refuse (later h m t) (end p q) a b k s = omega arith
+  refuse {v = v} (later h m t) (next {e = e} p q r o d) a b k s = refuse t d refl refl (last_max v e (omega arith) o) (rest s)
 
   -- the first line's width doesn't matter: both begin at the same place
   pub none_fits : {low high : ℕ} {ws es : List ℕ} → Stuck low high ws → Lawful low high ws es → Steady ok ws → ⊥
@@ -142,7 +142,7 @@ module _ (ok : ℕ → Bool) (text : List ℕ) where
   none_fits (shut h m) (end p q) s = omega arith
   none_fits {high = high} (shut h m) (next {e = e} p q r o d) s = omega (arith, last_max high e q o)
   none_fits (later h m t) (end p q) s = omega arith
-  none_fits {high = high} (later h m t) (next {e = e} p q r o d) s = refuse t d (last_max high e q o) s
+  none_fits {high = high} (later h m t) (next {e = e} p q r o d) s = refuse t d refl refl (last_max high e q o) s
 
 -- where any byte may open a line, a text that is no longer breaks at the same places, as far as it goes
 module _ (ok : ℕ → Bool) (text less : List ℕ) (any : (x : ℕ) → ok x ≡ true) (k : length less ≤ length text) where

@@ -58,9 +58,7 @@ module _ (ok : ℕ → Bool) (least : ℕ) (text : List ℕ) where
     where
       go : {ws : List ℕ} {ls : List (List ℕ)} → Ours ws ls → Most ok ws ls
       go (ours {w} {ws} {es} h t) =
-          let f : 0 + w ≡ w = omega arith in
-          let t' : Took ok text (least - 1) (0 + w) ws es = rw f t in
-          most_of ok text {from = 0} t' (omega arith) h
+          most_of ok text {from = 0} t (omega arith) (omega arith) h
 
   -- so no other break saves a line
   pub none_saves : (widths : List ℕ) {ls : List (List ℕ)} → broken ok least widths text ≡ fits ls → NoBreakSaves ok least text widths ls
@@ -78,6 +76,7 @@ module _ (ok : ℕ → Bool) (least : ℕ) (text : List ℕ) where
 pub no_division : (barred : List ℕ) (least : ℕ) (text widths : List ℕ) {ls : List (List ℕ)} → steady barred (tail widths) ≡ true
     → broken (opens barred) least widths text ≡ unfit → Division (opens barred) least text widths ls → ⊥
 unfolding broken
+no_division barred least text [] {ls = ls} s e x3 = elim x3 [ ]
 no_division barred least text (w ∷ ws) s e (lines {l = l} {ls = ls} z p q m j) = go (ltb (least - 1) (length text)) refl (came (opens barred) text ws (least - 1) w) e
   where
     go : (b : Bool) {a : Fit (List ℕ)} → ltb (least - 1) (length text) ≡ b → Came (opens barred) text (least - 1) w ws a → pick b (cut_fit text a) unfit ≡ unfit → ⊥

@@ -38,7 +38,7 @@ record Step (ok : ℕ → Bool) (text : List ℕ) (a h later left : ℕ) (es : L
   further : a < last ok text h
   then : Took ok text (last ok text h) (last ok text h + later) (replicate fewer later) rest
 
-step_of : {ok : ℕ → Bool} {text es : List ℕ} {a h : ℕ} (later left : ℕ) → Took ok text a h (replicate left later) es → h < length text → Step ok text a h later left es
+step_of : {ok : ℕ → Bool} {text : List ℕ} {a h : ℕ} {es : List ℕ} (later left : ℕ) → Took ok text a h (replicate left later) es → h < length text → Step ok text a h later left es
 step_of later zero (done k) l = absurd (omega arith)
 step_of later (suc m) (done k) l = absurd (omega arith)
 step_of later (suc m) (goes k p t) l = record { rest = _; fewer = m; one = refl; is = refl; further = p; then = t }

@@ -44,14 +44,14 @@ module _ (ok : ℕ → Bool) (text : List ℕ) where
       (breaks_of_lem t (pre ++ (x ∷ l)) e (e + w) (e + suc (length l)) (length-append pre (x ∷ l) ∙ rw f) (append_assoc pre (x ∷ l) (together ls) ∙ g) (omega arith) (omega arith))
 
   -- ---- from breaks to lines
-  later_of : {e w : ℕ} {ws es : List ℕ} → e < length text → ok (byte text e) ≡ true → Lawful ok text e (e + w) ws es → Later ok (w ∷ ws) (line_pieces text e es)
-  later_of {e} {w} h o (end p q) =
+  later_of : {e v w : ℕ} {ws es : List ℕ} → e < length text → ok (byte text e) ≡ true → Lawful ok text e v ws es → v ≡ e + w → Later ok (w ∷ ws) (line_pieces text e es)
+  later_of {e} {w = w} h o (end p q) a =
       let f : suc (length (drop (suc e) text)) ≤ w = simp length-drop (omega arith) in
       rw (drop-cons text e 0 h) (line f o none)
-  later_of {e} {w} h o (next {e = t} p q r o' d) =
+  later_of {e} {w = w} h o (next {e = t} p q r o' d) a =
       let k : t ≤ length text = omega arith in
       let f : suc (length (part (suc e) t text)) ≤ w = omega (arith, length_part (suc e) t text k) in
-      rw (part_cons e t text p k) (line f o (later_of r o' d))
+      rw (part_cons e t text p k) (line f o (later_of r o' d refl))
 
   joins : {low high from : ℕ} {ws es : List ℕ} → Lawful ok text low high ws es → from ≤ low → together (line_pieces text from es) ≡ drop from text
   joins (end p q) h = append-nil _
@@ -62,18 +62,18 @@ module _ (ok : ℕ → Bool) (text : List ℕ) where
   division_of {least} {w} (next {e = e} p q r o d) =
       let k : e ≤ length text = omega arith in
       let m : length (part 0 e text) ≡ e = omega (arith, length_part 0 e text k) in
-      lines {w = w} {l = part 0 e text} (omega arith) (omega arith) (rw m q) (later_of r o d) (rw (joins {from = e} d (omega arith)) (part_drop 0 e text (omega arith)))
+      lines {w = w} {l = part 0 e text} (omega arith) (omega arith) (rw m q) (later_of r o d refl) (rw (joins {from = e} d (omega arith)) (part_drop 0 e text (omega arith)))
 
   -- ---- from the way the breaks came about to the most
-  pub most_of : {low from w : ℕ} {ws es : List ℕ} → Took ok text low (from + w) ws es → from ≤ low → low < length text → Most ok (w ∷ ws) (line_pieces text from es)
-  most_of (done k) h i = rest
-  most_of {low} {from} {w} (goes {es = es} k m t) h i =
-      let e : ℕ = last ok text (from + w) in
-      let p = last_le ok text (from + w) in
+  pub most_of : {low from v w : ℕ} {ws es : List ℕ} → Took ok text low v ws es → v ≡ from + w → from ≤ low → low < length text → Most ok (w ∷ ws) (line_pieces text from es)
+  most_of (done k) a' h i = rest
+  most_of {low} {from} {v} {w} (goes {es = es} k m t) a' h i =
+      let e : ℕ = last ok text v in
+      let p = last_le ok text v in
       let j : together (line_pieces text from (e ∷ es)) ≡ drop from text = joins {from = from} (lawful ok text i (goes k m t)) h in
       let n : length (part from e text) ≡ e - from = length_part from e text (omega arith) in
       let a : w < length (together (line_pieces text from (e ∷ es))) = rw j (simp length-drop (omega arith)) in
       let b : (d : ℕ) → d ≤ w → ok (byte (together (line_pieces text from (e ∷ es))) d) ≡ true → d ≤ length (part from e text) =
       λ d g o. let o' : ok (byte text (from + d)) ≡ true = ap ok (sym (ap (λ (l : List ℕ). byte l d) j ∙ get_or-drop from text d 0)) ∙ o in
-      let z = last_max ok text (from + w) (from + d) (omega arith) o' in omega arith in
-      full a b (most_of t (omega arith) (omega arith))
+      let z = last_max ok text v (from + d) (omega arith) o' in omega arith in
+      full a b (most_of t refl (omega arith) (omega arith))

@@ -37,7 +37,7 @@ fn text_size(c: &[u8], from: usize, front: usize, mark: usize) -> usize
 
 // The text of 72 from its /NZP/ line on, at a place, and what stands in 70.
 fn over_from(in70: &[u8], in72: &[u8], at: usize) -> Spot
-    ensures { result ≡ over_from (size_70 (lines_in in_70.now)) at (lines_in (drop at in_72.now)) }
+    ensures { result ≡ over_from (size_70 (lines_in in70.now)) at (lines_in (drop at in72.now)) }
 {
     let n = text_size(in70, 0, 0, 0) + text_size(in72, at, NZP, LATER);
     if n <= MOST {
@@ -48,7 +48,7 @@ fn over_from(in70: &[u8], in72: &[u8], at: usize) -> Spot
 
 // Whether the details in the contents of a 70 and a 72 are too many: where /NZP/ stands in 72 if they are.
 pub fn over_most(in70: &[u8], in72: &[u8]) -> Spot
-    ensures { result ≡ over_most (size_70 (lines_in in_70.now)) (lines_in in_72.now) }
+    ensures { result ≡ over_most (size_70 (lines_in in70.now)) (lines_in in72.now) }
 {
     let e = mark_at(b'\r', in72, 0);
     if !opens_rpp(&in72[..e]) {

@@ -15,6 +15,7 @@ use Rattle.message.proofs.FactLaws.{nothing_found}
 use Rattle.message.proofs.LoopLaws.{none_found, plain_found, some_found, not_right, is_right, found_small, finds_are, wrong_here, right_on, field_on}
 use Rattle.message.proofs.FieldLaws.{walk_start, walk_end}
 use Rattle.message.proofs.facts.read_fields.Goals as goal
+use Rattle.message.proofs.facts.read_fields.Goals.{in-Plain, in-Has}
 
 pub loop-k-init : goal.loop-k-init
 loop-k-init c =         let a = c.args in (
@@ -52,16 +53,18 @@ pub loop-k-smaller : goal.loop-k-smaller
 loop-k-smaller c = omega (arith, c.loop-k-test.true)
 
 pub loop-k-preserved : goal.loop-k-preserved
-loop-k-preserved c =             let h = c.field_at-p.ensures in
+loop-k-preserved c =
+    let h = c.field_at-p.ensures in
     let g = c.mark-g.ensures in
-        let a = c.args in
-    let i = c.held_by.ensures in (
+    let a = c.args in
+    let i = c.held_by.ensures in
+    let right = is_right h a.form a.sign i (elim c.match-found_in.branch [ in-Plain w ↦ (plain_found _ _ _ c.found_in.ensures w.in-Plain.is).0 | in-Has w ↦ (some_found _ _ _ c.found_in.ensures w.in-Has.is).0 ]) in (
       omega (arith, c.loop-k-test.true),
-      c.loop-k.invariant.1 ∙ right_on h a.form a.sign (is_right h a.form a.sign i
-          (⊎_elim (λ w. (plain_found _ _ _ c.found_in.ensures w.1.given.1).0) (λ w. (some_found _ _ _ c.found_in.ensures w.1.given.1).0) c.match-found_in.branch)),
-      c.loop-k.invariant.2
-          ∙ ⊎_elim (λ w. field_on h a.form _ (finds_are h a.form a.sign i (plain_found _ _ _ c.found_in.ensures w.1.given.1).1) g (w.2 ∙ nothing_found _ _ _ refl))
-          (λ w. field_on h a.form _ (finds_are h a.form a.sign i (some_found _ _ _ c.found_in.ensures w.1.given.1).1) g (w.4 ∙ w.3.ensures)) c.match-found_in.branch,
+      c.loop-k.invariant.1 ∙ right_on h a.form a.sign right,
+      c.loop-k.invariant.2 ∙ elim c.match-found_in.branch [
+        in-Plain w ↦ field_on h a.form _ (finds_are h a.form a.sign i (plain_found _ _ _ c.found_in.ensures w.in-Plain.is).1) g (w.f-is ∙ nothing_found _ _ _ refl)
+      | in-Has w ↦ field_on h a.form _ (finds_are h a.form a.sign i (some_found _ _ _ c.found_in.ensures w.in-Has.is).1) g (w.f-is ∙ w.note-f.ensures)
+      ],
     )
 
 pub returns : goal.returns

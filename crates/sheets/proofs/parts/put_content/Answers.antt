@@ -1,4 +1,5 @@
 -- `sheets::parts::put_content` meets its contract: by the shape. Assumes nothing.
+use borrow.Enum.Refused.{opened}
 use native.Mathlib.Omega.{arith}
 use mathlib.Core.Path.{ap}
 use lib.ListN.{length}
@@ -25,4 +26,4 @@ unfolding content_by
 returns-in-Note202 c = let a = c.args in let p = c.put_note.ensures in (omega (arith, p.0), shape_put a.back.now a.sign (rest_text a.back.now a.sign (lines_in a.rest.now)) a.c.now c.in-Note202.is p.1)
 
 pub returns-in_default : goal.returns-in_default
-returns-in_default c = let a = c.args in let p = c.put_lines.ensures in (omega (arith, p.0), lines_put a.back.now a.sign (rest_text a.back.now a.sign (lines_in a.rest.now)) a.c.now a.shape c.in_default.in_default-own.keys4 c.first_role.ensures p.1)
+returns-in_default c = let a = c.args in let p = c.put_lines.ensures in (omega (arith, p.0), lines_put a.back.now a.sign (rest_text a.back.now a.sign (lines_in a.rest.now)) a.c.now a.shape (opened c.in_default.in_default-own.keys4) c.first_role.ensures p.1)

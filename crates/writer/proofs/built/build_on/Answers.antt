@@ -1,4 +1,5 @@
 -- `writer::built::build_on` meets its contract: another type, no cut, or the message with both halves. Assumes nothing.
+use borrow.Enum.Refused.{opened}
 use mathlib.Core.Path.{sym, ◌∙◌}
 use native.Mathlib.Omega.{arith}
 use Rattle.writer.specs.Steps.{records_at}
@@ -8,42 +9,42 @@ use borrow.Author.Rules.{rules}
 use Rattle.writer.proofs.built.build_on.Goals as goal
 
 pub returns-in_default : goal.returns-in_default
-returns-in_default c = let a = c.args in let s = a.sheet.now in let p = c.requires.0 in uncut_unfit s p.3 p.0 p.1 p.2 c.requires.1.0 (other_nowhere a.form a.sign (records_at s 7) c.in_default.in_default-own.keys2) c.requires.1.1
+returns-in_default c = let a = c.args in let s = a.sheet.now in let p = c.requires.sheet_len_bound in uncut_unfit s p.3 p.0 p.1 p.2 c.requires.sheet_value.0 (other_nowhere a.form a.sign (records_at s 7) (opened c.in_default.in_default-own.keys2)) c.requires.sheet_value.1
 
 pub find_cut-cutting-requires : goal.find_cut-cutting-requires
-find_cut-cutting-requires c = let s = c.args.sheet.now in let p = c.requires.0 in (p.0, seven_within s p.3, lines_103 s p.3 p.0 p.1 p.2 c.requires.1.0 c.in-Mt103.is)
+find_cut-cutting-requires c = let s = c.args.sheet.now in let p = c.requires.sheet_len_bound in (p.0, seven_within s p.3, lines_103 s p.3 p.0 p.1 p.2 c.requires.sheet_value.0 c.in-Mt103.is)
 
 pub returns-in_default-cutting : goal.returns-in_default-cutting
-returns-in_default-cutting c = let s = c.args.sheet.now in let p = c.requires.0 in unfit_103 s p.3 p.0 p.1 p.2 c.requires.1.0 c.in-Mt103.is c.find_cut-cutting.ensures c.in_default-cutting.is c.requires.1.1
+returns-in_default-cutting c = let s = c.args.sheet.now in let p = c.requires.sheet_len_bound in unfit_103 s p.3 p.0 p.1 p.2 c.requires.sheet_value.0 c.in-Mt103.is c.find_cut-cutting.ensures c.in_default-cutting.is c.requires.sheet_value.1
 
 pub slice_bounds-put_run-count : goal.slice_bounds-put_run-count
-slice_bounds-put_run-count c = let p = c.requires.0 in (cut_103 c.args.sheet.now p.3 p.0 p.1 p.2 c.requires.1.0 c.in-Mt103.is c.find_cut-cutting.ensures c.in-At.is).known.first
+slice_bounds-put_run-count c = let p = c.requires.sheet_len_bound in (cut_103 c.args.sheet.now p.3 p.0 p.1 p.2 c.requires.sheet_value.0 c.in-Mt103.is c.find_cut-cutting.ensures c.in-At.is).known.first
 
 pub slice_bounds-put_run-start : goal.slice_bounds-put_run-start
-slice_bounds-put_run-start c = let p = c.requires.0 in (cut_103 c.args.sheet.now p.3 p.0 p.1 p.2 c.requires.1.0 c.in-Mt103.is c.find_cut-cutting.ensures c.in-At.is).known.first
+slice_bounds-put_run-start c = let p = c.requires.sheet_len_bound in (cut_103 c.args.sheet.now p.3 p.0 p.1 p.2 c.requires.sheet_value.0 c.in-Mt103.is c.find_cut-cutting.ensures c.in-At.is).known.first
 
 pub slice_bounds-put_run-end : goal.slice_bounds-put_run-end
-slice_bounds-put_run-end c = let p = c.requires.0 in let k = (cut_103 c.args.sheet.now p.3 p.0 p.1 p.2 c.requires.1.0 c.in-Mt103.is c.find_cut-cutting.ensures c.in-At.is).known in omega (arith, k.second, k.inside)
+slice_bounds-put_run-end c = let p = c.requires.sheet_len_bound in let k = (cut_103 c.args.sheet.now p.3 p.0 p.1 p.2 c.requires.sheet_value.0 c.in-Mt103.is c.find_cut-cutting.ensures c.in-At.is).known in omega (arith, k.second, k.inside)
 
 pub slice_bounds-put_run-count-2 : goal.slice_bounds-put_run-count-2
-slice_bounds-put_run-count-2 c = let p = c.requires.0 in (cut_103 c.args.sheet.now p.3 p.0 p.1 p.2 c.requires.1.0 c.in-Mt103.is c.find_cut-cutting.ensures c.in-At.is).known.second
+slice_bounds-put_run-count-2 c = let p = c.requires.sheet_len_bound in (cut_103 c.args.sheet.now p.3 p.0 p.1 p.2 c.requires.sheet_value.0 c.in-Mt103.is c.find_cut-cutting.ensures c.in-At.is).known.second
 
 pub slice_bounds-put_run-start-2 : goal.slice_bounds-put_run-start-2
-slice_bounds-put_run-start-2 c = let p = c.requires.0 in (cut_103 c.args.sheet.now p.3 p.0 p.1 p.2 c.requires.1.0 c.in-Mt103.is c.find_cut-cutting.ensures c.in-At.is).known.second
+slice_bounds-put_run-start-2 c = let p = c.requires.sheet_len_bound in (cut_103 c.args.sheet.now p.3 p.0 p.1 p.2 c.requires.sheet_value.0 c.in-Mt103.is c.find_cut-cutting.ensures c.in-At.is).known.second
 
 pub slice_bounds-put_run-end-2 : goal.slice_bounds-put_run-end-2
-slice_bounds-put_run-end-2 c = let p = c.requires.0 in (cut_103 c.args.sheet.now p.3 p.0 p.1 p.2 c.requires.1.0 c.in-Mt103.is c.find_cut-cutting.ensures c.in-At.is).known.inside
+slice_bounds-put_run-end-2 c = let p = c.requires.sheet_len_bound in (cut_103 c.args.sheet.now p.3 p.0 p.1 p.2 c.requires.sheet_value.0 c.in-Mt103.is c.find_cut-cutting.ensures c.in-At.is).known.inside
 
 pub put_run-run-requires : goal.put_run-run-requires
 put_run-run-requires c = let s = c.args.sheet.now in
-    let p = c.requires.0 in
-    let k = (cut_103 s p.3 p.0 p.1 p.2 c.requires.1.0 c.in-Mt103.is c.find_cut-cutting.ensures c.in-At.is).known in (
-      (p.0, seven_within s p.3, lines_103 s p.3 p.0 p.1 p.2 c.requires.1.0 c.in-Mt103.is),
+    let p = c.requires.sheet_len_bound in
+    let k = (cut_103 s p.3 p.0 p.1 p.2 c.requires.sheet_value.0 c.in-Mt103.is c.find_cut-cutting.ensures c.in-At.is).known in (
+      (p.0, seven_within s p.3, lines_103 s p.3 p.0 p.1 p.2 c.requires.sheet_value.0 c.in-Mt103.is),
       (k.halves, k.each, k.fits),
     )
 
 pub returns : goal.returns
 returns c = let s = c.args.sheet.now in
-    let p = c.requires.0 in
-    let k = cut_103 s p.3 p.0 p.1 p.2 c.requires.1.0 c.in-Mt103.is c.find_cut-cutting.ensures c.in-At.is in
-    whole_103 s p.3 p.0 p.1 p.2 c.requires.1.0 c.in-Mt103.is (sym c.in-At.is ∙ c.find_cut-cutting.ensures) k c.put_run-run.ensures.0
+    let p = c.requires.sheet_len_bound in
+    let k = cut_103 s p.3 p.0 p.1 p.2 c.requires.sheet_value.0 c.in-Mt103.is c.find_cut-cutting.ensures c.in-At.is in
+    whole_103 s p.3 p.0 p.1 p.2 c.requires.sheet_value.0 c.in-Mt103.is (sym c.in-At.is ∙ c.find_cut-cutting.ensures) k c.put_run-run.ensures.0

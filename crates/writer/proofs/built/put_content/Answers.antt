@@ -1,4 +1,5 @@
 -- `writer::built::put_content` meets its contract: by the shape. Assumes nothing.
+use borrow.Enum.Refused.{opened}
 use Prim.Native.Nat.{◌+◌, ◌*◌}
 use native.Mathlib.Omega.{arith}
 use lib.ListN.{length}
@@ -34,4 +35,4 @@ pub returns-in-Note202 : goal.returns-in-Note202
 returns-in-Note202 c = let a = c.args in (content_note a.sign a.i (pieces_at 9 a.l.now a.i) c.in-Note202.is c.put_note.ensures.0, within_more (length a.l.now) (a.at + 4 * length a.l.now + 300) c.put_note.ensures.1 (omega arith) (omega arith))
 
 pub returns-in_default : goal.returns-in_default
-returns-in_default c = let a = c.args in (content_parts_lem a.sign a.i (pieces_at 9 a.l.now a.i) a.shape c.in_default.in_default-own.keys4 c.first_role.ensures c.put_parts.ensures.0, within_more (length a.l.now) (a.at + 4 * length a.l.now + 300) c.put_parts.ensures.1 (omega arith) (omega arith))
+returns-in_default c = let a = c.args in (content_parts_lem a.sign a.i (pieces_at 9 a.l.now a.i) a.shape (opened c.in_default.in_default-own.keys4) c.first_role.ensures c.put_parts.ensures.0, within_more (length a.l.now) (a.at + 4 * length a.l.now + 300) c.put_parts.ensures.1 (omega arith) (omega arith))

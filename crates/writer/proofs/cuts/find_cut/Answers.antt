@@ -1,4 +1,5 @@
 -- `writer::cuts::find_cut` meets its contract: not one 70, two 72, a text too long, no cut, or the cut. Assumes nothing.
+use borrow.Enum.Refused.{opened}
 use native.Mathlib.Omega.{arith}
 use Rattle.records.proofs.PieceLaws.{piece_length}
 use Rattle.writer.proofs.SeenLaws.{not_one, too_many, the_70, is_the_70, too_long, none_there, cut_there, cut_few}
@@ -33,7 +34,7 @@ run_of-requires c = let s = c.args.s.now in
     )
 
 pub returns-in_default : goal.returns-in_default
-returns-in_default c = none_there c.args.s.now c.args.sign c.requires.1 c.requires.2 c.see_all-seen.ensures c.if-seen-ne1.false c.if-seen-gt1.false c.mark_at-e.result c.mark_at-e.ensures c.run_of.ensures c.in_default.in_default-own.keys2
+returns-in_default c = none_there c.args.s.now c.args.sign c.requires.1 c.requires.2 c.see_all-seen.ensures c.if-seen-ne1.false c.if-seen-gt1.false c.mark_at-e.result c.mark_at-e.ensures c.run_of.ensures (opened c.in_default.in_default-own.keys2)
 
 pub overflow_add-result : goal.overflow_add-result
 overflow_add-result c = let w = the_70 c.args.s.now c.args.sign c.requires.1 c.requires.2 c.see_all-seen.ensures c.if-seen-ne1.false c.if-seen-gt1.false c.mark_at-e.result c.mark_at-e.ensures in omega (arith, w.inside, w.ends, c.requires, cut_few c.args.s.now c.args.sign c.requires.1 c.requires.2 c.see_all-seen.ensures c.if-seen-ne1.false c.if-seen-gt1.false c.mark_at-e.result c.mark_at-e.ensures c.run_of.ensures c.in-Cut.k c.in-Cut.is)

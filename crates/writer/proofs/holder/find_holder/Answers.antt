@@ -1,4 +1,5 @@
 -- `writer::holder::find_holder` meets its contract: from each record on as from the second. Assumes nothing.
+use borrow.Enum.Refused.{opened}
 use Prim.Native.Nat.{◌+◌, ◌*◌, ◌-◌, ◌≤◌}
 use mathlib.Core.Path.{◌≡◌, refl, sym, ◌∙◌}
 use mathlib.Core.Bool.{false}
@@ -48,7 +49,7 @@ put_record-requires c =
 
 pub returns-in_default : goal.returns-in_default
 returns-in_default c = let a = c.args in let v = c.loop-i.invariant in
-    absurd (is_put a.form a.sign a.s.now c.loop-i.i c.mark_at-e.result v.0 c.mark_at-e.ensures c.loop-i-test.true v.2 v.3 v.4 c.put_record.ensures.0 (not_put c.put_record.result c.in_default.in_default-own.keys2))
+    absurd (is_put a.form a.sign a.s.now c.loop-i.i c.mark_at-e.result v.0 c.mark_at-e.ensures c.loop-i-test.true v.2 v.3 v.4 c.put_record.ensures.0 (not_put c.put_record.result (opened c.in_default.in_default-own.keys2)))
 
 pub returns-then-is_between : goal.returns-then-is_between
 returns-then-is_between c = let a = c.args in let v = c.loop-i.invariant in

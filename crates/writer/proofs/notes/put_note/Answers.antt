@@ -1,4 +1,5 @@
 -- `writer::notes::put_note` meets its contract: with an RPP line, and without. Assumes nothing.
+use borrow.Enum.Refused.{opened}
 use Prim.Native.Nat.{◌+◌, ◌*◌}
 use native.Mathlib.Omega.{arith}
 use lib.ListN.{length}
@@ -29,7 +30,7 @@ put_rpp-r-requires c =     let a = c.args in
 pub returns-in_default : goal.returns-in_default
 returns-in_default c =         let a = c.args in
         let r = c.put_rpp-r in (
-      note_stop a.sign a.l.now a.i c.mark_at-e.result c.mark_at-e.ensures c.requires.2 c.if-e-i.false r.result (not_put r.result c.in_default.in_default-own.keys2) r.ensures.0,
+      note_stop a.sign a.l.now a.i c.mark_at-e.result c.mark_at-e.ensures c.requires.2 c.if-e-i.false r.result (not_put r.result (opened c.in_default.in_default-own.keys2)) r.ensures.0,
       within_more (length a.l.now) (a.at + 4 * length a.l.now + 300) r.ensures.1 (omega arith) (omega arith),
     )
 

@@ -1,4 +1,5 @@
 -- `writer::parts::put_parts` meets its contract: from each part on as from the first. Assumes nothing.
+use borrow.Enum.Refused.{opened}
 use Prim.Native.Nat.{◌+◌, ◌-◌, ◌*◌, ◌≤◌}
 use mathlib.Core.Path.{◌≡◌, refl}
 use mathlib.Core.List.{map}
@@ -44,7 +45,7 @@ returns-in_default c =
     let within : (c.loop-i.i ≤ c.mark_at-e.result) × (c.mark_at-e.result ≤ length c.args.l.now) = let a = c.args in (omega (arith, c.mark_at-e.ensures), end_within 9 a.l.now c.loop-i.i c.mark_at-e.result c.loop-i-test.true c.mark_at-e.ensures) in
     let sized : length (take (c.mark_at-e.result - c.loop-i.i) (drop c.loop-i.i c.args.l.now)) ≡ c.mark_at-e.result - c.loop-i.i = piece_length c.args.l.now c.loop-i.i c.mark_at-e.result within.0 within.1 in
                 let a = c.args in
-            let n = not_put c.put_line-r.result c.in_default.in_default-own.keys2 in (
+            let n = not_put c.put_line-r.result (opened c.in_default.in_default-own.keys2) in (
       parts_stop a.sign c.loop-i.role a.l.now c.loop-i.i c.mark_at-e.result c.loop-i-test.true c.mark_at-e.ensures c.is_spoken-spoken.ensures c.put_line-r.ensures.0 c.loop-i.invariant.4 n,
       within_more (length a.l.now) (a.at + 4 * length a.l.now + 4) (within_any (a.at + 4 * length a.l.now + 4) n c.put_line-r.ensures.1) (omega (arith, sized, within)) (omega arith),
     )

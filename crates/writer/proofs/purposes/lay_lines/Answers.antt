@@ -9,13 +9,13 @@ use borrow.Author.Rules.{rules}
 use Rattle.writer.proofs.purposes.lay_lines.Goals as goal
 
 pub returns-in_default : goal.returns-in_default
-returns-in_default c = let a = c.args in (lines_unfit a.into a.least a.text.now a.out.now a.at (sym c.in_default.is ∙ c.type_size.ensures), unfit_in)
+returns-in_default c = let a = c.args in (lines_unfit a.into a.least a.text.now a.out.now a.at (sym c.in_default.is ∙ c.size_of-size.ensures), unfit_in)
 
 pub overflow_add-at : goal.overflow_add-at
-overflow_add-at c = let a = c.args in omega (arith, laid_few a.into a.least a.text.now c.in-Bytes.n (sym c.in-Bytes.is ∙ c.type_size.ensures), c.requires)
+overflow_add-at c = let a = c.args in omega (arith, laid_few a.into a.least a.text.now c.in-Bytes.n (sym c.in-Bytes.is ∙ c.size_of-size.ensures), c.requires)
 
 pub overflow_add-result-2 : goal.overflow_add-result-2
-overflow_add-result-2 c = let a = c.args in omega (arith, laid_few a.into a.least a.text.now c.in-Bytes.n (sym c.in-Bytes.is ∙ c.type_size.ensures), c.requires)
+overflow_add-result-2 c = let a = c.args in omega (arith, laid_few a.into a.least a.text.now c.in-Bytes.n (sym c.in-Bytes.is ∙ c.size_of-size.ensures), c.requires)
 
 pub returns : goal.returns
-returns c = let a = c.args in let n = c.in-Bytes.n in let e = sym c.in-Bytes.is ∙ c.type_size.ensures in (lines_put a.into a.least a.text.now n e c.lay.ensures c.put.ensures, in_put _ 0 (a.at + 250) (omega (arith, laid_few a.into a.least a.text.now n e)))
+returns c = let a = c.args in let n = c.in-Bytes.n in let e = sym c.in-Bytes.is ∙ c.size_of-size.ensures in (lines_put a.into a.least a.text.now n e c.lay.ensures c.put.ensures, in_put _ 0 (a.at + 250) (omega (arith, laid_few a.into a.least a.text.now n e)))

@@ -1,4 +1,5 @@
 -- `writer::purposes::put_laid` meets its contract: the text behind its front, then the lines of both. Assumes nothing.
+use borrow.Enum.Refused.{opened}
 use Prim.Native.Nat.{◌+◌}
 use native.Mathlib.Omega.{arith}
 use lib.ListN.{length, length-take}
@@ -12,7 +13,7 @@ pub put_text-r-requires : goal.put_text-r-requires
 put_text-r-requires c = (c.requires.0, c.requires.1, omega (arith, c.requires))
 
 pub returns-in_default : goal.returns-in_default
-returns-in_default c = let a = c.args in let t = c.put_text-r in let n = not_put t.result c.in_default.in_default-own.keys2 in (laid_stop a.sign a.into a.o a.text.now t.ensures.0 a.out.now a.at n, within_any (a.at + 250) n t.ensures.1)
+returns-in_default c = let a = c.args in let t = c.put_text-r in let n = not_put t.result (opened c.in_default.in_default-own.keys2) in (laid_stop a.sign a.into a.o a.text.now t.ensures.0 a.out.now a.at n, within_any (a.at + 250) n t.ensures.1)
 
 pub returns-then-n-gt-ROOM : goal.returns-then-n-gt-ROOM
 returns-then-n-gt-ROOM c = let a = c.args in (laid_over a.sign a.into a.o a.text.now c.put_text-r.ensures.0 c.requires.4 c.in-Put.is a.out.now a.at c.if-n-gt-ROOM.true, unfit_in)

@@ -22,7 +22,7 @@ use Rattle.writer.proofs.RunLaws.{LeftOn, all_on, still_new_lem, left_on, left_e
 use Rattle.writer.proofs.runs.put_run.Goals as goal
 
 pub loop-i-init : goal.loop-i-init
-loop-i-init c = let p = c.requires.0 in let h = c.requires.1 in (refl, p.1, omega arith, p.2, h.1, h.2, (λ c after d. d))
+loop-i-init c = let p = c.requires.s_len_bound in let h = c.requires.halves in (refl, p.1, omega arith, p.2, h.1, h.2, (λ c after d. d))
 
 pub put_next-run-requires : goal.put_next-run-requires
 put_next-run-requires c =
@@ -32,10 +32,10 @@ put_next-run-requires c =
     let i = c.loop-i.i in
     let e = c.mark_at-e.result in
     let m = c.mark_at-e.ensures in (
-      c.requires.0.0,
+      c.requires.s_len_bound.0,
       (omega (arith, within.1), m),
-      omega (arith, v, c.requires.0),
-      c.requires.1.0,
+      omega (arith, v, c.requires.s_len_bound),
+      c.requires.halves.0,
       (all_on a.sign a.s.now i e v.1 m c.loop-i-test.true v.3 (Here a.sign a.half.now a.rest.now) v.4).0,
       v.5,
     )
@@ -43,7 +43,7 @@ put_next-run-requires c =
 pub overflow_add-i : goal.overflow_add-i
 overflow_add-i c =
     let within : (c.loop-i.i ≤ c.mark_at-e.result) × (c.mark_at-e.result + 1 ≤ length c.args.s.now) = let v = c.loop-i.invariant in (omega (arith, c.mark_at-e.ensures), omega (arith, ended Mt103 c.args.sign c.args.s.now c.loop-i.i c.mark_at-e.result v.1 c.mark_at-e.ensures c.loop-i-test.true v.3)) in
-    omega (arith, c.mark_at-e.ensures, c.requires.0, within)
+    omega (arith, c.mark_at-e.ensures, c.requires.s_len_bound, within)
 
 pub loop-i-smaller : goal.loop-i-smaller
 loop-i-smaller c =
@@ -70,10 +70,10 @@ loop-i-preserved c =
     )
 
 pub put_last-last-requires : goal.put_last-last-requires
-put_last-last-requires c = let v = c.loop-i.invariant in (c.requires.1.0.short, omega (arith, v, c.requires.0), v.5, c.requires.1.0.spelt)
+put_last-last-requires c = let v = c.loop-i.invariant in (c.requires.halves.0.short, omega (arith, v, c.requires.s_len_bound), v.5, c.requires.halves.0.spelt)
 
 pub overflow_add-result : goal.overflow_add-result
-overflow_add-result c = omega (arith, c.loop-i.invariant, c.put_last-last.ensures.1, c.requires.0)
+overflow_add-result c = omega (arith, c.loop-i.invariant, c.put_last-last.ensures.1, c.requires.s_len_bound)
 
 pub returns : goal.returns
 returns c = let v = c.loop-i.invariant in

@@ -1,4 +1,5 @@
 -- `writer::texts::put_line` meets its contract: the text and CR LF, or where it stops. Assumes nothing.
+use borrow.Enum.Refused.{opened}
 use Prim.Native.Nat.{◌+◌, ◌*◌}
 use native.Mathlib.Omega.{arith}
 use lib.ListN.{length}
@@ -12,7 +13,7 @@ use Rattle.writer.proofs.texts.put_line.Goals as goal
 pub returns-in_default : goal.returns-in_default
 returns-in_default c =     let a = c.args in
     let t = c.put_text-r in (
-      adds_stop (stopped_at a.o (writing a.sign a.p.now)) (text_of (writing a.sign a.p.now)) t.result (not_put t.result c.in_default.in_default-own.keys2) t.ensures.0,
+      adds_stop (stopped_at a.o (writing a.sign a.p.now)) (text_of (writing a.sign a.p.now)) t.result (not_put t.result (opened c.in_default.in_default-own.keys2)) t.ensures.0,
       within_more (a.o + length a.p.now) (a.at + 4 * length a.p.now + 2) t.ensures.1 (omega arith) (omega arith),
     )
 
