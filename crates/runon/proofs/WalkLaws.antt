@@ -107,7 +107,7 @@ at_13 t e = at_place t tag_77B 13 (omega (arith, has_14)) refl e
 -- ---- 72 goes
 goes_join : (two : List ℕ) {next : ℕ} (fs : List Record) → Goes ps next fs → Goes ps next (join_as two fs)
 goes_join two [] g = g
-goes_join two {next} (field t xs ∷ fs) (seat s g) = go (same t tag_70) (same t tag_72) (empty (first_line xs)) refl (goes_join two fs g)
+goes_join two {next} (field t xs ∷ fs) (seat s g) = go (same t tag_70) (same t tag_72) (empty (first_line xs)) refl (goes_join two {next = suc (find ps t)} fs g)
   where
     go : (a b c : Bool) → same t tag_72 ≡ b → Goes ps (suc (find ps t)) (join_as two fs)
         → Goes ps next (pick a (field t (first_line xs ∷ (second_part xs ++ two) ∷ []) ∷ join_as two fs) (pick b (pick c (join_as two fs) (field t (first_line xs ∷ []) ∷ join_as two fs)) (field t xs ∷ join_as two fs)))
@@ -138,11 +138,11 @@ module _ (one two : List ℕ) where
 
   goes_old : {next : ℕ} (fs : List Record) → Goes ps next fs → Goes ps next (run_as false one two fs)
   goes_old [] g = g
-  goes_old (field t xs ∷ fs) (seat s g) = goes_halved t xs s (goes_old fs g)
+  goes_old {next = next} (field t xs ∷ fs) (seat s g) = goes_halved t xs s (goes_old {next = suc (find ps t)} fs g)
 
   goes_new : {next : ℕ} (fs : List Record) → Goes ps next fs → how_many tag_72 fs ≡ 0 → next ≤ 12 → Goes ps next (run_as true one two fs)
   goes_new [] (over n) e h = new_seat two (seat_72 h (omega (arith, has_14)) n) (over none_behind)
-  goes_new {next} (field t xs ∷ fs) (seat s g) e h = go (same t tag_77B) (same t tag_72) refl refl e (goes_old fs g) (goes_new fs g)
+  goes_new {next} (field t xs ∷ fs) (seat s g) e h = go (same t tag_77B) (same t tag_72) refl refl e (goes_old fs g) (goes_new {next = suc (find ps t)} fs g)
     where
       go : (a b : Bool) → same t tag_77B ≡ a → same t tag_72 ≡ b → pick b (suc (how_many tag_72 fs)) (how_many tag_72 fs) ≡ 0 → Goes ps (suc (find ps t)) (run_as false one two fs)
           → (how_many tag_72 fs ≡ 0 → suc (find ps t) ≤ 12 → Goes ps (suc (find ps t)) (run_as true one two fs))

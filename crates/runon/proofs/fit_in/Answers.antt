@@ -21,7 +21,7 @@ slice_bounds-size_of-end c = simp length-take (omega arith)
 pub returns-in-Bytes : goal.returns-in-Bytes
 returns-in-Bytes c =                     let a = c.args in (
       ap (λ (k : ℕ). length a.front.now + k) c.put_bank.ensures.0,
-      fit_by a.sign a.into a.front.now a.text.now (sym c.in-Bytes.is ∙ c.size_of-size.ensures)
+      fit_by a.sign a.into a.front.now a.text.now (sym c.in-Bytes.is ∙ c.size_of.ensures)
           (in_line a.front.now (bank_of a.sign a.text.now) _ _ _ _ c.put.ensures c.put_bank.ensures.2 (ap (λ (k : ℕ). length a.front.now + k) c.put_bank.ensures.0) c.if-n-gt-ROOM.false) refl,
       omega (arith, c.if-n-gt-ROOM.false),
     )
@@ -29,7 +29,7 @@ returns-in-Bytes c =                     let a = c.args in (
 pub returns-in-Unfit : goal.returns-in-Unfit
 returns-in-Unfit c =                     let a = c.args in (
       ap (λ (k : ℕ). length a.front.now + k) c.put_bank.ensures.0,
-      fit_by a.sign a.into a.front.now a.text.now (sym c.in-Unfit.is ∙ c.size_of-size.ensures)
+      fit_by a.sign a.into a.front.now a.text.now (sym c.in-Unfit.is ∙ c.size_of.ensures)
           (in_line a.front.now (bank_of a.sign a.text.now) _ _ _ _ c.put.ensures c.put_bank.ensures.2 (ap (λ (k : ℕ). length a.front.now + k) c.put_bank.ensures.0) c.if-n-gt-ROOM.false) refl,
       omega (arith, c.if-n-gt-ROOM.false),
     )

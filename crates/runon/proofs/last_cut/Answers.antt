@@ -25,7 +25,7 @@ loop-k-smaller-in-Bad c = omega arith
 pub loop-k-preserved-in-Bad : goal.loop-k-preserved-in-Bad
 loop-k-preserved-in-Bad c =             let a = c.args in (
       omega arith,
-      c.loop-k.invariant.1 ∙ step_bad a.sign a.front.now a.note a.text.now _ c.requires.1 c.loop-k.k c.loop-k-test.true
+      c.loop-k.invariant.1 ∙ step_bad a.sign a.front.now a.note a.text.now _ c.requires.text_value c.loop-k.k c.loop-k-test.true
           (sym c.in-Bad.is ∙ c.try_at.ensures),
     )
 
@@ -35,7 +35,7 @@ loop-k-smaller c = omega arith
 pub loop-k-preserved : goal.loop-k-preserved
 loop-k-preserved c =             let a = c.args in (
       omega (arith, c.back_from-k.ensures.0),
-      c.loop-k.invariant.1 ∙ step_over a.sign a.front.now a.note a.text.now _ c.requires.1 c.loop-k.k c.in-Over.n c.back_from-k.result
+      c.loop-k.invariant.1 ∙ step_over a.sign a.front.now a.note a.text.now _ c.requires.text_value c.loop-k.k c.in-Over.n c.back_from-k.result
           (omega arith) (sym c.in-Over.is ∙ c.try_at.ensures) c.back_from-k.ensures.0 c.back_from-k.ensures.1,
     )
 
