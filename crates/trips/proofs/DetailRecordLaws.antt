@@ -314,6 +314,21 @@ module _ (form : Form) (s : Bool) (t : List ℕ) (ls : List (List ℕ)) (h : Hel
   held_sheeted : (c : Content) → shape_of form t ≡ shape_for c → DetailsOrRpp (shape_for c) → Right c s ls → Sheeted form s t ls
   held_sheeted holds.Details e n r = sheeted_70 e (details_lines_lem In70 s ls r h.fair.on)
   held_sheeted holds.DocumentAndRest e n r = sheeted_103 e (note.lines_103 ls r h.fair.on)
+  held_sheeted holds.Unknown e n r = elim n [ ]
+  held_sheeted holds.Reference e n r = elim n [ ]
+  held_sheeted holds.Related e n r = elim n [ ]
+  held_sheeted holds.Operation e n r = elim n [ ]
+  held_sheeted holds.Purpose e n r = elim n [ ]
+  held_sheeted holds.Payment e n r = elim n [ ]
+  held_sheeted holds.Payer e n r = elim n [ ]
+  held_sheeted holds.BankByBic e n r = elim n [ ]
+  held_sheeted holds.BankByName e n r = elim n [ ]
+  held_sheeted holds.OwnAccount e n r = elim n [ ]
+  held_sheeted holds.AccountAndBic e n r = elim n [ ]
+  held_sheeted holds.BeneficiaryBank e n r = elim n [ ]
+  held_sheeted holds.Beneficiary e n r = elim n [ ]
+  held_sheeted holds.Charges e n r = elim n [ ]
+  held_sheeted holds.Regulatory e n r = elim n [ ]
   held_sheeted holds.DocumentAndDetails e n r = sheeted_202 e (note_lines_lem s ls r h.fair.on)
 
 pub sheeted_details : (form : Form) (s : Bool) (t : List ℕ) (ls : List (List ℕ)) → DetailsOrRpp (shape_of form t) → Held form s t ls → Sheeted form s t ls

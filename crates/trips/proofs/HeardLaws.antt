@@ -213,7 +213,7 @@ at_10 t e = at_place t tag_70 10 (omega (arith, has_14)) refl e
 
 some_70 : (s : Bool) {next : ℕ} (fs : List Field) → next ≤ 10 → Goes ps next fs → 1 ≤ how_many tag_70 (map (record_for Mt103 s) fs)
 some_70 s [] h (over n) = absurd (n (record { at = 10; low = h; high = omega (arith, has_14); mandatory = needs_10 }))
-some_70 s {next} (field t ls ∷ fs) h (seat w g) = go (dec_lt (find ps t) 10) (dec_lt 10 (find ps t)) (same t tag_70) refl (λ k. some_70 s fs k g)
+some_70 s {next} (field t ls ∷ fs) h (seat w g) = go (dec_lt (find ps t) 10) (dec_lt 10 (find ps t)) (same t tag_70) refl (λ k. some_70 s {next = suc (find ps t)} fs k g)
   where
     go : Dec (find ps t < 10) → Dec (10 < find ps t) → (b : Bool) → same t tag_70 ≡ b → (suc (find ps t) ≤ 10 → 1 ≤ how_many tag_70 (map (record_for Mt103 s) fs))
         → 1 ≤ pick b (suc (how_many tag_70 (map (record_for Mt103 s) fs))) (how_many tag_70 (map (record_for Mt103 s) fs))

@@ -102,6 +102,9 @@ module _ (s : Bool) where
 
   pub lines_pass : (c : Content) (ls : List (List ℕ)) → LineByLine (shape_for c) → AllHold (KeptPart s) (cast (shape_for c) ls) → Right c s ls
       → Right c s (map (line_again s) (cast (shape_for c) ls))
+  lines_pass holds.Details ls v k r = elim v [ ]
+  lines_pass holds.DocumentAndRest ls v k r = elim v [ ]
+  lines_pass holds.DocumentAndDetails ls v k r = elim v [ ]
   lines_pass holds.Payer ls v k r = payer_pass ls k r
   lines_pass holds.BankByName ls v k r = agent_pass ls k r
   lines_pass holds.BeneficiaryBank ls v k r = customer_pass false ls k r

@@ -48,6 +48,23 @@ data Is202 : Shape → Type 0 where
 -- ---- a field that is neither 70 nor 72 of a 103
 note_again : (c : Content) (s : Bool) (ls : List (List ℕ)) → Is202 (shape_for c) → Right c s ls → Ready s (shape_for c) (content_parts s (shape_for c) ls)
     → Right c s (content_lines s (shape_for c) (content_parts s (shape_for c) ls))
+note_again holds.Unknown s ls n r w = elim n [ ]
+note_again holds.Reference s ls n r w = elim n [ ]
+note_again holds.Related s ls n r w = elim n [ ]
+note_again holds.Operation s ls n r w = elim n [ ]
+note_again holds.Purpose s ls n r w = elim n [ ]
+note_again holds.Payment s ls n r w = elim n [ ]
+note_again holds.Payer s ls n r w = elim n [ ]
+note_again holds.BankByBic s ls n r w = elim n [ ]
+note_again holds.BankByName s ls n r w = elim n [ ]
+note_again holds.OwnAccount s ls n r w = elim n [ ]
+note_again holds.AccountAndBic s ls n r w = elim n [ ]
+note_again holds.BeneficiaryBank s ls n r w = elim n [ ]
+note_again holds.Beneficiary s ls n r w = elim n [ ]
+note_again holds.Details s ls n r w = elim n [ ]
+note_again holds.Charges s ls n r w = elim n [ ]
+note_again holds.DocumentAndRest s ls n r w = elim n [ ]
+note_again holds.Regulatory s ls n r w = elim n [ ]
 note_again holds.DocumentAndDetails s ls n r w = pass_202 s ls r w
 
 right_apart : (form : Form) (s : Bool) (t : List ℕ) (ls : List (List ℕ)) → is_joined (shape_of form t) ≡ false → Held form s t ls → Ready s (shape_of form t) (content_parts s (shape_of form t) ls)

@@ -336,6 +336,7 @@ from_added {before = before} {t = t} z (from_own front ns behind l s n) = from_o
 from_added z (from_new m e s) = from_new m e s
 
 source : {N : Type 0} {a i k : ℕ} {rs us before behind : List Record} {is : List ℕ} {t : List ℕ} {qs : List (List ℕ)} → Sourced N a i rs us is → Pick us is before (field t qs) behind k → From N a i rs before t k
+source done x6 = elim x6 [ ]
 source (kept {ps = ps} {rs = rs} w) here = from_own [] ps rs refl (omega arith) refl
 source (kept w) (there v) = from_kept (source w v)
 source (added m n w) here = from_new m refl refl

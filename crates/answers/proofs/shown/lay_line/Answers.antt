@@ -12,22 +12,22 @@ pub overflow_sub-line : goal.overflow_sub-line
 overflow_sub-line c = omega (arith, place_room c.args.place c.args.line.now c.put_digits-p.ensures c.ranges.place.fits)
 
 pub bounds-line-p : goal.bounds-line-p
-bounds-line-p c = (tab_inside c.args.place c.args.line.now c.put_digits-p.ensures c.requires c.put_digits-p.auto.0 c.ranges.place.fits).1
+bounds-line-p c = (tab_inside c.args.place c.args.line.now c.put_digits-p.ensures c.requires c.put_digits-p.auto.out c.ranges.place.fits).1
 
 pub overflow_sub-p : goal.overflow_sub-p
 overflow_sub-p c = omega (arith, place_room c.args.place c.args.line.now c.put_digits-p.ensures c.ranges.place.fits)
 
 pub put_digits-n-requires : goal.put_digits-n-requires
-put_digits-n-requires c = let t = tab_inside c.args.place c.args.line.now c.put_digits-p.ensures c.requires c.put_digits-p.auto.0 c.ranges.place.fits in (t.0, t.2)
+put_digits-n-requires c = let t = tab_inside c.args.place c.args.line.now c.put_digits-p.ensures c.requires c.put_digits-p.auto.out c.ranges.place.fits in (t.0, t.2)
 
 pub overflow_sub-n : goal.overflow_sub-n
-overflow_sub-n c = number_room c.args.place c.args.line.now c.put_digits-p.ensures c.requires c.put_digits-p.auto.0 c.args.number c.put_digits-n.ensures c.ranges.place.fits c.ranges.number.fits
+overflow_sub-n c = number_room c.args.place c.args.line.now c.put_digits-p.ensures c.requires c.put_digits-p.auto.out c.args.number c.put_digits-n.ensures c.ranges.place.fits c.ranges.number.fits
 
 pub overflow_sub-result : goal.overflow_sub-result
-overflow_sub-result c = number_room c.args.place c.args.line.now c.put_digits-p.ensures c.requires c.put_digits-p.auto.0 c.args.number c.put_digits-n.ensures c.ranges.place.fits c.ranges.number.fits
+overflow_sub-result c = number_room c.args.place c.args.line.now c.put_digits-p.ensures c.requires c.put_digits-p.auto.out c.args.number c.put_digits-n.ensures c.ranges.place.fits c.ranges.number.fits
 
 pub shape_of-line : goal.shape_of-line
-shape_of-line c = line_size c.args.place c.args.line.now c.put_digits-p.ensures c.requires c.put_digits-p.auto.0 c.args.number c.put_digits-n.ensures c.put_digits-n.auto.0 c.put.new.out c.put.auto.0
+shape_of-line c = line_size c.args.place c.args.line.now c.put_digits-p.ensures c.requires c.put_digits-p.auto.out c.args.number c.put_digits-n.ensures c.put_digits-n.auto.out c.put.new.out c.put.auto.out
 
 pub returns : goal.returns
-returns c = line_laid c.args.place c.args.line.now c.put_digits-p.ensures c.requires c.put_digits-p.auto.0 c.args.number c.put_digits-n.ensures c.put_digits-n.auto.0 c.put.new.out c.ranges.place.fits c.ranges.number.fits c.put.ensures
+returns c = line_laid c.args.place c.args.line.now c.put_digits-p.ensures c.requires c.put_digits-p.auto.out c.args.number c.put_digits-n.ensures c.put_digits-n.auto.out c.put.new.out c.ranges.place.fits c.ranges.number.fits c.put.ensures

@@ -19,7 +19,7 @@ pub build_on-requires : goal.build_on-requires
 build_on-requires c = let s = c.args.sheet.now in
     let e = c.judge_sheet-j.ensures in
     let v = verdict_is s e c.in_default.is in
-    ((c.if-sheet-gt-ROOM.false, form_is s e, sign_is s e, v), put_unfit s v c.if-sheet-gt-ROOM.false (form_is s e) (sign_is s e) c.in-Unfit.is (told_built s v (form_is s e) (sign_is s e) c.put_message.ensures))
+    record { sheet_len_bound = (c.if-sheet-gt-ROOM.false, form_is s e, sign_is s e, v); sheet_value = put_unfit s v c.if-sheet-gt-ROOM.false (form_is s e) (sign_is s e) c.in-Unfit.is (told_built s v (form_is s e) (sign_is s e) c.put_message.ensures) }
 
 pub returns-in-Stuck : goal.returns-in-Stuck
 returns-in-Stuck c = let s = c.args.sheet.now in

@@ -38,10 +38,10 @@ slice_bounds-put_run-end-2 c = let p = c.requires.sheet_len_bound in (cut_103 c.
 pub put_run-run-requires : goal.put_run-run-requires
 put_run-run-requires c = let s = c.args.sheet.now in
     let p = c.requires.sheet_len_bound in
-    let k = (cut_103 s p.3 p.0 p.1 p.2 c.requires.sheet_value.0 c.in-Mt103.is c.find_cut-cutting.ensures c.in-At.is).known in (
-      (p.0, seven_within s p.3, lines_103 s p.3 p.0 p.1 p.2 c.requires.sheet_value.0 c.in-Mt103.is),
-      (k.halves, k.each, k.fits),
-    )
+    let k = (cut_103 s p.3 p.0 p.1 p.2 c.requires.sheet_value.0 c.in-Mt103.is c.find_cut-cutting.ensures c.in-At.is).known in record {
+      s_len_bound = (p.0, seven_within s p.3, lines_103 s p.3 p.0 p.1 p.2 c.requires.sheet_value.0 c.in-Mt103.is);
+      halves = (k.halves, k.each, k.fits);
+    }
 
 pub returns : goal.returns
 returns c = let s = c.args.sheet.now in

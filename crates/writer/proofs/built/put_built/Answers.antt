@@ -28,7 +28,7 @@ slice_bounds-put_run-end-in-At c = (built_cut c.args.sheet.now c.requires.0 c.in
 pub put_run-requires : goal.put_run-requires
 put_run-requires c = let s = c.args.sheet.now in
     let b = c.requires.0 in
-    let k = (built_cut s b c.in-At.is).known in ((built_within s b, built_seven s b, built_lines s b c.in-At.is), (k.halves, k.each, k.fits))
+    let k = (built_cut s b c.in-At.is).known in record { s_len_bound = (built_within s b, built_seven s b, built_lines s b c.in-At.is); halves = (k.halves, k.each, k.fits) }
 
 pub returns-in-Nowhere : goal.returns-in-Nowhere
 returns-in-Nowhere c = put_built c.args.sheet.now c.requires.0 c.in-Nowhere.is c.put_message.ensures c.requires.1

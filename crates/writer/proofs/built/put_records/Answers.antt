@@ -15,6 +15,7 @@ use mathlib.Core.Bool.{not, ◌||◌}
 use mathlib.Core.Path.{◌≡◌, refl}
 use Prim.Native.Nat.{◌+◌, ◌*◌, ◌-◌, ◌≤◌}
 use Rattle.writer.proofs.built.put_records.Goals as goal
+use Rattle.writer.proofs.built.put_records.Goals.{in-Unfit, in-Put}
 
 pub loop-i-init : goal.loop-i-init
 loop-i-init c = (refl, c.requires.1, omega arith, c.requires.3, (λ r after d. d), omega arith)
@@ -70,7 +71,7 @@ pub loop-i-preserved : goal.loop-i-preserved
 loop-i-preserved c =
     let within : (c.loop-i.i ≤ c.mark_at-e.result) × (c.mark_at-e.result + 1 ≤ length c.args.s.now) = let a = c.args in (omega (arith, c.mark_at-e.ensures), omega (arith, ended a.form a.sign a.s.now c.loop-i.i c.mark_at-e.result c.loop-i.invariant.1 c.mark_at-e.ensures c.loop-i-test.true c.loop-i.invariant.3)) in
     let sized : length (take (c.mark_at-e.result - c.loop-i.i) (drop c.loop-i.i c.args.s.now)) ≡ c.mark_at-e.result - c.loop-i.i = piece_length c.args.s.now c.loop-i.i c.mark_at-e.result within.0 (omega (arith, within)) in
-    let went : Goes c.loop-i.fit c.loop-i.n c.put_record.result c.match-put_record.fit c.match-put_record.n = ⊎_elim (λ w. goes_unfit w.1.given.1 w.2 w.3) (λ w. goes_put w.1.given.1 w.3 w.4) c.match-put_record.branch in
+    let went : Goes c.loop-i.fit c.loop-i.n c.put_record.result c.match-put_record.fit c.match-put_record.n = elim c.match-put_record.branch [ in-Unfit w ↦ goes_unfit w.in-Unfit.is w.fit-is w.n-is | in-Put w ↦ goes_put w.in-Put.is w.fit-is w.n-is ] in
                 let a = c.args in
     let t = c.loop-i-test.true in
     let e = c.mark_at-e.result in

@@ -33,7 +33,7 @@ slice_bounds-put_run-end-in-At c = let s = c.args.sheet.now in (built_cut s (bui
 pub put_run-run-requires : goal.put_run-run-requires
 put_run-run-requires c = let s = c.args.sheet.now in
     let b = built_whole s c.build.ensures c.in-Whole.is in
-    let k = (built_cut s b c.in-At.is).known in ((built_within s b, built_seven s b, built_lines s b c.in-At.is), (k.halves, k.each, k.fits))
+    let k = (built_cut s b c.in-At.is).known in record { s_len_bound = (built_within s b, built_seven s b, built_lines s b c.in-At.is); halves = (k.halves, k.each, k.fits) }
 
 pub returns-in-Nowhere : goal.returns-in-Nowhere
 returns-in-Nowhere c = let s = c.args.sheet.now in let b = built_whole s c.build.ensures c.in-Whole.is in c.find_holder.ensures ∙ holder_built s b c.in-Nowhere.is c.args.place

@@ -19,3 +19,6 @@ overflow_add-result-2 c = let a = c.args in omega (arith, laid_few a.into a.leas
 
 pub returns : goal.returns
 returns c = let a = c.args in let n = c.in-Bytes.n in let e = sym c.in-Bytes.is ∙ c.size_of-size.ensures in (lines_put a.into a.least a.text.now n e c.lay.ensures c.put.ensures, in_put _ 0 (a.at + 250) (omega (arith, laid_few a.into a.least a.text.now n e)))
+
+pub overflow_add-result : goal.overflow_add-result
+overflow_add-result c = let a = c.args in omega (arith, laid_few a.into a.least a.text.now c.in-Bytes.n (sym c.in-Bytes.is ∙ c.size_of-size.ensures), c.requires)

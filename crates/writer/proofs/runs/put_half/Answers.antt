@@ -22,7 +22,7 @@ returns-then-tag-eq-TAG_70 c = let a = c.args in let p = c.requires in let r = r
 )
 
 pub put_both-requires : goal.put_both-requires
-put_both-requires c = let a = c.args in let p = c.requires in let e = is_72 (record_in a.s.now a.i a.e) c.tag_of-tag.ensures c.if-tag-eq-TAG_72.true in ((omega (arith, p, piece_length a.s.now a.i a.e (omega (arith, p.1)) (omega (arith, p.1))), p.3.short, omega (arith, p.2), e), (p.4.right, p.4.stops, p.4.second e, p.3.spelt))
+put_both-requires c = let a = c.args in let p = c.requires in let e = is_72 (record_in a.s.now a.i a.e) c.tag_of-tag.ensures c.if-tag-eq-TAG_72.true in record { l_len_bound = (omega (arith, p, piece_length a.s.now a.i a.e (omega (arith, p.1)) (omega (arith, p.1))), p.3.short, omega (arith, p.2), e); l_value = (p.4.right, p.4.stops, p.4.second e, p.3.spelt) }
 
 pub returns-then-tag-eq-TAG_72 : goal.returns-then-tag-eq-TAG_72
 returns-then-tag-eq-TAG_72 c = let a = c.args in let p = c.requires in let r = record_in a.s.now a.i a.e in (
