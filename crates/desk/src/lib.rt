@@ -1,5 +1,6 @@
 // The calls that the archive exports, each with its answer as one number. The crate `desk_c` exports them.
 #![tactic(auto)]
+
 ghost use Rattle.std.specs.Prelude.{◌≡◌};
 ghost use Rattle.types.specs.Form.{form_of};
 ghost use Rattle.message.specs.Calls.{span_of, amount_of, day_of};
