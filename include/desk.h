@@ -1,7 +1,8 @@
 /* Rimpelsloot: texts, messages and sheets of a payment desk for roubles.
  *
- * The archive is libdesk.a (`rt staticlib desk`), for x86-64 Linux. By its symbols (`link/symbols`) it uses no
- * heap, keeps no state between calls and calls nothing back; any number of threads may call at once.
+ * The archive is libdesk.a (`rt lib` in crates/desk_c, then `link/lib`), for x86-64 Linux. By its symbols
+ * (`link/symbols`) it uses no heap, keeps no state between calls and calls nothing back; any number of threads may
+ * call at once.
  *
  * A slice passes as a pointer and a length. Where the length is 0 the pointer may be null: (NULL, 0) is nothing.
  * What a caller owes: where the length is not 0, the pointer is not null and stands before as many readable units

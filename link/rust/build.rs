@@ -1,4 +1,5 @@
-//! Links the archive that `rt staticlib desk` builds: the one in the folder that DESK_LIB names, else in target/staticlib.
+//! Links the archive: the one in the folder that DESK_LIB names, else in target/staticlib, where link/lib puts what `rt lib`
+//! in crates/desk_c builds.
 
 use std::env;
 use std::path::PathBuf;

@@ -1,4 +1,6 @@
 // Two alphabets: what a bank text says, whole and in pieces; and a desk text written as the shortest bank text, alone and inside larger room.
+#![tactic(auto)]
+
 mod backwards;
 mod grid;
 pub mod parts;

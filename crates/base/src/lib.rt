@@ -1,4 +1,6 @@
 // Answers, bytes and lent room: what every other crate is written with.
+#![tactic(auto)]
+
 pub mod bits;
 pub mod bytes;
 pub mod marks;

@@ -1,1 +1,3 @@
+#![tactic(auto)]
+
 // No code: the worked examples stand in specs/ and proofs/.

@@ -8,7 +8,7 @@ use lib.ListN.{length, length-append}
 use Rattle.base.specs.Choice.{all}
 use Rattle.base.specs.Bytes.{digit, empty, same}
 use Rattle.base.specs.Quoted.{bytes}
-use Rattle.base.specs.Says.{Not, ◌or◌, Says}
+use Rattle.base.specs.Says.{Not, Says}
 use Rattle.base.proofs.SaysLaws.{says_so, says_not, says_as, says_and, says_or, says_no, says_le, says_text, says_empty}
 use Rattle.base.specs.Examples.{AllHold}
 use Rattle.contents.specs.declared.Content.{Content}

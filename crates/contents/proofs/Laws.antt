@@ -1,6 +1,6 @@
 -- The pieces of a line, once for every format: cuts, words, bytes of a kind, runs; and a line laid out as pieces, both ways. Assumes nothing.
 use Rattle.base.specs.Says.{Not, Says}
-use Prim.Native.Nat.{ℕ, zero, suc, ◌+◌, ◌-◌, ◌≤◌, ◌<◌}
+use Prim.Native.Nat.{ℕ, zero, suc, ◌+◌, ◌≤◌, ◌<◌}
 use Prim.Native.String.{String}
 use mathlib.Core.Path.{◌≡◌, refl, sym, ap, ◌∙◌}
 use mathlib.Core.Bool.{Bool, true, false, ◌&&◌, false≢true}

@@ -1,6 +1,6 @@
 -- Accounts, and how a line begins: a word, and behind it a digit. Assumes nothing.
 use Rattle.base.specs.Says.{Not, Says}
-use Prim.Native.Nat.{ℕ, ◌+◌, ◌≤◌, ◌<◌}
+use Prim.Native.Nat.{ℕ, ◌≤◌, ◌<◌}
 use mathlib.Core.Path.{◌≡◌, sym, ap, ap₂, ◌∙◌}
 use mathlib.Core.Bool.{Bool, true, false, ◌&&◌, and-false}
 use mathlib.Core.List.{◌∷◌, ◌++◌}

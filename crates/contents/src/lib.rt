@@ -1,4 +1,6 @@
 // What the fields of a message hold: readers of lines and of whole contents, each of which says whether the grammar holds, and where the parts are.
+#![tactic(auto)]
+
 pub mod lines;
 pub mod pieces;
 pub mod tags;

@@ -1,4 +1,6 @@
-// The exports for C and Rust. A slice passes as a pointer and a length.
+// The calls that the archive exports, each with its answer as one number. The crate `desk_c` exports them.
+#![tactic(auto)]
+
 ghost use Rattle.std.specs.Prelude.{◌≡◌};
 ghost use Rattle.types.specs.Form.{form_of};
 ghost use Rattle.message.specs.Calls.{span_of, amount_of, day_of};
@@ -74,16 +76,14 @@ fn day_of(d: Day) -> u64
     }
 }
 
-#[unsafe(no_mangle)]
-pub extern "C" fn desk_read_text(sign: u32, bank: &[u8], out: &mut [u8]) -> u64
+pub fn desk_read_text(sign: u32, bank: &[u8], out: &mut [u8]) -> u64
     ensures { ReadWord sign bank.now out.old result out.new }
 {
     let o = alphabets::read_text(is_on(sign), bank, out);
     word_of(o)
 }
 
-#[unsafe(no_mangle)]
-pub extern "C" fn desk_write_text(sign: u32, text: &[u8], out: &mut [u8]) -> u64
+pub fn desk_write_text(sign: u32, text: &[u8], out: &mut [u8]) -> u64
     ensures { WrittenWord sign text.now out.old result out.new }
 {
     let o = alphabets::write_text(is_on(sign), text, out);
@@ -91,8 +91,7 @@ pub extern "C" fn desk_write_text(sign: u32, text: &[u8], out: &mut [u8]) -> u64
 }
 
 // The check of a message: the list of its fields.
-#[unsafe(no_mangle)]
-pub extern "C" fn desk_check(kind: u32, message: &[u8], list: &mut [u32]) -> u64
+pub fn desk_check(kind: u32, message: &[u8], list: &mut [u32]) -> u64
     ensures { CheckWord (form_of kind) message.now list.old result list.new }
 {
     let c = message::check::check(form_of(kind), message, list);
@@ -100,24 +99,21 @@ pub extern "C" fn desk_check(kind: u32, message: &[u8], list: &mut [u32]) -> u64
 }
 
 // Where the content of a place stands.
-#[unsafe(no_mangle)]
-pub extern "C" fn desk_content(kind: u32, message: &[u8], place: u32) -> u64
+pub fn desk_content(kind: u32, message: &[u8], place: u32) -> u64
     ensures { result ≡ span_word (span_of (form_of kind) message.now place) }
 {
     let s = message::content::span(form_of(kind), message, place as usize);
     span_of(s)
 }
 
-#[unsafe(no_mangle)]
-pub extern "C" fn desk_kopecks(kind: u32, message: &[u8]) -> u64
+pub fn desk_kopecks(kind: u32, message: &[u8]) -> u64
     ensures { result ≡ amount_word (amount_of (form_of kind) message.now) }
 {
     let a = message::paid::kopecks(form_of(kind), message);
     amount_of(a)
 }
 
-#[unsafe(no_mangle)]
-pub extern "C" fn desk_date(kind: u32, message: &[u8]) -> u64
+pub fn desk_date(kind: u32, message: &[u8]) -> u64
     ensures { result ≡ day_word (day_of (form_of kind) message.now) }
 {
     let d = message::paid::date(form_of(kind), message);
@@ -125,8 +121,7 @@ pub extern "C" fn desk_date(kind: u32, message: &[u8]) -> u64
 }
 
 // A clerk's sheet as a message.
-#[unsafe(no_mangle)]
-pub extern "C" fn desk_to_message(sheet: &[u8], out: &mut [u8]) -> u64
+pub fn desk_to_message(sheet: &[u8], out: &mut [u8]) -> u64
     ensures { MessageWord sheet.now out.old result out.new }
 {
     let o = writer::to_message::to_message(sheet, out);
@@ -134,8 +129,7 @@ pub extern "C" fn desk_to_message(sheet: &[u8], out: &mut [u8]) -> u64
 }
 
 // A message as a clerk's sheet.
-#[unsafe(no_mangle)]
-pub extern "C" fn desk_to_sheet(kind: u32, message: &[u8], out: &mut [u8]) -> u64
+pub fn desk_to_sheet(kind: u32, message: &[u8], out: &mut [u8]) -> u64
     ensures { SheetWord (form_of kind) message.now out.old result out.new }
 {
     let o = sheets::to_sheet::to_sheet(form_of(kind), message, out);

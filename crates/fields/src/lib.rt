@@ -1,4 +1,6 @@
 // The frame of a message, and the front of its lines.
+#![tactic(auto)]
+
 pub mod lines;
 
 ghost use Rattle.std.specs.Prelude.{◌≡◌, ◌-◌, ◌≤◌, ◌<◌, [], ◌∷◌, length, take, drop};

@@ -1,4 +1,6 @@
 // The quick pass over a message: 18 and 1 to 7, where its fields stand, and which places they have.
+#![tactic(auto)]
+
 mod late;
 mod lines;
 pub mod pass;

@@ -40,7 +40,7 @@ use Rattle.contents.proofs.SizeLaws.{names_70}
 use Rattle.roles.specs.declared.Spot.{Spot}
 use Rattle.roles.specs.Places.{verdict_at}
 use Rattle.roles.specs.Speech as speech
-use Rattle.roles.specs.Rule21.{most, size_70, over_most, of_first, bytes_in_70, rule_21}
+use Rattle.roles.specs.Rule21.{size_70, over_most, of_first, bytes_in_70, rule_21}
 use Rattle.roles.proofs.LengthLaws.{over_short, lines_within, size_names}
 use Rattle.roles.proofs.OverTheorems.{rule_21_within}
 use Rattle.message.specs.declared.Span.{Span}

@@ -1,5 +1,7 @@
 // A message judged whole: the quick pass, then 8 and what 9 to 13 need, in one turn a field, then 14 over the texts, and 21. The calls on it: its
 // check, the part of one place, the kopecks and the date of 32A.
+#![tactic(auto)]
+
 pub mod check;
 pub mod content;
 mod facts;

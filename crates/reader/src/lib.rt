@@ -1,4 +1,6 @@
 // A message held together with a place: its contents are handed over one after another.
+#![tactic(auto)]
+
 ghost use Rattle.std.specs.Prelude.{◌≡◌};
 ghost use Rattle.types.specs.Form.{form_of};
 ghost use Rattle.message.specs.Calls.{content_of};

@@ -1,4 +1,6 @@
 // A clerk's sheet: the type and the sign that it names, and what 19 and 18 say of it.
+#![tactic(auto)]
+
 mod parts;
 pub mod sheets;
 pub mod tags;

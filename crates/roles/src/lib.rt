@@ -1,4 +1,6 @@
 // Which lines of a field are copied, names or details, and what 14 says of its texts; and 21.
+#![tactic(auto)]
+
 pub mod clauses;
 pub mod lengths;
 pub mod parts;

@@ -1,4 +1,6 @@
 // Details of a 103 that run on from field 70 into field 72: where their text is cut.
+#![tactic(auto)]
+
 ghost use Rattle.std.specs.Prelude.{◌≡◌, ℕ, ◌+◌, ◌-◌, ◌≤◌, ◌<◌, length};
 ghost use Rattle.base.specs.Calls.{placed, said};
 ghost use Rattle.alphabets.specs.Best.{writing};

@@ -1,4 +1,6 @@
 // A message read into its sheet.
+#![tactic(auto)]
+
 mod built;
 mod parts;
 mod rest;

@@ -1,4 +1,6 @@
 // A stored list: records one behind the other, each a line of words with one space between and then raw bytes.
+#![tactic(auto)]
+
 ghost use Rattle.std.specs.Prelude.{◌≡◌, ◌≤◌, length, take, drop};
 ghost use Rattle.stored.specs.Words.{before, rest_of, word_of, digit_of, number_of};
 ghost use Rattle.stored.specs.Lists.{line_at, behind_at, body_at};

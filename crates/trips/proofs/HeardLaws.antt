@@ -2,7 +2,7 @@
 -- C70, C72, N16, N21). Assumes nothing.
 use Prim.Native.Nat.{ℕ, suc, ◌+◌, ◌≤◌, ◌<◌}
 use mathlib.Core.Path.{◌≡◌, refl, sym, ap, ap₂, ◌∙◌, subst}
-use mathlib.Core.Bool.{Bool, true, false, ◌||◌, true≢false, false≢true}
+use mathlib.Core.Bool.{Bool, true, false, true≢false, false≢true}
 use mathlib.Core.List.{List, [], ◌∷◌, ◌++◌, map, append-nil}
 use mathlib.Core.Logic.{◌⊎◌, inl, inr}
 use native.Mathlib.Omega.{arith}
@@ -27,11 +27,10 @@ use Rattle.alphabets.specs.Bank.{reading}
 use Rattle.fields.specs.Field.{Field, field}
 use Rattle.fields.specs.Places.{start_of, next_of}
 use Rattle.types.specs.declared.Form.TheVariants.{Mt103}
-use Rattle.types.specs.Form.{Place, places_103, places_of}
+use Rattle.types.specs.Form.{places_103}
 use Rattle.types.specs.Sign.{first_line}
-use Rattle.types.specs.Walk.{is_of, is_optional, find}
+use Rattle.types.specs.Walk.{is_optional, find}
 use Rattle.types.specs.Sentences.{place_at, AllRight}
-use Rattle.types.proofs.WalkLaws.{find_stands}
 use Rattle.contents.specs.Tags.{tags_103, held_by}
 use Rattle.contents.proofs.RuleLaws.{field_says}
 use Rattle.roles.specs.Role.{shape_of}

@@ -9,7 +9,6 @@ use lib.ListN.{length, length-map}
 use Rattle.types.specs.declared.Form.{Form}
 use Rattle.base.specs.Choice.{pick}
 use Rattle.base.specs.Bytes.{begins, empty}
-use Rattle.base.proofs.Bools.{right}
 use Rattle.base.proofs.SaysLaws.{is_so}
 use Rattle.base.specs.Examples.{AllHold}
 use Rattle.fields.specs.Field.{field}

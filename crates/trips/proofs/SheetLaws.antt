@@ -1,6 +1,6 @@
 -- The rules of writing over the sheet of a message: where each field has its record (Held), none refuses it but 16, and that only for details of a
 -- 103 with the sign that run on behind an RPP line (K7, S2, S8, S10, N1, N15, N16, N18, N19). Assumes nothing.
-use Prim.Native.Nat.{ℕ, ◌+◌, ◌≤◌}
+use Prim.Native.Nat.{ℕ, ◌≤◌}
 use mathlib.Core.Path.{◌≡◌, refl, sym, ap, ap₂, ◌∙◌, subst}
 use mathlib.Core.Bool.{Bool, true, false, not, ◌||◌, true≢false, false≢true}
 use mathlib.Core.List.{List, [], ◌∷◌, ◌++◌, map, tail}

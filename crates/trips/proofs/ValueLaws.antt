@@ -9,7 +9,6 @@ use Rattle.base.specs.Choice.{pick}
 use Rattle.base.specs.Bytes.{begins, empty, same}
 use Rattle.base.specs.Quoted.{bytes}
 use Rattle.base.specs.declared.Verdict.TheVariants.{Fine, Broken}
-use Rattle.base.proofs.Bools.{right}
 use Rattle.base.proofs.ByteLaws.{same_is}
 use Rattle.base.proofs.RuleLaws.{fine_broken}
 use Rattle.base.specs.Examples.{AllHold}
@@ -32,7 +31,7 @@ use Rattle.values.specs.Judged.{first_bad, has, has_tag, tags_56, tags_57, no_da
 use Rattle.roles.specs.Role.{shape_for, shape_of, copy, name, tax_name, taxed, cast}
 use Rattle.roles.specs.Speech.{nzp_size, later_size}
 use Rattle.roles.specs.declared.Shape.{Shape}
-use Rattle.roles.specs.declared.Shape.TheVariants.{Plain, Payer, Payee, Agent, Details, Note103, Note202}
+use Rattle.roles.specs.declared.Shape.TheVariants.{Plain, Payer, Payee, Agent, Note103, Note202}
 use Rattle.records.specs.Record.{Record}
 use Rattle.details.specs.declared.DetailsField.{DetailsField}
 use Rattle.details.specs.declared.DetailsField.TheVariants.{In72}

@@ -1,4 +1,6 @@
 // The forms of messages as tables, and the steps of the walk over a message's fields.
+#![tactic(auto)]
+
 pub mod forms;
 pub mod steps;
 pub mod tags;

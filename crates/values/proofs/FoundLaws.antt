@@ -1,6 +1,6 @@
 -- What is found in a content, from what its reader answered: the parts that it hands on are the grammar's (C32A, Crpp, Cparty, Ctax, N9, N10, N12,
 -- N13). Assumes nothing.
-use Prim.Native.Nat.{ℕ, suc, ◌+◌, ◌-◌}
+use Prim.Native.Nat.{ℕ, suc, ◌+◌}
 use mathlib.Core.Path.{◌≡◌, refl, sym, ap, ap₂, ◌∙◌, subst}
 use mathlib.Core.Bool.{Bool, true, false, not, or-false, false≢true, ◌&&◌}
 use mathlib.Core.List.{List, [], ◌∷◌}

@@ -1,4 +1,6 @@
 // The values inside a message's fields: days, amounts, party lines and tax lines, and what the rules 9, 10, 12 and 13 ask of one content.
+#![tactic(auto)]
+
 pub mod amounts;
 pub mod banks;
 mod days;

@@ -14,7 +14,6 @@ use Rattle.base.specs.Bytes.{same}
 use Rattle.base.specs.Quoted.{bytes}
 use Rattle.base.specs.Calls.{Answer, said, stuck}
 use Rattle.base.proofs.Bools.{left, right, both, or_right}
-use Rattle.base.proofs.ByteLaws.{same_is}
 use Rattle.base.proofs.CallLaws.{not_said}
 use Rattle.alphabets.specs.Best.{writing}
 use Rattle.fields.specs.Field.{field}
@@ -26,7 +25,6 @@ use Rattle.types.specs.Sign.{first_line}
 use Rattle.contents.specs.Tags.{Tag, tag, tags_103, held_in, held_by}
 use Rattle.roles.specs.Role.{shape_for, shape_of}
 use Rattle.roles.specs.declared.Shape.{Shape}
-use Rattle.roles.specs.declared.Shape.TheVariants.{Details, Note103}
 use Rattle.records.specs.Record.{Record}
 use Rattle.records.specs.Rule19.{sole, detailed, sound, good}
 use Rattle.details.specs.declared.DetailsField.TheVariants.{In70}

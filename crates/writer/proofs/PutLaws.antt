@@ -56,7 +56,7 @@ use Rattle.runon.specs.Run.{bank_of, fits_in}
 use Rattle.writer.specs.Spread.{said_part, cast_parts, line_for, laid_lines, details_lines, rpp_lines, note_lines, content_lines, field_for, spread}
 use Rattle.writer.specs.Sheet.{stopped_at, unsaid, rule_15, crowded_details, crowded_note, crowded, some_crowded}
 use Rattle.writer.specs.declared.Step.{Step}
-use Rattle.writer.specs.declared.Step.TheVariants.{Stuck, Unfit}
+use Rattle.writer.specs.declared.Step.TheVariants.{Stuck}
 use Rattle.roles.specs.Parts.{cast_by, first_role}
 use Rattle.roles.specs.declared.Role.{Role}
 use Rattle.writer.specs.Steps.{Adds, AddsDetails, record_stops, record_crowded, records_at}

@@ -33,7 +33,7 @@ use Rattle.types.specs.declared.Form.{Form}
 use Rattle.types.specs.declared.Form.TheVariants.{Mt103}
 use Rattle.roles.specs.Role.{shape_of}
 use Rattle.roles.specs.declared.Shape.{Shape}
-use Rattle.records.specs.Record.{Record, line, record_of}
+use Rattle.records.specs.Record.{Record, record_of}
 use Rattle.records.specs.Places.{next_record}
 use Rattle.records.specs.Found.{pieces_at, tag_number, bad_sheet_line}
 use Rattle.records.specs.Rule19.{sole, sound, good}

@@ -1,4 +1,6 @@
 // A sheet written as a message.
+#![tactic(auto)]
+
 use types::Form;
 
 mod built;

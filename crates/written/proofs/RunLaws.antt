@@ -1,8 +1,8 @@
 -- The records of a sheet as they run on: what the details of a 103 come to, and the records as the fields are made of them, in sentences (S2, S4,
 -- B6-B9, N16, D3). Assumes nothing.
 use Prim.Native.Nat.{ℕ, suc, ◌≤◌, ◌<◌}
-use mathlib.Core.Path.{◌≡◌, refl, sym, ap, ap₂, subst, ◌∙◌}
-use mathlib.Core.Bool.{Bool, true, false, ◌&&◌, ◌||◌, true≢false, false≢true}
+use mathlib.Core.Path.{◌≡◌, refl, sym, ap, subst, ◌∙◌}
+use mathlib.Core.Bool.{Bool, true, false, ◌&&◌, false≢true}
 use mathlib.Core.List.{List, [], ◌∷◌, ◌++◌}
 use native.Mathlib.Omega.{arith}
 use lib.Dec.{eqb}
@@ -22,10 +22,8 @@ use Rattle.fields.specs.Shapes.{shaped}
 use Rattle.types.specs.declared.Form.{Form}
 use Rattle.types.specs.declared.Form.TheVariants.{Other, Mt103, Mt202}
 use Rattle.types.specs.Sign.{first_line, sign_of}
-use Rattle.contents.specs.Tags.{Tag, tag, tags_103, held_in, held_by}
-use Rattle.contents.specs.declared.Content.{Content}
-use Rattle.contents.specs.declared.Content.TheVariants as holds
-use Rattle.roles.specs.Role.{shape_of, shape_for, name, copy}
+use Rattle.contents.specs.Tags.{tags_103, held_by}
+use Rattle.roles.specs.Role.{shape_of, name, copy}
 use Rattle.roles.specs.declared.Shape.{Shape}
 use Rattle.roles.specs.declared.Shape.TheVariants.{Details, Note103}
 use Rattle.records.specs.Record.{Record}
@@ -41,9 +39,9 @@ use Rattle.runon.specs.declared.Run.{Run}
 use Rattle.runon.specs.declared.Run.TheVariants as run
 use Rattle.runon.proofs.FitLaws.{fits_written}
 use Rattle.runon.proofs.CutTheorems.{comes, stop_whole, stop_cut}
-use Rattle.runon.proofs.RecordLaws.{not_70, last_tag, halved_70, halved_72, halved_not, shape_70, shape_72}
+use Rattle.runon.proofs.RecordLaws.{last_tag, halved_70, halved_72, halved_not, shape_70, shape_72}
 use Rattle.writer.specs.Spread.{cast_parts}
-use Rattle.writer.specs.Sheet.{crowded, some_crowded}
+use Rattle.writer.specs.Sheet.{some_crowded}
 use Rattle.writer.proofs.PurposeLaws.{said_digits}
 use Rattle.writer.proofs.CrowdLaws.{good_plain, whole_16, cut_16, unfit_16}
 use Rattle.written.specs.Sentences.{OneByOne, may_run_on, Halved, first_in_70, second_in_72, as_it_was, At77B, HalvedAll, with_72, new_72, RunsOn, unmoved, fits_whole, is_cut}

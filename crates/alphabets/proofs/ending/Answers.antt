@@ -1,6 +1,5 @@
 -- `alphabets::ending` meets its contract. Assumes nothing.
 use Rattle.alphabets.proofs.TextLaws.{ending_halts, ending_short, ending_done}
-use borrow.Author.Rules.{rules}
 use Rattle.alphabets.proofs.ending.Goals as goal
 
 pub returns-then-room-n : goal.returns-then-room-n

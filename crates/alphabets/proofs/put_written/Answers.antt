@@ -1,6 +1,5 @@
 -- `alphabets::put_written` meets its contract. Assumes nothing.
 use mathlib.Core.Bool.{true, false}
-use borrow.Author.Rules.{rules}
 use Rattle.alphabets.proofs.PartLaws.{extent_long, put_long, put_by}
 use Rattle.alphabets.proofs.put_written.Goals as goal
 

@@ -11,7 +11,6 @@ use Rattle.alphabets.specs.Parts.{extent_of}
 use Rattle.alphabets.specs.Text.{ReadTo, text_rules, ending_of}
 use Rattle.alphabets.specs.declared.parts.Extent.{Extent}
 use Rattle.alphabets.proofs.TextLaws.{too_long, answered}
-use borrow.Author.Rules.{rules}
 use Rattle.alphabets.proofs.read_text.Goals as goal
 
 settled : (s t : Bool) (bank out after : List ℕ) (z : Extent) (r : Outcome) → s ≡ t → length bank ≤ 10000 → (z ≡ extent_of (reading t bank)) × (after ≡ placed out 0 (text_of (reading t bank))) → r ≡ ending_of 14 z (length out) → ReadTo s bank out r after

@@ -7,8 +7,8 @@ pub word_of-requires : goal.word_of-requires
 word_of-requires c = sheet_small _ _ _ _ _ c.to_sheet-o.ensures
 
 pub returns : goal.returns
-returns c =         record {
-      answer = c.to_sheet-o.result;
-      call = sheet_as _ _ _ _ c.form_of.ensures c.to_sheet-o.ensures;
-      value = c.word_of.ensures;
-    }
+returns c = record {
+  answer = c.to_sheet-o.result;
+  call = sheet_as _ _ _ _ c.form_of.ensures c.to_sheet-o.ensures;
+  value = c.word_of.ensures;
+}

@@ -1,11 +1,8 @@
 -- `cut`: from high down to the first place whose byte may open a line. Assumes nothing.
 use Prim.Native.Nat.{◌≤◌}
-use mathlib.Core.Path.{◌≡◌, refl, sym, ◌∙◌}
-use native.Mathlib.Omega.{arith}
-use borrow.Author.Rules.{rules}
+use mathlib.Core.Path.{◌≡◌}
 use Rattle.details.specs.Breaking.{opens}
 use Rattle.details.specs.Steps.{cut_at, barred_by}
-use Rattle.details.proofs.StepLaws.{cut_here, cut_down, cut_none}
 use Rattle.details.proofs.cut.Given as goal
 
 abbrev pub invariant-loop-e : goal.invariant-loop-e

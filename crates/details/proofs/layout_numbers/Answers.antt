@@ -1,7 +1,6 @@
 -- `layout_numbers`: the numbers of each field of details. Assumes nothing.
 use mathlib.Core.Path.{sym, ap}
 use Rattle.details.specs.Steps.{layout_numbers}
-use borrow.Author.Rules.{rules}
 use Rattle.details.proofs.layout_numbers.Goals as goal
 
 pub returns-in-In70 : goal.returns-in-In70

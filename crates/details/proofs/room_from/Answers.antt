@@ -6,7 +6,6 @@ use native.Mathlib.Nat.{le_refl}
 use Rattle.details.specs.Steps.{Small}
 use Rattle.details.proofs.LayoutLaws.{small}
 use Rattle.details.proofs.RoomLaws.{few_held, ended, room_first, room_later, room_none}
-use borrow.Author.Rules.{rules}
 use Rattle.details.proofs.room_from.Goals as goal
 
 pub overflow_mul-result : goal.overflow_mul-result
@@ -31,7 +30,7 @@ returns-then-s-line c = room_none c.args.into c.layout_numbers-s.ensures c.args.
 pub overflow_mul-result-2 : goal.overflow_mul-result-2
 overflow_mul-result-2 c =
     let known : Small c.layout_numbers-s.result = subst Small (sym c.layout_numbers-s.ensures) (small c.args.into) in
-                omega (arith, few_held known (c.layout_numbers-s.result.more - c.args.line + 1) (omega (arith, c.if-line-eq0.false, c.if-s-line.false)))
+    omega (arith, few_held known (c.layout_numbers-s.result.more - c.args.line + 1) (omega (arith, c.if-line-eq0.false, c.if-s-line.false)))
 
 pub returns : goal.returns
-returns c =             room_later c.args.into c.layout_numbers-s.ensures c.args.line c.if-line-eq0.false c.if-s-line.false
+returns c = room_later c.args.into c.layout_numbers-s.ensures c.args.line c.if-line-eq0.false c.if-s-line.false

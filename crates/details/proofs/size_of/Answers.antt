@@ -3,7 +3,6 @@ use mathlib.Core.Path.{sym, subst}
 use native.Mathlib.Omega.{arith}
 use Rattle.details.specs.Steps.{Small}
 use Rattle.details.proofs.LayoutLaws.{small, size_none, size_some}
-use borrow.Author.Rules.{rules}
 use Rattle.details.proofs.size_of.Goals as goal
 
 pub returns-then-text-low : goal.returns-then-text-low
@@ -13,5 +12,5 @@ pub measure-requires : goal.measure-requires
 measure-requires c = subst Small (sym c.layout_numbers.ensures) (small c.args.into)
 
 pub returns : goal.returns
-returns c =     let a = c.args in
+returns c = let a = c.args in
     size_some a.into a.least a.text.now c.one_less-low.ensures c.layout_numbers.ensures c.if-text-low.false c.measure.ensures

@@ -1,7 +1,6 @@
 -- `fields::four_tag` meets its contract: the number byte by byte (`packed_five`). Assumes nothing.
 use Rattle.base.proofs.Flags.{flags}
 use Rattle.fields.proofs.PackLaws.{packed_five}
-use borrow.Author.Rules.{rules}
 use Rattle.fields.proofs.four_tag.Goals as goal
 
 pub returns-then-not-is_digit : goal.returns-then-not-is_digit

@@ -1,7 +1,6 @@
 -- `fields::is_bad_start` meets its contract: by the first byte (`bad_start_at`). Assumes nothing.
 use Rattle.base.proofs.Flags.{flags}
 use Rattle.fields.proofs.PackLaws.{bad_start_at}
-use borrow.Author.Rules.{rules}
 use Rattle.fields.proofs.is_bad_start.Goals as goal
 
 pub returns-then-line-eq0 : goal.returns-then-line-eq0

@@ -4,7 +4,6 @@ use native.Mathlib.Omega.{arith}
 use Prim.Native.Nat.{◌≤◌}
 use lib.ListN.{length}
 use Rattle.fields.proofs.FrameLaws.{closed_at}
-use borrow.Author.Rules.{rules}
 use Rattle.fields.proofs.is_closed.Goals as goal
 
 pub returns-then-m-at-ne13 : goal.returns-then-m-at-ne13

@@ -3,7 +3,6 @@ use Rattle.base.proofs.Flags.{flags}
 use mathlib.Core.Path.{sym}
 use Rattle.fields.specs.Frame.{framed}
 use Rattle.fields.proofs.FrameLaws.{too_short}
-use borrow.Author.Rules.{rules}
 use Rattle.fields.proofs.is_framed.Goals as goal
 
 pub returns-then-m-lt7 : goal.returns-then-m-lt7

@@ -1,7 +1,6 @@
 -- `fields::is_opened` meets its contract: the five bytes one by one (`opened_at`). Assumes nothing.
 use Rattle.base.proofs.Flags.{flags}
 use Rattle.fields.proofs.FrameLaws.{opened_at}
-use borrow.Author.Rules.{rules}
 use Rattle.fields.proofs.is_opened.Goals as goal
 
 pub returns-then-m-ne123 : goal.returns-then-m-ne123

@@ -2,7 +2,6 @@
 use native.Mathlib.Omega.{arith}
 use mathlib.Core.Path.{sym, ◌∙◌}
 use Rattle.fields.proofs.PackLaws.{packed_short, packed_other, packed_four, packed_long}
-use borrow.Author.Rules.{rules}
 use Rattle.fields.proofs.line_tag.Goals as goal
 
 pub returns-then-line-lt4 : goal.returns-then-line-lt4

@@ -6,7 +6,6 @@ use lib.ListN.{get_or-eq_default}
 use Rattle.base.specs.Choice.{pick}
 use Rattle.base.proofs.Flags.{flags}
 use Rattle.fields.specs.ByLines.{start_at}
-use borrow.Author.Rules.{rules}
 use Rattle.fields.proofs.start_at.Goals as goal
 
 pub returns-then-m-o : goal.returns-then-m-o

@@ -1,5 +1,4 @@
 -- `fields::tag_at` meets its contract: two digits, and a capital where no colon stands there. Assumes nothing.
-use borrow.Author.Rules.{rules}
 use Rattle.fields.proofs.PlaceLaws.{no_tag, tag_short, tag_letter}
 use Rattle.fields.proofs.tag_at.Goals as goal
 

@@ -1,6 +1,5 @@
 -- `reader::content_at` meets its contract. Assumes nothing.
 use mathlib.Core.Path.{ap, ◌∙◌}
-use borrow.Author.Rules.{rules}
 use Rattle.types.specs.declared.Form.{Form}
 use Rattle.message.specs.Calls.{content_of}
 use Rattle.reader.proofs.content_at.Goals as goal

@@ -1,10 +1,7 @@
 -- `reader::next_bit` meets its contract: no bit before the place reached is set. Assumes nothing.
 use Prim.Native.Nat.{◌-◌}
-use mathlib.Core.Path.{◌≡◌, refl, sym, ◌∙◌}
-use native.Mathlib.Omega.{arith}
-use borrow.Author.Rules.{rules}
+use mathlib.Core.Path.{◌≡◌}
 use Rattle.reader.specs.Reading.{next_bit}
-use Rattle.reader.proofs.PlaceLaws.{bit_end, bit_hit, bit_on}
 use Rattle.reader.proofs.next_bit.Given as goal
 
 abbrev pub invariant-loop-i : goal.invariant-loop-i

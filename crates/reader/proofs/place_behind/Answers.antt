@@ -4,7 +4,6 @@ use Rattle.types.specs.declared.Form.{Form}
 use Rattle.types.specs.Form.{form_of}
 use Rattle.message.specs.Message.{judged_of}
 use Rattle.reader.proofs.PlaceLaws.{place_far, place_is}
-use borrow.Author.Rules.{rules}
 use Rattle.reader.proofs.place_behind.Goals as goal
 
 pub returns-then-place-ge32 : goal.returns-then-place-ge32

@@ -1,11 +1,7 @@
 -- `last_cut`: from above down to the first place where the text may be cut. Assumes nothing.
 use Prim.Native.Nat.{◌≤◌}
-use mathlib.Core.Path.{◌≡◌, refl, sym, ap, ◌∙◌}
-use native.Mathlib.Omega.{arith}
-use borrow.Author.Rules.{rules}
+use mathlib.Core.Path.{◌≡◌}
 use Rattle.runon.specs.Run.{last_cut}
-use Rattle.runon.proofs.TryLaws.{good_cut, last_here, last_none}
-use Rattle.runon.proofs.SearchLaws.{step_bad, step_over}
 use Rattle.runon.proofs.last_cut.Given as goal
 
 abbrev pub invariant-loop-k : goal.invariant-loop-k

@@ -2,7 +2,6 @@
 use native.Mathlib.Omega.{arith}
 use mathlib.Core.Path.{sym}
 use Rattle.stored.proofs.ListLaws.{behind_far, behind_other, behind_end}
-use borrow.Author.Rules.{rules}
 use Rattle.stored.proofs.behind.Goals as goal
 
 pub returns-then-list-at : goal.returns-then-list-at

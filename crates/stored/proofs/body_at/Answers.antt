@@ -1,6 +1,5 @@
 -- `stored::body_at` meets its contract. Assumes nothing.
 use Rattle.stored.proofs.ListLaws.{body_none, body_some}
-use borrow.Author.Rules.{rules}
 use Rattle.stored.proofs.body_at.Goals as goal
 
 pub returns-then-start-eq0 : goal.returns-then-start-eq0

@@ -1,7 +1,6 @@
 -- `stored::cut` meets its contract. Assumes nothing.
 use mathlib.Core.Path.{ap, ◌∙◌}
 use lib.ListN.{take}
-use borrow.Author.Rules.{rules}
 use Rattle.stored.proofs.cut.Goals as goal
 
 pub returns : goal.returns

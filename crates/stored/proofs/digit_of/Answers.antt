@@ -4,9 +4,7 @@ use mathlib.Core.Path.{◌≡◌, sym, ◌∙◌}
 use mathlib.Core.Bool.{true}
 use Rattle.base.specs.Bytes.{digit}
 use Rattle.base.proofs.ByteLaws.{digit_range}
-use borrow.Author.Tests.{not-true, not-false}
 use Rattle.stored.proofs.WordLaws.{digit_yes, digit_no}
-use borrow.Author.Rules.{rules}
 use Rattle.stored.proofs.digit_of.Goals as goal
 
 pub returns-then-not-is_digit : goal.returns-then-not-is_digit

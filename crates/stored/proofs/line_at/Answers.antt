@@ -2,7 +2,6 @@
 use mathlib.Core.Path.{ap, ◌∙◌}
 use Rattle.stored.specs.Words.{before}
 use Rattle.stored.specs.Lists.{line_at}
-use borrow.Author.Rules.{rules}
 use Rattle.stored.proofs.line_at.Goals as goal
 
 pub returns : goal.returns

@@ -1,10 +1,9 @@
 -- `stored::number` meets its contract: a digit a turn. Assumes nothing.
 use native.Mathlib.Omega.{arith}
-use borrow.Author.Rules.{rules}
-use mathlib.Core.Path.{◌≡◌, sym, ◌∙◌, ap}
-use Prim.Native.Nat.{◌+◌, ◌*◌, ◌-◌, ◌≤◌}
-use lib.ListN.{length, drop}
-use Rattle.stored.specs.Words.{number_from, number_of}
+use mathlib.Core.Path.{sym, ◌∙◌, ap}
+use Prim.Native.Nat.{◌+◌, ◌*◌}
+use lib.ListN.{drop}
+use Rattle.stored.specs.Words.{number_from}
 use Rattle.stored.proofs.WordLaws.{number_none, number_some, number_not, number_long, number_on, number_end}
 use Rattle.stored.proofs.number.Goals as goal
 

@@ -2,7 +2,6 @@
 use native.Mathlib.Omega.{arith}
 use Rattle.base.proofs.MarkLaws.{up_rest}
 use Rattle.stored.proofs.WordLaws.{past_next, past_last}
-use borrow.Author.Rules.{rules}
 use Rattle.stored.proofs.past_mark.Goals as goal
 
 pub returns-then-e-s : goal.returns-then-e-s

@@ -1,10 +1,7 @@
 -- `stored::rest` meets its contract: a mark a turn. Assumes nothing.
 use native.Mathlib.Omega.{arith}
-use borrow.Author.Rules.{rules}
-use Prim.Native.Nat.{◌≤◌}
-use mathlib.Core.Path.{◌≡◌, refl, sym, ◌∙◌}
-use lib.ListN.{length, drop}
-use Rattle.stored.specs.Words.{rest_of}
+use mathlib.Core.Path.{refl, sym, ◌∙◌}
+use lib.ListN.{drop}
 use Rattle.stored.proofs.WordLaws.{rest_step, rest_none}
 use Rattle.stored.proofs.rest.Goals as goal
 

@@ -1,11 +1,8 @@
 -- `stored::rest` meets its contract: a mark a turn. Assumes nothing.
-use native.Mathlib.Omega.{arith}
-use borrow.Author.Rules.{rules}
 use Prim.Native.Nat.{◌≤◌}
-use mathlib.Core.Path.{◌≡◌, refl, sym, ◌∙◌}
+use mathlib.Core.Path.{◌≡◌}
 use lib.ListN.{length, drop}
 use Rattle.stored.specs.Words.{rest_of}
-use Rattle.stored.proofs.WordLaws.{rest_step, rest_none}
 use Rattle.stored.proofs.rest.Given as goal
 
 abbrev pub invariant-loop-left : goal.invariant-loop-left

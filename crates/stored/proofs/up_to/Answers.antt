@@ -4,7 +4,6 @@ use mathlib.Core.Path.{ap, ◌∙◌}
 use native.Mathlib.Nat.{zero-add}
 use lib.ListN.{take}
 use Rattle.stored.specs.Words.{before}
-use borrow.Author.Rules.{rules}
 use Rattle.stored.proofs.up_to.Goals as goal
 
 pub returns : goal.returns

@@ -1,7 +1,6 @@
 -- `stored::word` meets its contract. Assumes nothing.
 use mathlib.Core.Path.{ap, ◌∙◌}
 use Rattle.stored.specs.Words.{before, word_of}
-use borrow.Author.Rules.{rules}
 use Rattle.stored.proofs.word.Goals as goal
 
 pub returns : goal.returns

@@ -19,28 +19,28 @@ overflow_sub-n c = omega (arith, c.put_run-k.ensures.0)
 
 pub overflow_add-n : goal.overflow_add-n
 overflow_add-n c =
-    let spoke : let a = c.args in Speaking a.back.now a.latin a.part.now a.out.now c.put_run-k.new.out a.at c.loop-i.side (c.loop-i.n + (c.put_run-k.result - c.loop-i.i)) c.put_run-k.result =         let a = c.args in
+    let spoke : let a = c.args in Speaking a.back.now a.latin a.part.now a.out.now c.put_run-k.new.out a.at c.loop-i.side (c.loop-i.n + (c.put_run-k.result - c.loop-i.i)) c.put_run-k.result = let a = c.args in
     subst (λ (o : List ℕ). Speaking a.back.now a.latin a.part.now a.out.now o a.at c.loop-i.side (c.loop-i.n + (c.put_run-k.result - c.loop-i.i)) c.put_run-k.result)
     (sym c.put_run-k.ensures.1) (speaking_run c.loop-i.invariant c.put_run-k.result c.put_run-k.ensures.0) in
     omega (arith, spoke.is.room, spoke.is.kept, c)
 
 pub shape_of-out-then-k-part : goal.shape_of-out-then-k-part
 shape_of-out-then-k-part c =
-    let spoke : let a = c.args in Speaking a.back.now a.latin a.part.now a.out.now c.put_run-k.new.out a.at c.loop-i.side (c.loop-i.n + (c.put_run-k.result - c.loop-i.i)) c.put_run-k.result =         let a = c.args in
+    let spoke : let a = c.args in Speaking a.back.now a.latin a.part.now a.out.now c.put_run-k.new.out a.at c.loop-i.side (c.loop-i.n + (c.put_run-k.result - c.loop-i.i)) c.put_run-k.result = let a = c.args in
     subst (λ (o : List ℕ). Speaking a.back.now a.latin a.part.now a.out.now o a.at c.loop-i.side (c.loop-i.n + (c.put_run-k.result - c.loop-i.i)) c.put_run-k.result)
     (sym c.put_run-k.ensures.1) (speaking_run c.loop-i.invariant c.put_run-k.result c.put_run-k.ensures.0) in
     spoke.is.kept
 
 pub returns-then-k-part : goal.returns-then-k-part
 returns-then-k-part c =
-    let spoke : let a = c.args in Speaking a.back.now a.latin a.part.now a.out.now c.put_run-k.new.out a.at c.loop-i.side (c.loop-i.n + (c.put_run-k.result - c.loop-i.i)) c.put_run-k.result =         let a = c.args in
+    let spoke : let a = c.args in Speaking a.back.now a.latin a.part.now a.out.now c.put_run-k.new.out a.at c.loop-i.side (c.loop-i.n + (c.put_run-k.result - c.loop-i.i)) c.put_run-k.result = let a = c.args in
     subst (λ (o : List ℕ). Speaking a.back.now a.latin a.part.now a.out.now o a.at c.loop-i.side (c.loop-i.n + (c.put_run-k.result - c.loop-i.i)) c.put_run-k.result)
     (sym c.put_run-k.ensures.1) (speaking_run c.loop-i.invariant c.put_run-k.result c.put_run-k.ensures.0) in
     speaking_end spoke (omega arith)
 
 pub bounds-part-k : goal.bounds-part-k
 bounds-part-k c =
-    let spoke : let a = c.args in Speaking a.back.now a.latin a.part.now a.out.now c.put_run-k.new.out a.at c.loop-i.side (c.loop-i.n + (c.put_run-k.result - c.loop-i.i)) c.put_run-k.result =         let a = c.args in
+    let spoke : let a = c.args in Speaking a.back.now a.latin a.part.now a.out.now c.put_run-k.new.out a.at c.loop-i.side (c.loop-i.n + (c.put_run-k.result - c.loop-i.i)) c.put_run-k.result = let a = c.args in
     subst (λ (o : List ℕ). Speaking a.back.now a.latin a.part.now a.out.now o a.at c.loop-i.side (c.loop-i.n + (c.put_run-k.result - c.loop-i.i)) c.put_run-k.result)
     (sym c.put_run-k.ensures.1) (speaking_run c.loop-i.invariant c.put_run-k.result c.put_run-k.ensures.0) in
     let below : c.put_run-k.result < length c.args.part.now = omega (arith, spoke.long) in
@@ -48,14 +48,14 @@ bounds-part-k c =
 
 pub shape_of-out-then-part-k-ne39 : goal.shape_of-out-then-part-k-ne39
 shape_of-out-then-part-k-ne39 c =
-    let spoke : let a = c.args in Speaking a.back.now a.latin a.part.now a.out.now c.put_run-k.new.out a.at c.loop-i.side (c.loop-i.n + (c.put_run-k.result - c.loop-i.i)) c.put_run-k.result =         let a = c.args in
+    let spoke : let a = c.args in Speaking a.back.now a.latin a.part.now a.out.now c.put_run-k.new.out a.at c.loop-i.side (c.loop-i.n + (c.put_run-k.result - c.loop-i.i)) c.put_run-k.result = let a = c.args in
     subst (λ (o : List ℕ). Speaking a.back.now a.latin a.part.now a.out.now o a.at c.loop-i.side (c.loop-i.n + (c.put_run-k.result - c.loop-i.i)) c.put_run-k.result)
     (sym c.put_run-k.ensures.1) (speaking_run c.loop-i.invariant c.put_run-k.result c.put_run-k.ensures.0) in
     spoke.is.kept
 
 pub returns-then-part-k-ne39 : goal.returns-then-part-k-ne39
 returns-then-part-k-ne39 c =
-    let spoke : let a = c.args in Speaking a.back.now a.latin a.part.now a.out.now c.put_run-k.new.out a.at c.loop-i.side (c.loop-i.n + (c.put_run-k.result - c.loop-i.i)) c.put_run-k.result =         let a = c.args in
+    let spoke : let a = c.args in Speaking a.back.now a.latin a.part.now a.out.now c.put_run-k.new.out a.at c.loop-i.side (c.loop-i.n + (c.put_run-k.result - c.loop-i.i)) c.put_run-k.result = let a = c.args in
     subst (λ (o : List ℕ). Speaking a.back.now a.latin a.part.now a.out.now o a.at c.loop-i.side (c.loop-i.n + (c.put_run-k.result - c.loop-i.i)) c.put_run-k.result)
     (sym c.put_run-k.ensures.1) (speaking_run c.loop-i.invariant c.put_run-k.result c.put_run-k.ensures.0) in
     let below : c.put_run-k.result < length c.args.part.now = omega (arith, spoke.long) in
@@ -64,7 +64,7 @@ returns-then-part-k-ne39 c =
 
 pub overflow_add-i : goal.overflow_add-i
 overflow_add-i c =
-    let spoke : let a = c.args in Speaking a.back.now a.latin a.part.now a.out.now c.put_run-k.new.out a.at c.loop-i.side (c.loop-i.n + (c.put_run-k.result - c.loop-i.i)) c.put_run-k.result =         let a = c.args in
+    let spoke : let a = c.args in Speaking a.back.now a.latin a.part.now a.out.now c.put_run-k.new.out a.at c.loop-i.side (c.loop-i.n + (c.put_run-k.result - c.loop-i.i)) c.put_run-k.result = let a = c.args in
     subst (λ (o : List ℕ). Speaking a.back.now a.latin a.part.now a.out.now o a.at c.loop-i.side (c.loop-i.n + (c.put_run-k.result - c.loop-i.i)) c.put_run-k.result)
     (sym c.put_run-k.ensures.1) (speaking_run c.loop-i.invariant c.put_run-k.result c.put_run-k.ensures.0) in
     let below : c.put_run-k.result < length c.args.part.now = omega (arith, spoke.long) in
@@ -72,7 +72,7 @@ overflow_add-i c =
 
 pub loop-i-smaller : goal.loop-i-smaller
 loop-i-smaller c =
-    let spoke : let a = c.args in Speaking a.back.now a.latin a.part.now a.out.now c.put_run-k.new.out a.at c.loop-i.side (c.loop-i.n + (c.put_run-k.result - c.loop-i.i)) c.put_run-k.result =         let a = c.args in
+    let spoke : let a = c.args in Speaking a.back.now a.latin a.part.now a.out.now c.put_run-k.new.out a.at c.loop-i.side (c.loop-i.n + (c.put_run-k.result - c.loop-i.i)) c.put_run-k.result = let a = c.args in
     subst (λ (o : List ℕ). Speaking a.back.now a.latin a.part.now a.out.now o a.at c.loop-i.side (c.loop-i.n + (c.put_run-k.result - c.loop-i.i)) c.put_run-k.result)
     (sym c.put_run-k.ensures.1) (speaking_run c.loop-i.invariant c.put_run-k.result c.put_run-k.ensures.0) in
     let below : c.put_run-k.result < length c.args.part.now = omega (arith, spoke.long) in
@@ -80,7 +80,7 @@ loop-i-smaller c =
 
 pub loop-i-preserved : goal.loop-i-preserved
 loop-i-preserved c =
-    let spoke : let a = c.args in Speaking a.back.now a.latin a.part.now a.out.now c.put_run-k.new.out a.at c.loop-i.side (c.loop-i.n + (c.put_run-k.result - c.loop-i.i)) c.put_run-k.result =         let a = c.args in
+    let spoke : let a = c.args in Speaking a.back.now a.latin a.part.now a.out.now c.put_run-k.new.out a.at c.loop-i.side (c.loop-i.n + (c.put_run-k.result - c.loop-i.i)) c.put_run-k.result = let a = c.args in
     subst (λ (o : List ℕ). Speaking a.back.now a.latin a.part.now a.out.now o a.at c.loop-i.side (c.loop-i.n + (c.put_run-k.result - c.loop-i.i)) c.put_run-k.result)
     (sym c.put_run-k.ensures.1) (speaking_run c.loop-i.invariant c.put_run-k.result c.put_run-k.ensures.0) in
     let below : c.put_run-k.result < length c.args.part.now = omega (arith, spoke.long) in

@@ -1,11 +1,7 @@
 -- `alphabets::parts::fill_piece` meets its contract. Assumes nothing.
-use Prim.Native.Nat.{ℕ, ◌+◌, ◌-◌, ◌<◌, ◌≤◌}
-use mathlib.Core.Path.{sym, subst}
-use mathlib.Core.List.{List}
-use native.Mathlib.Omega.{arith}
-use lib.ListN.{length, get_or}
-use Rattle.alphabets.specs.Runs.{floor_of}
-use Rattle.alphabets.proofs.SpokenLaws.{Speaking, speaking_start, speaking_end, speaking_room, speaking_ended, speaking_run, speaking_stops, speaking_on}
+use Prim.Native.Nat.{◌-◌}
+use lib.ListN.{length}
+use Rattle.alphabets.proofs.SpokenLaws.{Speaking}
 use Rattle.alphabets.proofs.parts.fill_piece.Given as goal
 
 abbrev pub invariant-loop-i : goal.invariant-loop-i

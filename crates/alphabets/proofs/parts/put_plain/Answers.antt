@@ -8,7 +8,6 @@ use Rattle.base.proofs.ByteLaws.{Bytes}
 use Rattle.alphabets.specs.Bank.{plainly}
 use Rattle.alphabets.proofs.PartLaws.{stuck_put, said_put}
 use Rattle.alphabets.proofs.TextLaws.{plain_stuck, plain_said}
-use borrow.Author.Rules.{rules}
 use Rattle.alphabets.proofs.parts.put_plain.Goals as goal
 
 pub returns-then-k-text : goal.returns-then-k-text

@@ -1,12 +1,8 @@
 -- `alphabets::pieces::character_from` meets its contract: the character from i on is the character from the start on. Assumes nothing.
-use Prim.Native.Nat.{◌-◌, ◌≤◌}
-use mathlib.Core.Path.{◌≡◌, refl, sym, ◌∙◌}
-use native.Mathlib.Omega.{arith}
-use borrow.Author.Rules.{rules}
-use lib.ListN.{length, get_or}
-use Rattle.alphabets.specs.Runs.{floor_of}
+use Prim.Native.Nat.{◌-◌}
+use mathlib.Core.Path.{◌≡◌}
+use lib.ListN.{length}
 use Rattle.alphabets.specs.Pieces.{character_from}
-use Rattle.alphabets.proofs.PieceLaws.{character_here, character_stops, character_on, character_end, character_made}
 use Rattle.alphabets.proofs.pieces.character_from.Given as goal
 
 abbrev pub invariant-loop-i : goal.invariant-loop-i

@@ -2,7 +2,6 @@
 use Prim.Native.Nat.{ℕ}
 use mathlib.Core.List.{List}
 use Rattle.alphabets.proofs.PieceLaws.{characters_more, characters_none}
-use borrow.Author.Rules.{rules}
 use Rattle.alphabets.proofs.pieces.first_characters.Goals as goal
 
 pub returns : goal.returns

@@ -1,11 +1,7 @@
 -- `alphabets::pieces::read_piece` meets its contract: each turn takes a run and an apostrophe (`taking_on`). Assumes nothing.
-use Prim.Native.Nat.{ℕ, ◌-◌, ◌+◌}
-use mathlib.Core.Path.{◌≡◌, ◌∙◌, ap}
-use native.Mathlib.Omega.{arith}
-use borrow.Author.Rules.{rules}
-use lib.ListN.{length, drop}
-use Rattle.alphabets.specs.Runs.{floor_of, run}
-use Rattle.alphabets.proofs.PieceLaws.{Taking, taking_start, taking_end, taking_run, taking_stops, taking_on}
+use Prim.Native.Nat.{◌-◌}
+use lib.ListN.{length}
+use Rattle.alphabets.proofs.PieceLaws.{Taking}
 use Rattle.alphabets.proofs.pieces.read_piece.Given as goal
 
 abbrev pub invariant-loop-i : goal.invariant-loop-i

@@ -1,10 +1,7 @@
 -- `alphabets::runs::put_on` meets its contract. Assumes nothing.
-use Prim.Native.Nat.{◌-◌}
 use mathlib.Core.Path.{refl}
 use native.Mathlib.Omega.{arith}
-use borrow.Author.Rules.{rules}
-use lib.ListN.{length}
-use Rattle.alphabets.proofs.RunLaws.{Moving, moving_start, moving_below, moving_on, moving_stop, moving_end}
+use Rattle.alphabets.proofs.RunLaws.{moving_start, moving_below, moving_on, moving_stop, moving_end}
 use Rattle.alphabets.proofs.runs.put_on.Goals as goal
 
 pub loop-k-init : goal.loop-k-init

@@ -1,5 +1,4 @@
 -- `alphabets::runs::put_run` meets its contract. Assumes nothing.
-use borrow.Author.Rules.{rules}
 use Rattle.alphabets.proofs.runs.put_run.Goals as goal
 
 pub put_on-requires : goal.put_on-requires

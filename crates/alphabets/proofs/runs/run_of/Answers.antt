@@ -1,10 +1,7 @@
 -- `alphabets::runs::run_of` meets its contract. Assumes nothing.
-use Prim.Native.Nat.{◌-◌}
 use mathlib.Core.Path.{refl, sym, ◌∙◌}
 use native.Mathlib.Omega.{arith}
-use borrow.Author.Rules.{rules}
-use lib.ListN.{length}
-use Rattle.alphabets.proofs.RunLaws.{Going, going_by, going_part}
+use Rattle.alphabets.proofs.RunLaws.{going_by, going_part}
 use Rattle.alphabets.proofs.runs.run_of.Goals as goal
 
 pub loop-k-init : goal.loop-k-init

@@ -1,10 +1,7 @@
 -- `alphabets::runs::run_of` meets its contract. Assumes nothing.
 use Prim.Native.Nat.{◌-◌}
-use mathlib.Core.Path.{refl, sym, ◌∙◌}
-use native.Mathlib.Omega.{arith}
-use borrow.Author.Rules.{rules}
 use lib.ListN.{length}
-use Rattle.alphabets.proofs.RunLaws.{Going, going_by, going_part}
+use Rattle.alphabets.proofs.RunLaws.{Going}
 use Rattle.alphabets.proofs.runs.run_of.Given as goal
 
 abbrev pub invariant-loop-k : goal.invariant-loop-k

@@ -1,10 +1,7 @@
 -- `alphabets::runs::run_on` meets its contract. Assumes nothing.
 use Prim.Native.Nat.{◌-◌}
-use mathlib.Core.Path.{refl}
-use native.Mathlib.Omega.{arith}
-use borrow.Author.Rules.{rules}
 use lib.ListN.{length}
-use Rattle.alphabets.proofs.RunLaws.{Going, going_on, going_stop, going_end}
+use Rattle.alphabets.proofs.RunLaws.{Going}
 use Rattle.alphabets.proofs.runs.run_on.Given as goal
 
 abbrev pub invariant-loop-k : goal.invariant-loop-k

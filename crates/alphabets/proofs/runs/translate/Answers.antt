@@ -1,13 +1,11 @@
 -- `alphabets::runs::translate` meets its contract. Assumes nothing.
-use Prim.Native.Nat.{◌-◌}
 use mathlib.Core.Path.{ap, ◌∙◌}
 use mathlib.Core.Bool.{false}
 use native.Mathlib.Omega.{arith}
-use borrow.Author.Rules.{rules}
 use lib.ListN.{length, drop}
 use lib.Seq.{length-sets}
 use Rattle.alphabets.specs.Runs.{through}
-use Rattle.alphabets.proofs.RunLaws.{Moving, moving_start, moving_room, moving_by, moving_kept, moving_part, moved}
+use Rattle.alphabets.proofs.RunLaws.{moving_start, moving_room, moving_by, moving_kept, moving_part, moved}
 use Rattle.alphabets.proofs.runs.translate.Goals as goal
 
 pub loop-k-init : goal.loop-k-init

@@ -52,7 +52,7 @@ pub slice_bounds-quote-count : goal.slice_bounds-quote-count
 slice_bounds-quote-count c =
     let moved : let a = c.args in (c.translate-k.result ≡ c.loop-i.i + run grid_table 1 (drop c.loop-i.i a.desk.now)) × (c.translate-k.new.out ≡ sets c.loop-i.out c.loop-i.n (through grid_table false (drop c.loop-i.i a.desk.now))) = rw c.requires.0 at c.translate-k.ensures in
     let russian : let a = c.args in Writing a.desk.now a.out.now c.translate-k.new.out a.at (c.loop-i.n + (c.translate-k.result - c.loop-i.i)) c.translate-k.result = rw moved.1 (run_step c.loop-i.invariant c.translate-k.result moved.0) in
-    let stop : let m = c.args.desk.now in get_or grid_table (get_or m c.translate-k.result 0) 0 ≤ 1 =             let w = ended grid_table 1 c.args.desk.now c.loop-i.i c.translate-k.result c.loop-i.invariant.long moved.0 in
+    let stop : let m = c.args.desk.now in get_or grid_table (get_or m c.translate-k.result 0) 0 ≤ 1 = let w = ended grid_table 1 c.args.desk.now c.loop-i.i c.translate-k.result c.loop-i.invariant.long moved.0 in
     w.stops (omega (arith, w.within)) in
     let more : c.translate-k.result < length c.args.desk.now = omega (arith, russian.long) in
     let fine : bad c.args.desk.now ≡ nowhere = c.requires.1 in
@@ -63,7 +63,7 @@ pub slice_bounds-quote-start : goal.slice_bounds-quote-start
 slice_bounds-quote-start c =
     let moved : let a = c.args in (c.translate-k.result ≡ c.loop-i.i + run grid_table 1 (drop c.loop-i.i a.desk.now)) × (c.translate-k.new.out ≡ sets c.loop-i.out c.loop-i.n (through grid_table false (drop c.loop-i.i a.desk.now))) = rw c.requires.0 at c.translate-k.ensures in
     let russian : let a = c.args in Writing a.desk.now a.out.now c.translate-k.new.out a.at (c.loop-i.n + (c.translate-k.result - c.loop-i.i)) c.translate-k.result = rw moved.1 (run_step c.loop-i.invariant c.translate-k.result moved.0) in
-    let stop : let m = c.args.desk.now in get_or grid_table (get_or m c.translate-k.result 0) 0 ≤ 1 =             let w = ended grid_table 1 c.args.desk.now c.loop-i.i c.translate-k.result c.loop-i.invariant.long moved.0 in
+    let stop : let m = c.args.desk.now in get_or grid_table (get_or m c.translate-k.result 0) 0 ≤ 1 = let w = ended grid_table 1 c.args.desk.now c.loop-i.i c.translate-k.result c.loop-i.invariant.long moved.0 in
     w.stops (omega (arith, w.within)) in
     let more : c.translate-k.result < length c.args.desk.now = omega (arith, russian.long) in
     let fine : bad c.args.desk.now ≡ nowhere = c.requires.1 in
@@ -74,7 +74,7 @@ pub slice_bounds-quote-end : goal.slice_bounds-quote-end
 slice_bounds-quote-end c =
     let moved : let a = c.args in (c.translate-k.result ≡ c.loop-i.i + run grid_table 1 (drop c.loop-i.i a.desk.now)) × (c.translate-k.new.out ≡ sets c.loop-i.out c.loop-i.n (through grid_table false (drop c.loop-i.i a.desk.now))) = rw c.requires.0 at c.translate-k.ensures in
     let russian : let a = c.args in Writing a.desk.now a.out.now c.translate-k.new.out a.at (c.loop-i.n + (c.translate-k.result - c.loop-i.i)) c.translate-k.result = rw moved.1 (run_step c.loop-i.invariant c.translate-k.result moved.0) in
-    let stop : let m = c.args.desk.now in get_or grid_table (get_or m c.translate-k.result 0) 0 ≤ 1 =             let w = ended grid_table 1 c.args.desk.now c.loop-i.i c.translate-k.result c.loop-i.invariant.long moved.0 in
+    let stop : let m = c.args.desk.now in get_or grid_table (get_or m c.translate-k.result 0) 0 ≤ 1 = let w = ended grid_table 1 c.args.desk.now c.loop-i.i c.translate-k.result c.loop-i.invariant.long moved.0 in
     w.stops (omega (arith, w.within)) in
     let more : c.translate-k.result < length c.args.desk.now = omega (arith, russian.long) in
     let fine : bad c.args.desk.now ≡ nowhere = c.requires.1 in
@@ -85,7 +85,7 @@ pub quote-requires : goal.quote-requires
 quote-requires c =
     let moved : let a = c.args in (c.translate-k.result ≡ c.loop-i.i + run grid_table 1 (drop c.loop-i.i a.desk.now)) × (c.translate-k.new.out ≡ sets c.loop-i.out c.loop-i.n (through grid_table false (drop c.loop-i.i a.desk.now))) = rw c.requires.0 at c.translate-k.ensures in
     let russian : let a = c.args in Writing a.desk.now a.out.now c.translate-k.new.out a.at (c.loop-i.n + (c.translate-k.result - c.loop-i.i)) c.translate-k.result = rw moved.1 (run_step c.loop-i.invariant c.translate-k.result moved.0) in
-    let stop : let m = c.args.desk.now in get_or grid_table (get_or m c.translate-k.result 0) 0 ≤ 1 =             let w = ended grid_table 1 c.args.desk.now c.loop-i.i c.translate-k.result c.loop-i.invariant.long moved.0 in
+    let stop : let m = c.args.desk.now in get_or grid_table (get_or m c.translate-k.result 0) 0 ≤ 1 = let w = ended grid_table 1 c.args.desk.now c.loop-i.i c.translate-k.result c.loop-i.invariant.long moved.0 in
     w.stops (omega (arith, w.within)) in
     let more : c.translate-k.result < length c.args.desk.now = omega (arith, russian.long) in
     let fine : bad c.args.desk.now ≡ nowhere = c.requires.1 in
@@ -98,7 +98,7 @@ pub overflow_sub-n-in-loop-i : goal.overflow_sub-n-in-loop-i
 overflow_sub-n-in-loop-i c =
     let moved : let a = c.args in (c.translate-k.result ≡ c.loop-i.i + run grid_table 1 (drop c.loop-i.i a.desk.now)) × (c.translate-k.new.out ≡ sets c.loop-i.out c.loop-i.n (through grid_table false (drop c.loop-i.i a.desk.now))) = rw c.requires.0 at c.translate-k.ensures in
     let russian : let a = c.args in Writing a.desk.now a.out.now c.translate-k.new.out a.at (c.loop-i.n + (c.translate-k.result - c.loop-i.i)) c.translate-k.result = rw moved.1 (run_step c.loop-i.invariant c.translate-k.result moved.0) in
-    let stop : let m = c.args.desk.now in get_or grid_table (get_or m c.translate-k.result 0) 0 ≤ 1 =             let w = ended grid_table 1 c.args.desk.now c.loop-i.i c.translate-k.result c.loop-i.invariant.long moved.0 in
+    let stop : let m = c.args.desk.now in get_or grid_table (get_or m c.translate-k.result 0) 0 ≤ 1 = let w = ended grid_table 1 c.args.desk.now c.loop-i.i c.translate-k.result c.loop-i.invariant.long moved.0 in
     w.stops (omega (arith, w.within)) in
     let more : c.translate-k.result < length c.args.desk.now = omega (arith, russian.long) in
     let fine : bad c.args.desk.now ≡ nowhere = c.requires.1 in
@@ -109,7 +109,7 @@ pub overflow_add-n-in-loop-i : goal.overflow_add-n-in-loop-i
 overflow_add-n-in-loop-i c =
     let moved : let a = c.args in (c.translate-k.result ≡ c.loop-i.i + run grid_table 1 (drop c.loop-i.i a.desk.now)) × (c.translate-k.new.out ≡ sets c.loop-i.out c.loop-i.n (through grid_table false (drop c.loop-i.i a.desk.now))) = rw c.requires.0 at c.translate-k.ensures in
     let russian : let a = c.args in Writing a.desk.now a.out.now c.translate-k.new.out a.at (c.loop-i.n + (c.translate-k.result - c.loop-i.i)) c.translate-k.result = rw moved.1 (run_step c.loop-i.invariant c.translate-k.result moved.0) in
-    let stop : let m = c.args.desk.now in get_or grid_table (get_or m c.translate-k.result 0) 0 ≤ 1 =             let w = ended grid_table 1 c.args.desk.now c.loop-i.i c.translate-k.result c.loop-i.invariant.long moved.0 in
+    let stop : let m = c.args.desk.now in get_or grid_table (get_or m c.translate-k.result 0) 0 ≤ 1 = let w = ended grid_table 1 c.args.desk.now c.loop-i.i c.translate-k.result c.loop-i.invariant.long moved.0 in
     w.stops (omega (arith, w.within)) in
     let more : c.translate-k.result < length c.args.desk.now = omega (arith, russian.long) in
     let fine : bad c.args.desk.now ≡ nowhere = c.requires.1 in
@@ -120,7 +120,7 @@ pub overflow_add-n-in-loop-i-2 : goal.overflow_add-n-in-loop-i-2
 overflow_add-n-in-loop-i-2 c =
     let moved : let a = c.args in (c.translate-k.result ≡ c.loop-i.i + run grid_table 1 (drop c.loop-i.i a.desk.now)) × (c.translate-k.new.out ≡ sets c.loop-i.out c.loop-i.n (through grid_table false (drop c.loop-i.i a.desk.now))) = rw c.requires.0 at c.translate-k.ensures in
     let russian : let a = c.args in Writing a.desk.now a.out.now c.translate-k.new.out a.at (c.loop-i.n + (c.translate-k.result - c.loop-i.i)) c.translate-k.result = rw moved.1 (run_step c.loop-i.invariant c.translate-k.result moved.0) in
-    let stop : let m = c.args.desk.now in get_or grid_table (get_or m c.translate-k.result 0) 0 ≤ 1 =             let w = ended grid_table 1 c.args.desk.now c.loop-i.i c.translate-k.result c.loop-i.invariant.long moved.0 in
+    let stop : let m = c.args.desk.now in get_or grid_table (get_or m c.translate-k.result 0) 0 ≤ 1 = let w = ended grid_table 1 c.args.desk.now c.loop-i.i c.translate-k.result c.loop-i.invariant.long moved.0 in
     w.stops (omega (arith, w.within)) in
     let more : c.translate-k.result < length c.args.desk.now = omega (arith, russian.long) in
     let fine : bad c.args.desk.now ≡ nowhere = c.requires.1 in
@@ -131,7 +131,7 @@ pub loop-i-smaller : goal.loop-i-smaller
 loop-i-smaller c =
     let moved : let a = c.args in (c.translate-k.result ≡ c.loop-i.i + run grid_table 1 (drop c.loop-i.i a.desk.now)) × (c.translate-k.new.out ≡ sets c.loop-i.out c.loop-i.n (through grid_table false (drop c.loop-i.i a.desk.now))) = rw c.requires.0 at c.translate-k.ensures in
     let russian : let a = c.args in Writing a.desk.now a.out.now c.translate-k.new.out a.at (c.loop-i.n + (c.translate-k.result - c.loop-i.i)) c.translate-k.result = rw moved.1 (run_step c.loop-i.invariant c.translate-k.result moved.0) in
-    let stop : let m = c.args.desk.now in get_or grid_table (get_or m c.translate-k.result 0) 0 ≤ 1 =             let w = ended grid_table 1 c.args.desk.now c.loop-i.i c.translate-k.result c.loop-i.invariant.long moved.0 in
+    let stop : let m = c.args.desk.now in get_or grid_table (get_or m c.translate-k.result 0) 0 ≤ 1 = let w = ended grid_table 1 c.args.desk.now c.loop-i.i c.translate-k.result c.loop-i.invariant.long moved.0 in
     w.stops (omega (arith, w.within)) in
     let more : c.translate-k.result < length c.args.desk.now = omega (arith, russian.long) in
     let fine : bad c.args.desk.now ≡ nowhere = c.requires.1 in
@@ -143,11 +143,11 @@ pub loop-i-preserved : goal.loop-i-preserved
 loop-i-preserved c =
     let moved : let a = c.args in (c.translate-k.result ≡ c.loop-i.i + run grid_table 1 (drop c.loop-i.i a.desk.now)) × (c.translate-k.new.out ≡ sets c.loop-i.out c.loop-i.n (through grid_table false (drop c.loop-i.i a.desk.now))) = rw c.requires.0 at c.translate-k.ensures in
     let russian : let a = c.args in Writing a.desk.now a.out.now c.translate-k.new.out a.at (c.loop-i.n + (c.translate-k.result - c.loop-i.i)) c.translate-k.result = rw moved.1 (run_step c.loop-i.invariant c.translate-k.result moved.0) in
-    let stop : let m = c.args.desk.now in get_or grid_table (get_or m c.translate-k.result 0) 0 ≤ 1 =             let w = ended grid_table 1 c.args.desk.now c.loop-i.i c.translate-k.result c.loop-i.invariant.long moved.0 in
+    let stop : let m = c.args.desk.now in get_or grid_table (get_or m c.translate-k.result 0) 0 ≤ 1 = let w = ended grid_table 1 c.args.desk.now c.loop-i.i c.translate-k.result c.loop-i.invariant.long moved.0 in
     w.stops (omega (arith, w.within)) in
     let more : c.translate-k.result < length c.args.desk.now = omega (arith, russian.long) in
     let fine : bad c.args.desk.now ≡ nowhere = c.requires.1 in
-                    rw c.quote.ensures (group_step russian fine more stop c.stretch_from-s.result.last c.stretch_from-s.ensures.0)
+    rw c.quote.ensures (group_step russian fine more stop c.stretch_from-s.result.last c.stretch_from-s.ensures.0)
 
 pub shape_of-out : goal.shape_of-out
 shape_of-out c = c.loop-i.invariant.is.kept

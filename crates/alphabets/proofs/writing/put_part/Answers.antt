@@ -1,6 +1,5 @@
 -- `alphabets::writing::put_part` meets its contract. Assumes nothing.
 use Rattle.alphabets.proofs.WriteLaws.{one_letter}
-use borrow.Author.Rules.{rules}
 use Rattle.alphabets.proofs.writing.put_part.Goals as goal
 
 pub returns-then-part-eq1 : goal.returns-then-part-eq1

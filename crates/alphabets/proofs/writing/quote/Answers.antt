@@ -5,7 +5,6 @@ use native.Mathlib.Omega.{arith}
 use lib.ListN.{set, length-set}
 use Rattle.base.specs.Calls.{placed}
 use Rattle.alphabets.proofs.WriteLaws.{quote_kept, quote_below, quote_done}
-use borrow.Author.Rules.{rules}
 use Rattle.alphabets.proofs.writing.quote.Goals as goal
 
 pub put_part-requires : goal.put_part-requires

@@ -1,13 +1,10 @@
 -- `alphabets::writing::stretch_from` meets its contract. Assumes nothing.
-use Prim.Native.Nat.{ℕ, ◌-◌, ◌≤◌}
-use mathlib.Core.Path.{◌≡◌, sym, ◌∙◌, ap}
+use Prim.Native.Nat.{◌-◌, ◌≤◌}
+use mathlib.Core.Path.{◌≡◌}
 use mathlib.Core.Bool.{true}
-use mathlib.Core.List.{List}
-use native.Mathlib.Omega.{arith}
-use borrow.Author.Rules.{rules}
-use lib.ListN.{length, drop, get_or}
-use Rattle.alphabets.specs.Steps.{sized, extent_on, grid_table}
-use Rattle.alphabets.proofs.WriteLaws.{is_unwritable, is_latin, is_common, is_russian, next_unwritable, next_russian, next_none, latin_run_start, latin_run_latin, latin_run_common, Grouping, grouping_start, grouping_latin, grouping_common, grouping_end}
+use lib.ListN.{length, drop}
+use Rattle.alphabets.specs.Steps.{sized, extent_on}
+use Rattle.alphabets.proofs.WriteLaws.{Grouping}
 use Rattle.alphabets.proofs.writing.stretch_from.Given as goal
 
 abbrev pub invariant-loop-i : goal.invariant-loop-i

@@ -1,6 +1,5 @@
 -- `answers::programs::names_type` meets its contract: byte by byte. Assumes nothing.
 use Rattle.answers.proofs.TypeLaws.{untyped_short, untyped_first, untyped_second, untyped_third, typed_last}
-use borrow.Author.Rules.{rules}
 use Rattle.answers.proofs.programs.names_type.Goals as goal
 
 pub returns-then-i-lt4 : goal.returns-then-i-lt4

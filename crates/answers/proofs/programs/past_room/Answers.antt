@@ -1,6 +1,5 @@
 -- `answers::programs::past_room` meets its contract: 17 alone is changed. Assumes nothing.
 use Rattle.answers.proofs.CallLaws.{kept}
-use borrow.Author.Rules.{rules}
 use Rattle.answers.proofs.programs.past_room.Goals as goal
 
 pub returns : goal.returns

@@ -1,7 +1,6 @@
 -- `answers::programs::read_named` meets its contract: 18 where no type is named, else the call on what stands behind it. Assumes nothing.
 use Rattle.answers.proofs.TypeLaws.{off, on}
 use Rattle.answers.proofs.SheetLaws.{reads_untyped, reads_typed}
-use borrow.Author.Rules.{rules}
 use Rattle.answers.proofs.programs.read_named.Goals as goal
 
 pub returns-then-not-names_type : goal.returns-then-not-names_type

@@ -1,7 +1,6 @@
 -- `answers::programs::type_of` meets its contract: the digits are there, and are digits. Assumes nothing.
 use native.Mathlib.Omega.{arith}
 use Rattle.answers.proofs.TypeLaws.{named}
-use borrow.Author.Rules.{rules}
 use Rattle.answers.proofs.programs.type_of.Goals as goal
 
 pub bounds-i-0 : goal.bounds-i-0

@@ -2,7 +2,6 @@
 use native.Mathlib.Omega.{arith}
 use lib.ListN.{length-set}
 use Rattle.answers.proofs.LineLaws.{place_room, tab_inside, number_room, line_size, line_laid}
-use borrow.Author.Rules.{rules}
 use Rattle.answers.proofs.shown.lay_line.Goals as goal
 
 pub put_digits-p-requires : goal.put_digits-p-requires

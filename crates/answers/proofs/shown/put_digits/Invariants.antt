@@ -1,7 +1,5 @@
 -- `answers::shown::put_digits` meets its contract: a digit in front of another, while ten goes in. Assumes nothing.
-use native.Mathlib.Omega.{arith}
-use lib.ListN.{length-set}
-use Rattle.answers.proofs.LineLaws.{Laying, laying_start, laying_room, laying_on, laying_end}
+use Rattle.answers.proofs.LineLaws.{Laying}
 use Rattle.answers.proofs.shown.put_digits.Given as goal
 
 abbrev pub invariant-loop-left : goal.invariant-loop-left

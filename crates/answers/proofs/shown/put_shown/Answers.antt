@@ -1,7 +1,6 @@
 -- `answers::shown::put_shown` meets its contract: the text, or the line. Assumes nothing.
 use mathlib.Core.Path.{◌∙◌}
 use Rattle.answers.proofs.LineLaws.{shown_as}
-use borrow.Author.Rules.{rules}
 use Rattle.answers.proofs.shown.put_shown.Goals as goal
 
 pub returns-in-Done : goal.returns-in-Done

@@ -1,6 +1,5 @@
 -- `answers::shown::put_whole` meets its contract: 17, or the text. Assumes nothing.
 use Rattle.answers.proofs.LineLaws.{shows_short, shows_put}
-use borrow.Author.Rules.{rules}
 use Rattle.answers.proofs.shown.put_whole.Goals as goal
 
 pub returns-then-out-t : goal.returns-then-out-t

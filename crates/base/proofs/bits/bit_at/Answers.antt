@@ -4,7 +4,6 @@ use mathlib.Core.Path.{sym, ap}
 use native.Mathlib.Nat.{div-eq_of_lt}
 use native.Mathlib.Omega.{arith}
 use Rattle.base.proofs.BitLaws.{past_word}
-use borrow.Author.Rules.{rules}
 use Rattle.base.proofs.bits.bit_at.Goals as goal
 
 pub returns-else-place-lt32 : goal.returns-else-place-lt32

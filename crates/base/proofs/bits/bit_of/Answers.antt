@@ -5,12 +5,11 @@ use native.Mathlib.Nat.{one-mul, mod-eq_of_lt}
 use lib.Pow.{pow-lt}
 use borrow.Author.Tests.{lt-ltb, le-ltb}
 use Rattle.base.specs.Bits.{bit_of}
-use borrow.Author.Rules.{rules}
 use Rattle.base.proofs.bits.bit_of.Goals as goal
 
 pub returns-then-place-lt32 : goal.returns-then-place-lt32
 unfolding bit_of
-returns-then-place-lt32 c =     rw (lt-ltb c.args.place 32 c.if-place-lt32.true)
+returns-then-place-lt32 c = rw (lt-ltb c.args.place 32 c.if-place-lt32.true)
     (ap (λ (n : ℕ). n % 4294967296) (one-mul (2 ^ c.args.place)) ∙ mod-eq_of_lt (pow-lt {j = 32} c.if-place-lt32.true))
 
 pub returns-else-place-lt32 : goal.returns-else-place-lt32

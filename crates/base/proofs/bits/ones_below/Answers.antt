@@ -6,7 +6,6 @@ use native.Mathlib.Omega.{arith}
 use lib.Count.{ones, ones-le}
 use lib.Pow.{pow_pos}
 use Rattle.base.proofs.BitLaws.{bit_of_lem, past_word}
-use borrow.Author.Rules.{rules}
 use Rattle.base.proofs.bits.ones_below.Goals as goal
 
 pub overflow_cast-result : goal.overflow_cast-result

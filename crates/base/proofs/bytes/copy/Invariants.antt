@@ -1,12 +1,8 @@
 -- `base::bytes::copy` meets its contract: what is left of the part is put behind what was put. Assumes nothing.
 use Prim.Native.Nat.{◌-◌, ◌≤◌, ◌+◌}
-use mathlib.Core.Path.{◌≡◌, refl, sym, ◌∙◌}
-use native.Mathlib.Omega.{arith}
-use native.Mathlib.Nat.{add-zero}
-use borrow.Author.Rules.{rules}
-use lib.ListN.{length, drop, length-set}
+use mathlib.Core.Path.{◌≡◌}
+use lib.ListN.{length, drop}
 use lib.Seq.{sets}
-use Rattle.base.proofs.Room.{placed_fits, copy_on, copy_end}
 use Rattle.base.proofs.bytes.copy.Given as goal
 
 abbrev pub invariant-loop-k : goal.invariant-loop-k

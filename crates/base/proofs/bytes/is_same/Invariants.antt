@@ -1,10 +1,8 @@
 -- `base::bytes::is_same` meets its contract: a byte of both a turn. Assumes nothing.
 use Prim.Native.Nat.{◌-◌, ◌≤◌}
-use mathlib.Core.Path.{◌≡◌, refl, sym, ◌∙◌}
-use native.Mathlib.Omega.{arith}
+use mathlib.Core.Path.{◌≡◌}
 use lib.ListN.{length, drop}
 use Rattle.base.specs.Bytes.{same}
-use Rattle.base.proofs.ByteLaws.{same_on, same_stop, same_end, same_not}
 use Rattle.base.proofs.bytes.is_same.Given as goal
 
 abbrev pub invariant-loop-i : goal.invariant-loop-i

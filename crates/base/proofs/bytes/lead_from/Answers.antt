@@ -1,10 +1,7 @@
 -- `base::bytes::lead_from` meets its contract: the lead from k on, a byte a turn. Assumes nothing.
-use Prim.Native.Nat.{◌-◌, ◌≤◌, ◌+◌}
-use mathlib.Core.Path.{◌≡◌, refl, sym, ◌∙◌}
+use mathlib.Core.Path.{refl, sym, ◌∙◌}
 use native.Mathlib.Omega.{arith}
 use borrow.Author.Rules.{rules}
-use lib.ListN.{length, drop}
-use Rattle.base.specs.Bytes.{lead}
 use Rattle.base.proofs.ByteLaws.{lead_on, lead_stop, lead_end}
 use Rattle.base.proofs.bytes.lead_from.Goals as goal
 

@@ -1,11 +1,8 @@
 -- `base::bytes::lead_from` meets its contract: the lead from k on, a byte a turn. Assumes nothing.
 use Prim.Native.Nat.{◌-◌, ◌≤◌, ◌+◌}
-use mathlib.Core.Path.{◌≡◌, refl, sym, ◌∙◌}
-use native.Mathlib.Omega.{arith}
-use borrow.Author.Rules.{rules}
+use mathlib.Core.Path.{◌≡◌}
 use lib.ListN.{length, drop}
 use Rattle.base.specs.Bytes.{lead}
-use Rattle.base.proofs.ByteLaws.{lead_on, lead_stop, lead_end}
 use Rattle.base.proofs.bytes.lead_from.Given as goal
 
 abbrev pub invariant-loop-k : goal.invariant-loop-k

@@ -1,12 +1,8 @@
 -- `base::bytes::lead_of` meets its contract: four bytes of class 0 a turn (`lead_four`). Assumes nothing.
 use Prim.Native.Nat.{◌-◌, ◌≤◌, ◌+◌}
-use mathlib.Core.Path.{◌≡◌, sym, ◌∙◌}
-use native.Mathlib.Omega.{arith}
-use native.Mathlib.Nat.{zero-add}
-use borrow.Author.Rules.{rules}
+use mathlib.Core.Path.{◌≡◌}
 use lib.ListN.{length, drop}
 use Rattle.base.specs.Bytes.{lead}
-use Rattle.base.proofs.ByteLaws.{lead_four}
 use Rattle.base.proofs.bytes.lead_of.Given as goal
 
 abbrev pub invariant-loop-k : goal.invariant-loop-k

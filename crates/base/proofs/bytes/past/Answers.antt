@@ -1,6 +1,5 @@
 -- `base::bytes::past` meets its contract. Assumes nothing.
 use Rattle.base.proofs.ByteLaws.{past_end, past_in}
-use borrow.Author.Rules.{rules}
 use Rattle.base.proofs.bytes.past.Goals as goal
 
 pub returns-then-s-n : goal.returns-then-s-n

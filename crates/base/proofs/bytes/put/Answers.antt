@@ -2,7 +2,6 @@
 use mathlib.Core.Path.{sym}
 use native.Mathlib.Omega.{arith}
 use Rattle.base.proofs.Room.{placed_not}
-use borrow.Author.Rules.{rules}
 use Rattle.base.proofs.bytes.put.Goals as goal
 
 pub returns-then-out-at : goal.returns-then-out-at

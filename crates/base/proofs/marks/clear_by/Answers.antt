@@ -1,10 +1,6 @@
 -- `base::marks::clear_by` meets its contract: w bytes a turn. Assumes nothing.
-use Rattle.base.specs.Bytes.{count_up_to}
-use lib.ListN.{length, drop}
-use borrow.Author.Tests.{not-false}
 use native.Mathlib.Omega.{arith}
-use mathlib.Core.Path.{◌≡◌, refl}
-use Prim.Native.Nat.{◌+◌, ◌-◌, ◌≤◌}
+use mathlib.Core.Path.{refl}
 use Rattle.base.proofs.marks.clear_by.Goals as goal
 
 pub loop-i-init : goal.loop-i-init

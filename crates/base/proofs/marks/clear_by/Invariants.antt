@@ -1,9 +1,7 @@
 -- `base::marks::clear_by` meets its contract: w bytes a turn. Assumes nothing.
 use Rattle.base.specs.Bytes.{count_up_to}
 use lib.ListN.{length, drop}
-use borrow.Author.Tests.{not-false}
-use native.Mathlib.Omega.{arith}
-use mathlib.Core.Path.{◌≡◌, refl}
+use mathlib.Core.Path.{◌≡◌}
 use Prim.Native.Nat.{◌+◌, ◌-◌, ◌≤◌}
 use Rattle.base.proofs.marks.clear_by.Given as goal
 

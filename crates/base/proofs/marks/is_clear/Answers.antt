@@ -4,10 +4,9 @@ use Rattle.base.specs.Bytes.{count_up_to}
 use lib.ListN.{drop}
 use native.Mathlib.Nat.{zero-add, add-zero}
 use native.Mathlib.Omega.{arith}
-use mathlib.Core.Logic.{⊎_elim}
-use mathlib.Core.Bool.{true, false≢true}
+use mathlib.Core.Bool.{false≢true}
 use mathlib.Core.Path.{◌≡◌, sym, ap, ◌∙◌}
-use Prim.Native.Nat.{ℕ, ◌+◌, ◌-◌, ◌≤◌}
+use Prim.Native.Nat.{ℕ, ◌+◌}
 use Rattle.base.proofs.marks.is_clear.Goals as goal
 use Rattle.base.proofs.marks.is_clear.Goals.{then-s-i, else-s-i}
 
@@ -29,8 +28,8 @@ loop-k-smaller c = omega arith
 pub loop-k-preserved : goal.loop-k-preserved
 loop-k-preserved c = let a = c.args in let s = a.s.now in let i = a.i in let k = c.loop-k.k in
     elim c.if-s-i.branch [
-      then-s-i w ↦ (omega arith, λ e. absurd (false≢true (sym w.clear-is ∙ e)))
-    | else-s-i w ↦ (omega arith, λ e. omega (arith, c.loop-k.invariant.1 (sym w.clear-is ∙ e), up_pass a.c s (i + k) (i + (k + 1)) (omega arith) (omega arith) w.if-s-i.false))
+      | then-s-i w ↦ (omega arith, λ e. absurd (false≢true (sym w.clear-is ∙ e)))
+      | else-s-i w ↦ (omega arith, λ e. omega (arith, c.loop-k.invariant.1 (sym w.clear-is ∙ e), up_pass a.c s (i + k) (i + (k + 1)) (omega arith) (omega arith) w.if-s-i.false))
     ]
 
 pub returns : goal.returns

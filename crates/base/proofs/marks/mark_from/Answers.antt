@@ -1,10 +1,8 @@
 -- `base::marks::mark_from` meets its contract: a byte a turn. Assumes nothing.
-use Prim.Native.Nat.{◌-◌, ◌+◌, ◌≤◌}
-use mathlib.Core.Path.{◌≡◌, refl}
+use Prim.Native.Nat.{◌+◌}
+use mathlib.Core.Path.{refl}
 use native.Mathlib.Omega.{arith}
 use borrow.Author.Rules.{rules}
-use lib.ListN.{length, drop}
-use Rattle.base.specs.Bytes.{count_up_to}
 use Rattle.base.proofs.MarkLaws.{up_pass, up_hit, up_end}
 use Rattle.base.proofs.marks.mark_from.Goals as goal
 

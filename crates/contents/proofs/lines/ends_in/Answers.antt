@@ -2,7 +2,6 @@
 use mathlib.Core.Logic.{inl, inr, ⊎_elim}
 use native.Mathlib.Omega.{arith}
 use Rattle.base.proofs.SaysLaws.{says_so, says_not}
-use borrow.Author.Rules.{rules}
 use Rattle.contents.proofs.lines.ends_in.Goals as goal
 
 pub returns-then-l-i : goal.returns-then-l-i

@@ -1,12 +1,8 @@
 -- `contents::lines::has_pair` meets its contract. Assumes nothing.
-use Rattle.base.proofs.SaysLaws.{says_so, says_not}
 use Rattle.base.specs.Says.{Not}
 use Prim.Native.Nat.{ℕ, ◌+◌, ◌≤◌, ◌<◌, ◌-◌}
-use mathlib.Core.Path.{◌≡◌, ap, ◌∙◌}
-use native.Mathlib.Omega.{arith}
 use lib.ListN.{length}
-use Rattle.contents.proofs.ShortLaws.{Pair, pair_made, pair_there, pair_on}
-use Rattle.base.specs.Bytes.{byte}
+use Rattle.contents.proofs.ShortLaws.{Pair}
 use Rattle.contents.proofs.lines.has_pair.Given as goal
 
 abbrev pub invariant-loop-i : goal.invariant-loop-i

@@ -2,7 +2,7 @@
 use mathlib.Core.Path.{sym, ◌∙◌}
 use mathlib.Core.Bool.{false≢true}
 use mathlib.Core.Logic.{inl, inr}
-use borrow.Author.Tests.{not-true, not-false}
+use borrow.Author.Tests.{not-false}
 use Rattle.contents.proofs.TaxLaws.{inn_by_10, inn_by_12, inn_by_none}
 use Rattle.contents.proofs.lines.inn_size.Goals as goal
 

@@ -3,7 +3,6 @@ use Rattle.base.proofs.SaysLaws.{says_not}
 use native.Mathlib.Omega.{arith}
 use borrow.Author.Tests.{not-true, not-false, eqb-true, eqb-false}
 use Rattle.contents.proofs.LineLaws.{account_size, account_first, account_second, is_account_lem}
-use borrow.Author.Rules.{rules}
 use Rattle.contents.proofs.lines.is_account.Goals as goal
 
 pub returns-then-l-lt2 : goal.returns-then-l-lt2

@@ -2,7 +2,6 @@
 use Rattle.base.proofs.SaysLaws.{said, denied, says_so, says_not}
 use native.Mathlib.Omega.{arith}
 use Rattle.contents.proofs.BankLaws.{bic_tests, bic_short, bic_long}
-use borrow.Author.Rules.{rules}
 use Rattle.contents.proofs.lines.is_bic.Goals as goal
 
 pub returns-then-l-lt-SHORT_BIC : goal.returns-then-l-lt-SHORT_BIC

@@ -1,7 +1,6 @@
 -- `contents::lines::is_own_account` meets its contract. Assumes nothing.
 use Rattle.base.proofs.SaysLaws.{said, denied, says_not}
 use Rattle.contents.proofs.BankLaws.{own_tests, own_made}
-use borrow.Author.Rules.{rules}
 use Rattle.contents.proofs.lines.is_own_account.Goals as goal
 
 pub returns-then-l-ne-OWN : goal.returns-then-l-ne-OWN

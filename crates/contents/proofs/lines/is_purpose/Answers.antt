@@ -4,7 +4,6 @@ use mathlib.Core.Path.{sym, ◌∙◌}
 use native.Mathlib.Omega.{arith}
 use borrow.Author.Tests.{not-true, not-false, eqb-true, eqb-false}
 use Rattle.contents.proofs.ShortLaws.{purpose_tests, purpose_made}
-use borrow.Author.Rules.{rules}
 use Rattle.contents.proofs.lines.is_purpose.Goals as goal
 
 pub returns-then-l-ne3 : goal.returns-then-l-ne3

@@ -2,7 +2,6 @@
 use Rattle.base.proofs.SaysLaws.{says_so, says_not}
 use native.Mathlib.Omega.{arith}
 use Rattle.contents.proofs.ShortLaws.{ref_first, ref_last, ref_pair, ref_made}
-use borrow.Author.Rules.{rules}
 use Rattle.contents.proofs.lines.is_reference.Goals as goal
 
 pub returns-then-l-lt1 : goal.returns-then-l-lt1

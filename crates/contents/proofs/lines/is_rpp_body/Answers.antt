@@ -1,6 +1,5 @@
 -- `contents::lines::is_rpp_body` meets its contract. Assumes nothing.
 use Rattle.base.proofs.SaysLaws.{said, denied, says_not}
-use borrow.Author.Rules.{rules}
 use Rattle.contents.proofs.lines.is_rpp_body.Goals as goal
 
 pub returns-then-l-i-ne46 : goal.returns-then-l-i-ne46

@@ -2,7 +2,6 @@
 use Rattle.base.proofs.SaysLaws.{says_so}
 use Rattle.base.specs.Says.{Not, ◌or◌}
 use mathlib.Core.Logic.{inl, inr}
-use borrow.Author.Rules.{rules}
 use Rattle.contents.proofs.lines.is_way.Goals as goal
 
 none_of : {A B C D : Type 0} → Not A → Not B → Not C → Not D → Not (A or B or C or D)

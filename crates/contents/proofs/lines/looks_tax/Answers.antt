@@ -1,5 +1,4 @@
 -- `contents::lines::looks_tax` meets its contract. Assumes nothing.
-use borrow.Author.Rules.{rules}
 use Rattle.contents.specs.Tests.{looks_tax}
 use Rattle.contents.proofs.lines.looks_tax.Goals as goal
 

@@ -2,7 +2,6 @@
 use Rattle.base.proofs.SaysLaws.{said, denied}
 use native.Mathlib.Omega.{arith}
 use Rattle.contents.proofs.BankLaws.{bik_tests, account_tests, account_made, bik_short, bik_long, not_party}
-use borrow.Author.Rules.{rules}
 use Rattle.contents.proofs.lines.party_line.Goals as goal
 
 pub returns-then-not-has_word : goal.returns-then-not-has_word

@@ -2,7 +2,6 @@
 use Rattle.base.proofs.SaysLaws.{said, denied}
 use native.Mathlib.Omega.{arith}
 use Rattle.contents.proofs.PaidLaws.{paid_tests, paid_passes, paid_made}
-use borrow.Author.Rules.{rules}
 use Rattle.contents.proofs.lines.payment.Goals as goal
 
 pub returns-then-l-lt-SHORTEST_PAID : goal.returns-then-l-lt-SHORTEST_PAID

@@ -2,7 +2,6 @@
 use Rattle.base.proofs.SaysLaws.{said, denied}
 use native.Mathlib.Omega.{arith}
 use Rattle.contents.proofs.RppLaws.{rpp_front, rpp_passes, rpp_short, rpp_long}
-use borrow.Author.Rules.{rules}
 use Rattle.contents.proofs.lines.rpp_line.Goals as goal
 
 pub returns-then-l-lt-SHORTEST_RPP : goal.returns-then-l-lt-SHORTEST_RPP

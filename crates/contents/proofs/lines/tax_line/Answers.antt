@@ -2,7 +2,6 @@
 use Rattle.base.proofs.SaysLaws.{said, denied}
 use native.Mathlib.Omega.{arith}
 use Rattle.contents.proofs.TaxLaws.{tax_some, tax_passes, tax_room, tax_long, tax_inn_lem, tax_both}
-use borrow.Author.Rules.{rules}
 use Rattle.contents.proofs.lines.tax_line.Goals as goal
 
 pub returns-then-n-eq0 : goal.returns-then-n-eq0

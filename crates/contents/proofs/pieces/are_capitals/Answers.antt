@@ -1,14 +1,9 @@
 -- `contents::pieces::are_capitals` meets its contract. Assumes nothing.
 use Rattle.base.proofs.SaysLaws.{says_so, says_not}
-use Prim.Native.Nat.{◌-◌, ◌≤◌}
 use mathlib.Core.Path.{◌≡◌, refl, sym, ◌∙◌}
 use mathlib.Core.Bool.{true}
 use native.Mathlib.Omega.{arith}
-use borrow.Author.Rules.{rules}
-use borrow.Author.Tests.{not-true, not-false}
-use Rattle.base.specs.Choice.{all}
 use Rattle.base.specs.Bytes.{capital}
-use Rattle.contents.specs.Answers.{cut}
 use Rattle.contents.proofs.Laws.{kind_not, kind_on, just}
 use Rattle.contents.proofs.pieces.are_capitals.Goals as goal
 

@@ -1,16 +1,9 @@
 -- `contents::pieces::are_digits` meets its contract. Assumes nothing.
-use Rattle.base.specs.Says.{Says}
 use Rattle.base.proofs.SaysLaws.{says_so, says_not}
-use Prim.Native.Nat.{◌-◌, ◌+◌, ◌≤◌}
+use Prim.Native.Nat.{◌+◌}
 use mathlib.Core.Path.{◌≡◌, refl, sym, ◌∙◌}
-use mathlib.Core.Bool.{true}
-use mathlib.Core.Logic.{⊎_elim}
 use native.Mathlib.Omega.{arith}
-use borrow.Author.Rules.{rules}
-use borrow.Author.Tests.{not-true, not-false}
-use Rattle.base.specs.Choice.{all}
 use Rattle.base.specs.Bytes.{digit}
-use Rattle.contents.specs.Answers.{cut}
 use Rattle.contents.proofs.Laws.{kind_not, flag_on, just}
 use Rattle.contents.proofs.pieces.are_digits.Goals as goal
 use Rattle.contents.proofs.pieces.are_digits.Goals.{then-not-is_digit, else-not-is_digit}
@@ -33,8 +26,8 @@ loop-k-smaller c = omega arith
 pub loop-k-preserved : goal.loop-k-preserved
 loop-k-preserved c = let a = c.args in
     elim c.if-not-is_digit.branch [
-      then-not-is_digit w ↦ (omega arith, rw w.fine-is (says_not (kind_not digit a.i a.s.now (c.loop-k.k + 1) c.loop-k.k (omega arith) (omega arith) (sym c.is_digit.ensures ∙ w.if-not-is_digit.true))))
-    | else-not-is_digit w ↦ (omega arith, rw w.fine-is (flag_on digit a.i a.s.now c.loop-k.fine c.loop-k.k (omega arith) c.loop-k.invariant.1 (sym c.is_digit.ensures ∙ w.if-not-is_digit.false)))
+      | then-not-is_digit w ↦ (omega arith, rw w.fine-is (says_not (kind_not digit a.i a.s.now (c.loop-k.k + 1) c.loop-k.k (omega arith) (omega arith) (sym c.is_digit.ensures ∙ w.if-not-is_digit.true))))
+      | else-not-is_digit w ↦ (omega arith, rw w.fine-is (flag_on digit a.i a.s.now c.loop-k.fine c.loop-k.k (omega arith) c.loop-k.invariant.1 (sym c.is_digit.ensures ∙ w.if-not-is_digit.false)))
     ]
 
 pub returns : goal.returns

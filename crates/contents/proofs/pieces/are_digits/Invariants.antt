@@ -1,17 +1,11 @@
 -- `contents::pieces::are_digits` meets its contract. Assumes nothing.
 use Rattle.base.specs.Says.{Says}
-use Rattle.base.proofs.SaysLaws.{says_so, says_not}
-use Prim.Native.Nat.{◌-◌, ◌+◌, ◌≤◌}
-use mathlib.Core.Path.{◌≡◌, refl, sym, ◌∙◌}
+use Prim.Native.Nat.{◌-◌, ◌≤◌}
+use mathlib.Core.Path.{◌≡◌}
 use mathlib.Core.Bool.{true}
-use mathlib.Core.Logic.{⊎_elim}
-use native.Mathlib.Omega.{arith}
-use borrow.Author.Rules.{rules}
-use borrow.Author.Tests.{not-true, not-false}
 use Rattle.base.specs.Choice.{all}
 use Rattle.base.specs.Bytes.{digit}
 use Rattle.contents.specs.Answers.{cut}
-use Rattle.contents.proofs.Laws.{kind_not, flag_on, just}
 use Rattle.contents.proofs.pieces.are_digits.Given as goal
 
 abbrev pub invariant-loop-k : goal.invariant-loop-k

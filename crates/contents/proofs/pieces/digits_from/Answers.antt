@@ -1,14 +1,7 @@
 -- `contents::pieces::digits_from` meets its contract. Assumes nothing.
-use Prim.Native.Nat.{◌-◌, ◌+◌, ◌≤◌}
-use mathlib.Core.Path.{◌≡◌, refl, sym, ◌∙◌}
-use mathlib.Core.Bool.{true}
+use mathlib.Core.Path.{refl, sym, ◌∙◌}
 use native.Mathlib.Omega.{arith}
-use borrow.Author.Rules.{rules}
-use borrow.Author.Tests.{not-true, not-false}
-use lib.ListN.{length}
-use Rattle.base.specs.Choice.{all}
 use Rattle.base.specs.Bytes.{digit}
-use Rattle.contents.specs.Answers.{cut}
 use Rattle.contents.proofs.Laws.{kind_on}
 use Rattle.contents.proofs.pieces.digits_from.Goals as goal
 
@@ -28,7 +21,7 @@ pub bounds-s-i : goal.bounds-s-i
 bounds-s-i c = omega arith
 
 pub returns-then-not-is_digit : goal.returns-then-not-is_digit
-returns-then-not-is_digit c =     record { within = c.loop-k.invariant.1; most = c.loop-k.invariant.0; each = c.loop-k.invariant.2; stop = λ x y. sym c.is_digit.ensures ∙ c.if-not-is_digit.true }
+returns-then-not-is_digit c = record { within = c.loop-k.invariant.1; most = c.loop-k.invariant.0; each = c.loop-k.invariant.2; stop = λ x y. sym c.is_digit.ensures ∙ c.if-not-is_digit.true }
 
 pub overflow_add-k : goal.overflow_add-k
 overflow_add-k c = omega arith

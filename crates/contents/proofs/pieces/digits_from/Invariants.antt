@@ -1,15 +1,11 @@
 -- `contents::pieces::digits_from` meets its contract. Assumes nothing.
 use Prim.Native.Nat.{◌-◌, ◌+◌, ◌≤◌}
-use mathlib.Core.Path.{◌≡◌, refl, sym, ◌∙◌}
+use mathlib.Core.Path.{◌≡◌}
 use mathlib.Core.Bool.{true}
-use native.Mathlib.Omega.{arith}
-use borrow.Author.Rules.{rules}
-use borrow.Author.Tests.{not-true, not-false}
 use lib.ListN.{length}
 use Rattle.base.specs.Choice.{all}
 use Rattle.base.specs.Bytes.{digit}
 use Rattle.contents.specs.Answers.{cut}
-use Rattle.contents.proofs.Laws.{kind_on}
 use Rattle.contents.proofs.pieces.digits_from.Given as goal
 
 abbrev pub invariant-loop-k : goal.invariant-loop-k

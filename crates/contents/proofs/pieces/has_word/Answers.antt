@@ -1,10 +1,7 @@
 -- `contents::pieces::has_word` meets its contract. Assumes nothing.
 use Rattle.base.proofs.SaysLaws.{says_so, says_not}
-use Prim.Native.Nat.{◌-◌, ◌≤◌}
-use mathlib.Core.Path.{◌≡◌, refl}
+use mathlib.Core.Path.{refl}
 use native.Mathlib.Omega.{arith}
-use lib.ListN.{length, take}
-use Rattle.contents.specs.Answers.{cut}
 use Rattle.contents.proofs.Laws.{word_on, word_off, word_end}
 use Rattle.contents.proofs.pieces.has_word.Goals as goal
 

@@ -1,11 +1,8 @@
 -- `contents::pieces::has_word` meets its contract. Assumes nothing.
-use Rattle.base.proofs.SaysLaws.{says_so, says_not}
 use Prim.Native.Nat.{◌-◌, ◌≤◌}
-use mathlib.Core.Path.{◌≡◌, refl}
-use native.Mathlib.Omega.{arith}
+use mathlib.Core.Path.{◌≡◌}
 use lib.ListN.{length, take}
 use Rattle.contents.specs.Answers.{cut}
-use Rattle.contents.proofs.Laws.{word_on, word_off, word_end}
 use Rattle.contents.proofs.pieces.has_word.Given as goal
 
 abbrev pub invariant-loop-k : goal.invariant-loop-k

@@ -1,7 +1,6 @@
 -- `contents::pieces::is_capital_or_digit` meets its contract. Assumes nothing.
 use Rattle.base.proofs.Flags.{flags}
 use Rattle.contents.specs.Words.{capital_or_digit}
-use borrow.Author.Rules.{rules}
 use Rattle.contents.proofs.pieces.is_capital_or_digit.Goals as goal
 
 pub returns-then-is_capital : goal.returns-then-is_capital

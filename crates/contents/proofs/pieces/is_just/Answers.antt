@@ -6,7 +6,6 @@ use lib.ListN.{length}
 use lib.Seq.{take-length}
 use Rattle.contents.specs.Words.{Text}
 use Rattle.contents.specs.Answers.{cut}
-use borrow.Author.Rules.{rules}
 use Rattle.contents.proofs.pieces.is_just.Goals as goal
 
 whole : (s w : Text) → length s ≡ length w → cut 0 (length w) s ≡ s

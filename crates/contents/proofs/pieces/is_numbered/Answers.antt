@@ -1,8 +1,6 @@
 -- `contents::pieces::is_numbered` meets its contract. Assumes nothing.
 use mathlib.Core.Path.{sym, ◌∙◌}
 use Rattle.contents.proofs.LineLaws.{starts_by, numbered_short, numbered_by}
-use borrow.Author.Tests.{not-true, not-false}
-use borrow.Author.Rules.{rules}
 use Rattle.contents.proofs.pieces.is_numbered.Goals as goal
 
 pub returns-then-s-n : goal.returns-then-s-n

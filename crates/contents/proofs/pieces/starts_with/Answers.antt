@@ -1,7 +1,6 @@
 -- `contents::pieces::starts_with` meets its contract. Assumes nothing.
 use mathlib.Core.Path.{sym}
 use Rattle.contents.proofs.LineLaws.{starts_short, starts_by}
-use borrow.Author.Rules.{rules}
 use Rattle.contents.proofs.pieces.starts_with.Goals as goal
 
 pub returns-then-s-word : goal.returns-then-s-word

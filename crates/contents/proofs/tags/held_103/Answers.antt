@@ -73,5 +73,5 @@ returns-in-3618626 c = sym (ap (λ (t : ℕ). held_in tags_103 (unpack t)) c.in-
 
 pub returns-in_default : goal.returns-in_default
 unfolding tags_103
-returns-in_default c =     let r = c.in_default.in_default-own.rest in
+returns-in_default c = let r = c.in_default.in_default-own.rest in
     sym (no_tag tags_103 c.args.tag (r.0.0.0.0.0.0.0.0.0.0.0.0.0.0.0.1, (r.0.0.0.0.0.0.0.0.0.0.0.0.0.0.1, (r.0.0.0.0.0.0.0.0.0.0.0.0.0.1, (r.0.0.0.0.0.0.0.0.0.0.0.0.1, (r.0.0.0.0.0.0.0.0.0.0.0.1, (r.0.0.0.0.0.0.0.0.0.0.1, (r.0.0.0.0.0.0.0.0.0.1, (r.0.0.0.0.0.0.0.0.1, (r.0.0.0.0.0.0.0.1, (r.0.0.0.0.0.0.1, (r.0.0.0.0.0.1, (r.0.0.0.0.1, (r.0.0.0.1, (r.0.0.1, (r.0.1, (r.1, tt)))))))))))))))))

@@ -57,5 +57,5 @@ returns-in-3617280 c = sym (ap (λ (t : ℕ). held_in tags_202 (unpack t)) c.in-
 
 pub returns-in_default : goal.returns-in_default
 unfolding tags_202
-returns-in_default c =     let r = c.in_default.in_default-own.rest in
+returns-in_default c = let r = c.in_default.in_default-own.rest in
     sym (no_tag tags_202 c.args.tag (r.0.0.0.0.0.0.0.0.0.0.0.1, (r.0.0.0.0.0.0.0.0.0.0.1, (r.0.0.0.0.0.0.0.0.0.1, (r.0.0.0.0.0.0.0.0.1, (r.0.0.0.0.0.0.0.1, (r.0.0.0.0.0.0.1, (r.0.0.0.0.0.1, (r.0.0.0.0.1, (r.0.0.0.1, (r.0.0.1, (r.0.1, (r.1, tt)))))))))))))

@@ -1,6 +1,5 @@
 -- `contents::tags::held_by` meets its contract. Assumes nothing.
 use mathlib.Core.Path.{sym, ap, ◌∙◌}
-use borrow.Author.Rules.{rules}
 use Rattle.fields.specs.Shapes.{unpack}
 use Rattle.types.specs.declared.Form.{Form}
 use Rattle.contents.specs.Tags.{held_by}

@@ -1,7 +1,6 @@
 -- `contents::whole::account_and_bic` meets its contract. Assumes nothing.
 use Rattle.base.proofs.SaysLaws.{said, denied, says_not}
 use Rattle.contents.proofs.FieldLaws.{taken_0, front_0, last_0, on_0}
-use borrow.Author.Rules.{rules}
 use Rattle.contents.proofs.whole.account_and_bic.Goals as goal
 
 pub slice_bounds-is_account-end : goal.slice_bounds-is_account-end

@@ -1,15 +1,9 @@
 -- `contents::whole::are_lines` meets its contract. Assumes nothing.
 use Rattle.base.proofs.SaysLaws.{said, denied, says_so, says_not}
 use Rattle.contents.proofs.FieldLaws.{lines_on, front, names_none, names_last, names_more, names_first, names_rest}
-use Prim.Native.Nat.{◌≤◌, ◌-◌}
 use native.Mathlib.Omega.{arith}
-use borrow.Author.Rules.{rules}
-use lib.ListN.{length, drop}
 use Rattle.base.proofs.MarkLaws.{up_rest}
-use Rattle.fields.specs.Lines.{lines_in}
 use Rattle.fields.proofs.ContentLaws.{lines_last}
-use Rattle.contents.specs.Fields.{Several}
-use Rattle.contents.specs.Answers.{LaterOrName}
 use Rattle.contents.proofs.whole.are_lines.Goals as goal
 
 pub loop-left-init : goal.loop-left-init

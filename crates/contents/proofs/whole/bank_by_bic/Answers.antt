@@ -5,7 +5,6 @@ use Prim.Native.Nat.{◌+◌, min}
 use mathlib.Core.Path.{refl, sym, ◌∙◌}
 use Rattle.contents.proofs.FieldLaws.{taken_0, last_0, on_0}
 use Rattle.contents.proofs.BankLaws.{read_none, read_some, bic_no_party, bic_no_rest, bic_not_alone}
-use borrow.Author.Rules.{rules}
 use Rattle.contents.proofs.whole.bank_by_bic.Goals as goal
 
 pub slice_bounds-is_bic-end : goal.slice_bounds-is_bic-end

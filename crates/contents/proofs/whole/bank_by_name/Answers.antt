@@ -3,7 +3,6 @@ use mathlib.Core.Path.{sym, ◌∙◌}
 use native.Mathlib.Omega.{arith}
 use Rattle.contents.proofs.FieldLaws.{taken_0, front_0, last_0, on_0}
 use Rattle.contents.proofs.BankLaws.{read_none, read_some}
-use borrow.Author.Rules.{rules}
 use Rattle.contents.proofs.whole.bank_by_name.Goals as goal
 
 pub slice_bounds-party_line-end : goal.slice_bounds-party_line-end

@@ -6,7 +6,6 @@ use Rattle.base.proofs.MarkLaws.{up_rest}
 use Rattle.fields.proofs.ContentLaws.{lines_last}
 use Rattle.contents.proofs.LineTests.{looks_by}
 use Rattle.contents.proofs.FieldLaws.{front, lines_on, looks_wrong, looks_rest, plain_wrong, plain}
-use borrow.Author.Rules.{rules}
 use Rattle.contents.proofs.whole.beside.Goals as goal
 
 pub slice_bounds-looks_tax-end : goal.slice_bounds-looks_tax-end

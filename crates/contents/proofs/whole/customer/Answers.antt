@@ -6,7 +6,6 @@ use Rattle.contents.proofs.FieldLaws.{taken_0, front_0, last_0, on_0, account_th
 use mathlib.Core.Bool.{Bool}
 use mathlib.Core.List.{[]}
 use Rattle.contents.specs.Fields.{Beside}
-use borrow.Author.Rules.{rules}
 use Rattle.contents.proofs.whole.customer.Goals as goal
 
 none_beside : (twelve : Bool) → Beside twelve [] → ⊥

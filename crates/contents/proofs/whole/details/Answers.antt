@@ -6,7 +6,6 @@ use native.Mathlib.Omega.{arith}
 use borrow.Author.Tests.{ltb-true, ltb-false}
 use Rattle.contents.proofs.FieldLaws.{taken_0, front_0, last_0, on_0}
 use Rattle.contents.proofs.VoLaws.{in_70_more, in_70_one, in_70_vo, in_70_wide, in_70_names, in_70_text}
-use borrow.Author.Rules.{rules}
 use Rattle.contents.proofs.whole.details.Goals as goal
 
 pub returns-then-e-gt-WIDTH : goal.returns-then-e-gt-WIDTH

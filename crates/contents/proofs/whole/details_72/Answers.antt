@@ -9,7 +9,6 @@ use lib.Seq.{length-take-le}
 use Rattle.fields.proofs.ContentLaws.{lines_last}
 use Rattle.contents.proofs.FieldLaws.{front, lines_on}
 use Rattle.contents.proofs.VoLaws.{in_72_more, in_72_one, in_72_nzp, in_72_marked, in_72_text}
-use borrow.Author.Rules.{rules}
 use Rattle.contents.proofs.whole.details_72.Goals as goal
 
 pub slice_bounds-is_nzp-end : goal.slice_bounds-is_nzp-end

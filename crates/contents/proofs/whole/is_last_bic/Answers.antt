@@ -9,7 +9,6 @@ use Rattle.base.proofs.MarkLaws.{up_rest}
 use Rattle.fields.proofs.ContentLaws.{lines_last}
 use Rattle.contents.proofs.FieldLaws.{lines_on}
 use Rattle.contents.proofs.BankLaws.{one_last}
-use borrow.Author.Rules.{rules}
 use Rattle.contents.proofs.whole.is_last_bic.Goals as goal
 
 pub returns-then-e-c : goal.returns-then-e-c

@@ -1,5 +1,4 @@
 -- `contents::whole::is_later` meets its contract. Assumes nothing.
-use borrow.Author.Rules.{rules}
 use Rattle.contents.proofs.whole.is_later.Goals as goal
 
 pub returns-then-marked : goal.returns-then-marked

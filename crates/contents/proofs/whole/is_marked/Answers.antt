@@ -2,7 +2,6 @@
 use Rattle.base.proofs.SaysLaws.{says_not}
 use native.Mathlib.Omega.{arith}
 use Rattle.contents.proofs.MarkedLaws.{marked_tests, marked_made}
-use borrow.Author.Rules.{rules}
 use Rattle.contents.proofs.whole.is_marked.Goals as goal
 
 pub returns-then-l-mark : goal.returns-then-l-mark

@@ -5,7 +5,6 @@ use Rattle.base.proofs.ByteLaws.{past_in}
 use Rattle.contents.proofs.VoLaws.{nzp_tests, nzp_made}
 use Rattle.contents.proofs.MarkedLaws.{marked_tests}
 use Rattle.base.specs.Quoted.{bytes}
-use borrow.Author.Rules.{rules}
 use Rattle.contents.proofs.whole.is_nzp.Goals as goal
 
 pub returns-then-not-is_marked : goal.returns-then-not-is_marked

@@ -7,7 +7,6 @@ use borrow.Author.Tests.{leb-true, leb-false}
 use Rattle.contents.proofs.FieldLaws.{last_0, on_0}
 use lib.Seq.{take_all}
 use mathlib.Core.List.{List, [], ◌∷◌}
-use borrow.Author.Rules.{rules}
 use Rattle.contents.proofs.whole.is_one_line.Goals as goal
 
 pub returns : goal.returns

@@ -3,7 +3,6 @@ use Rattle.base.proofs.SaysLaws.{said, denied, says_not}
 use mathlib.Core.Bool.{true, false}
 use native.Mathlib.Omega.{arith}
 use Rattle.contents.proofs.VoLaws.{vo_tests, vo_made}
-use borrow.Author.Rules.{rules}
 use Rattle.contents.proofs.whole.is_vo.Goals as goal
 
 pub returns-then-l-lt-SIGNED_CODE : goal.returns-then-l-lt-SIGNED_CODE

@@ -4,7 +4,6 @@ use mathlib.Core.Path.{refl}
 use native.Mathlib.Omega.{arith}
 use Rattle.contents.proofs.FieldLaws.{front_0, slash_first, first_slash, payer_account, payer_bare, payer_empty}
 use Rattle.base.specs.Bytes.{count_up_to}
-use borrow.Author.Rules.{rules}
 use Rattle.contents.proofs.whole.payer.Goals as goal
 
 pub returns-then-c-eq0 : goal.returns-then-c-eq0

@@ -6,7 +6,6 @@ use mathlib.Core.Path.{refl}
 use native.Mathlib.Omega.{arith}
 use Rattle.contents.proofs.FieldLaws.{front_0, slash_first, first_slash}
 use Rattle.base.specs.Bytes.{count_up_to}
-use borrow.Author.Rules.{rules}
 use Rattle.contents.proofs.whole.regulatory.Goals as goal
 
 pub returns-then-c-lt1 : goal.returns-then-c-lt1

@@ -5,7 +5,6 @@ use Rattle.base.proofs.MarkLaws.{up_rest}
 use Rattle.fields.proofs.ContentLaws.{lines_last}
 use Rattle.contents.proofs.FieldLaws.{front, lines_on}
 use Rattle.contents.proofs.MarkedLaws.{rest_first, rest_one, rest_more, rest_several}
-use borrow.Author.Rules.{rules}
 use Rattle.contents.proofs.whole.rest_72.Goals as goal
 
 pub slice_bounds-is_marked-end-2 : goal.slice_bounds-is_marked-end-2

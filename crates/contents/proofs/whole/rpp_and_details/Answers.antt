@@ -2,7 +2,6 @@
 use mathlib.Core.Logic.{⊎_elim}
 use Rattle.contents.proofs.FieldLaws.{taken_0, front_0, last_0, on_0}
 use Rattle.contents.proofs.VoLaws.{rpp_not_72, in_72_some}
-use borrow.Author.Rules.{rules}
 use Rattle.contents.proofs.whole.rpp_and_details.Goals as goal
 
 pub slice_bounds-rpp_line-end : goal.slice_bounds-rpp_line-end

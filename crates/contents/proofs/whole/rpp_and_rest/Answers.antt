@@ -2,7 +2,6 @@
 use Rattle.contents.proofs.MarkedLaws.{no_rpp_no_rest, rpp_no_rest}
 use mathlib.Core.Logic.{inl, inr}
 use Rattle.contents.proofs.FieldLaws.{taken_0, front_0, last_0, on_0}
-use borrow.Author.Rules.{rules}
 use Rattle.contents.proofs.whole.rpp_and_rest.Goals as goal
 
 pub slice_bounds-rpp_line-end : goal.slice_bounds-rpp_line-end

@@ -3,11 +3,10 @@ use Prim.Native.Nat.{◌-◌}
 use mathlib.Core.Path.{sym, ◌∙◌}
 use native.Mathlib.Omega.{arith}
 use borrow.Author.Rules.{rules}
-use borrow.Author.Tests.{not-true, not-false}
-use lib.ListN.{length, take, drop}
+use lib.ListN.{take, drop}
 use Rattle.base.specs.declared.Verdict.TheVariants.{Broken}
 use Rattle.frame.specs.Rest.{LineAt}
-use Rattle.frame.proofs.LateLaws.{For4, for_4_begin, for_4_stop, for_4_bad, for_4_end, for_4_on}
+use Rattle.frame.proofs.LateLaws.{for_4_begin, for_4_stop, for_4_bad, for_4_end, for_4_on}
 use Rattle.frame.proofs.late.late_field.Goals as goal
 
 pub overflow_sub-dash : goal.overflow_sub-dash
@@ -23,7 +22,7 @@ pub is_ended-requires : goal.is_ended-requires
 is_ended-requires c = let s = c.end_of-end.ensures in omega (arith, s.short)
 
 pub returns-then-not-is_ended : goal.returns-then-not-is_ended
-returns-then-not-is_ended c =             let a = c.args in
+returns-then-not-is_ended c = let a = c.args in
     sym (for_4_stop c.loop-at.invariant (Broken a.wrong a.place) (c.end_of-end.ensures.broken (sym c.is_ended.ensures ∙ c.if-not-is_ended.true)))
 
 pub slice_bounds-line-count : goal.slice_bounds-line-count
@@ -60,7 +59,7 @@ pub returns-then-is_bad_line : goal.returns-then-is_bad_line
 returns-then-is_bad_line c =
     let line : let m = c.args.m.now in
     LineAt m c.loop-at.at c.end_of-end.result (take (c.end_of-end.result - c.loop-at.at) (drop c.loop-at.at m)) = c.end_of-end.ensures.line (sym c.is_ended.ensures ∙ c.if-not-is_ended.false) in
-                    let a = c.args in
+    let a = c.args in
     c.late_line.ensures ∙ sym (for_4_bad c.loop-at.invariant (Broken a.wrong a.place) line (sym c.is_bad_line.ensures ∙ c.if-is_bad_line.true))
 
 pub overflow_add-at : goal.overflow_add-at
@@ -76,7 +75,7 @@ pub loop-at-preserved : goal.loop-at-preserved
 loop-at-preserved c =
     let line : let m = c.args.m.now in
     LineAt m c.loop-at.at c.end_of-end.result (take (c.end_of-end.result - c.loop-at.at) (drop c.loop-at.at m)) = c.end_of-end.ensures.line (sym c.is_ended.ensures ∙ c.if-not-is_ended.false) in
-            for_4_on c.loop-at.invariant line (sym c.is_bad_line.ensures ∙ c.if-is_bad_line.false)
+    for_4_on c.loop-at.invariant line (sym c.is_bad_line.ensures ∙ c.if-is_bad_line.false)
 
 pub returns : goal.returns
 returns c = let a = c.args in sym (for_4_end c.loop-at.invariant (Broken a.wrong a.place) c.loop-at-test.false)

@@ -6,12 +6,11 @@ use native.Mathlib.Omega.{arith}
 use Rattle.base.specs.Bytes.{lead}
 use Rattle.frame.specs.Rest.{body_from, Stop}
 use Rattle.frame.proofs.RunLaws.{run_stops}
-use borrow.Author.Rules.{rules}
 use Rattle.frame.proofs.lines.end_of.Goals as goal
 
 pub overflow_add-result : goal.overflow_add-result
 overflow_add-result c =
-    let stops : let a = c.args in Stop a.m.now a.at (a.at + c.lead_of.result) =         let a = c.args in
+    let stops : let a = c.args in Stop a.m.now a.at (a.at + c.lead_of.result) = let a = c.args in
     let p = c.requires in
     run_stops a.m.now a.at (a.at + c.lead_of.result) (λ i. (c.shared_slice_known-1.given i).fits) p.1 p.2
     (ap (λ (j : ℕ). a.at + j) (c.lead_of.ensures ∙ ap (λ (t : List ℕ). lead t (body_from a.m.now a.at)) p.0)) in
@@ -19,7 +18,7 @@ overflow_add-result c =
 
 pub returns : goal.returns
 returns c =
-    let stops : let a = c.args in Stop a.m.now a.at (a.at + c.lead_of.result) =         let a = c.args in
+    let stops : let a = c.args in Stop a.m.now a.at (a.at + c.lead_of.result) = let a = c.args in
     let p = c.requires in
     run_stops a.m.now a.at (a.at + c.lead_of.result) (λ i. (c.shared_slice_known-1.given i).fits) p.1 p.2
     (ap (λ (j : ℕ). a.at + j) (c.lead_of.ensures ∙ ap (λ (t : List ℕ). lead t (body_from a.m.now a.at)) p.0)) in

@@ -2,7 +2,6 @@
 use mathlib.Core.Path.{sym, ◌∙◌}
 use Rattle.base.proofs.Flags.{flags}
 use Rattle.fields.proofs.PackLaws.{line_bad_lem, good_start}
-use borrow.Author.Rules.{rules}
 use Rattle.frame.proofs.lines.is_bad_line.Goals as goal
 
 pub returns-then-is_bad_start : goal.returns-then-is_bad_start

@@ -1,6 +1,5 @@
 -- `frame::lines::is_ended` meets its contract. Assumes nothing.
 use Rattle.base.proofs.Flags.{flags}
-use borrow.Author.Rules.{rules}
 use Rattle.frame.proofs.lines.is_ended.Goals as goal
 
 pub returns-then-m-i-ne13 : goal.returns-then-m-i-ne13

@@ -5,9 +5,8 @@ use mathlib.Core.Bool.{false}
 use mathlib.Core.List.{tail}
 use native.Mathlib.Omega.{arith}
 use borrow.Author.Rules.{rules}
-use borrow.Author.Tests.{not-true, not-false}
 use lib.Dec.{eqb}
-use lib.ListN.{length, take, drop}
+use lib.ListN.{take, drop}
 use lib.Pow.{pow_mono}
 use Rattle.base.proofs.BitLaws.{bit_of_lem, word_on}
 use Rattle.fields.specs.Field.{upto}
@@ -18,7 +17,7 @@ use Rattle.types.specs.Walk.{find, wrong}
 use Rattle.types.proofs.TableLaws.{few_places, missing_of_form}
 use Rattle.types.proofs.WalkLaws.{wrong_seated}
 use Rattle.frame.specs.Rest.{LineAt}
-use Rattle.frame.proofs.PassLaws.{Going, begin, plain, opened, stepped, bare_broken, bare_after_3, bare_after_4, stop_3, stop_4, stop_5, on_line, on_field, finish, accept}
+use Rattle.frame.proofs.PassLaws.{begin, plain, opened, stepped, bare_broken, bare_after_3, bare_after_4, stop_3, stop_4, stop_5, on_line, on_field, finish, accept}
 use Rattle.types.specs.Sentences.{Seated}
 use Rattle.frame.proofs.pass.pass.Goals as goal
 
@@ -35,7 +34,7 @@ pub is_ended-requires : goal.is_ended-requires
 is_ended-requires c = let s = c.end_of-end.ensures in omega (arith, s.short)
 
 pub returns-then-not-is_ended : goal.returns-then-not-is_ended
-returns-then-not-is_ended c =                 let a = c.args in
+returns-then-not-is_ended c = let a = c.args in
     c.refused.ensures ∙ bare_broken a.form a.m.now (stop_3 c.loop-at.invariant (c.end_of-end.ensures.broken (sym c.is_ended.ensures ∙ c.if-not-is_ended.true)))
 
 pub slice_bounds-line-count : goal.slice_bounds-line-count
@@ -72,7 +71,7 @@ pub returns-then-is_bad_line : goal.returns-then-is_bad_line
 returns-then-is_bad_line c =
     let line : let m = c.args.m.now in
     LineAt m c.loop-at.at c.end_of-end.result (take (c.end_of-end.result - c.loop-at.at) (drop c.loop-at.at m)) = c.end_of-end.ensures.line (sym c.is_ended.ensures ∙ c.if-not-is_ended.false) in
-                        let a = c.args in
+    let a = c.args in
     c.refused-then-is_bad_line.ensures ∙ bare_after_3 a.form a.m.now _ 4 c.loop-at.at (stop_4 c.loop-at.invariant line (sym c.is_bad_line.ensures ∙ c.if-is_bad_line.true)) c.late_line.ensures
 
 pub overflow_add-at : goal.overflow_add-at
@@ -90,7 +89,7 @@ loop-at-preserved-then-tag-eq0 c =
     LineAt m c.loop-at.at c.end_of-end.result (take (c.end_of-end.result - c.loop-at.at) (drop c.loop-at.at m)) = c.end_of-end.ensures.line (sym c.is_ended.ensures ∙ c.if-not-is_ended.false) in
     let good : let m = c.args.m.now in
     line_bad (eqb c.loop-at.at 5) (take (c.end_of-end.result - c.loop-at.at) (drop c.loop-at.at m)) ≡ false = sym c.is_bad_line.ensures ∙ c.if-is_bad_line.false in
-                    on_line c.loop-at.invariant line good (plain (eqb c.loop-at.at 5) _ good (sym c.line_tag-tag.ensures ∙ c.if-tag-eq0.true))
+    on_line c.loop-at.invariant line good (plain (eqb c.loop-at.at 5) _ good (sym c.line_tag-tag.ensures ∙ c.if-tag-eq0.true))
 
 pub overflow_add-end-then-w-ne0 : goal.overflow_add-end-then-w-ne0
 overflow_add-end-then-w-ne0 c = let s = c.end_of-end.ensures in omega (arith, s.short)
@@ -109,8 +108,8 @@ returns-then-w-ne0 c =
     line_bad (eqb c.loop-at.at 5) (take (c.end_of-end.result - c.loop-at.at) (drop c.loop-at.at m)) ≡ false = sym c.is_bad_line.ensures ∙ c.if-is_bad_line.false in
     let spot : let a = c.args in
     let t = upto 58 (tail (take (c.end_of-end.result - c.loop-at.at) (drop c.loop-at.at a.m.now))) in
-    (c.field_step-s.result.place ≡ find (places_of a.form) t) × (c.field_step-s.result.wrong ≡ wrong (places_of a.form) c.loop-at.next (find (places_of a.form) t)) =                 stepped c.args.form c.loop-at.next c.line_tag-tag.result _ c.field_step-s.result c.line_tag-tag.ensures c.if-tag-eq0.false c.field_step-s.ensures in
-                            let a = c.args in
+    (c.field_step-s.result.place ≡ find (places_of a.form) t) × (c.field_step-s.result.wrong ≡ wrong (places_of a.form) c.loop-at.next (find (places_of a.form) t)) = stepped c.args.form c.loop-at.next c.line_tag-tag.result _ c.field_step-s.result c.line_tag-tag.ensures c.if-tag-eq0.false c.field_step-s.ensures in
+    let a = c.args in
     c.refused-then-w-ne0.ensures
     ∙ bare_after_4 a.form a.m.now _ _ c.loop-at.at
     (stop_5 c.loop-at.invariant line good (opened _ (λ q. c.if-tag-eq0.false (c.line_tag-tag.ensures ∙ q))) spot.1 c.if-w-ne0.true) c.late_field.ensures
@@ -137,10 +136,10 @@ pub overflow_add-word : goal.overflow_add-word
 overflow_add-word c =
     let spot : let a = c.args in
     let t = upto 58 (tail (take (c.end_of-end.result - c.loop-at.at) (drop c.loop-at.at a.m.now))) in
-    (c.field_step-s.result.place ≡ find (places_of a.form) t) × (c.field_step-s.result.wrong ≡ wrong (places_of a.form) c.loop-at.next (find (places_of a.form) t)) =                 stepped c.args.form c.loop-at.next c.line_tag-tag.result _ c.field_step-s.result c.line_tag-tag.ensures c.if-tag-eq0.false c.field_step-s.ensures in
-    let fine :     wrong (places_of c.args.form) c.loop-at.next c.field_step-s.result.place ≡ 0 =             ap (wrong (places_of c.args.form) c.loop-at.next) spot.0 ∙ sym spot.1 ∙ c.if-w-ne0.false in
-    let seat :     Seated (places_of c.args.form) c.loop-at.next c.field_step-s.result.place = wrong_seated _ _ _ fine in
-                let q = c.field_step-s.result.place in
+    (c.field_step-s.result.place ≡ find (places_of a.form) t) × (c.field_step-s.result.wrong ≡ wrong (places_of a.form) c.loop-at.next (find (places_of a.form) t)) = stepped c.args.form c.loop-at.next c.line_tag-tag.result _ c.field_step-s.result c.line_tag-tag.ensures c.if-tag-eq0.false c.field_step-s.ensures in
+    let fine : wrong (places_of c.args.form) c.loop-at.next c.field_step-s.result.place ≡ 0 = ap (wrong (places_of c.args.form) c.loop-at.next) spot.0 ∙ sym spot.1 ∙ c.if-w-ne0.false in
+    let seat : Seated (places_of c.args.form) c.loop-at.next c.field_step-s.result.place = wrong_seated _ _ _ fine in
+    let q = c.field_step-s.result.place in
     let p = few_places c.args.form in
     let s = seat in
     let b = c.bit_of-word.ensures ∙ bit_of_lem q (omega (arith, s.within)) in
@@ -152,9 +151,9 @@ pub overflow_add-next : goal.overflow_add-next
 overflow_add-next c =
     let spot : let a = c.args in
     let t = upto 58 (tail (take (c.end_of-end.result - c.loop-at.at) (drop c.loop-at.at a.m.now))) in
-    (c.field_step-s.result.place ≡ find (places_of a.form) t) × (c.field_step-s.result.wrong ≡ wrong (places_of a.form) c.loop-at.next (find (places_of a.form) t)) =                 stepped c.args.form c.loop-at.next c.line_tag-tag.result _ c.field_step-s.result c.line_tag-tag.ensures c.if-tag-eq0.false c.field_step-s.ensures in
-    let fine :     wrong (places_of c.args.form) c.loop-at.next c.field_step-s.result.place ≡ 0 =             ap (wrong (places_of c.args.form) c.loop-at.next) spot.0 ∙ sym spot.1 ∙ c.if-w-ne0.false in
-    let seat :     Seated (places_of c.args.form) c.loop-at.next c.field_step-s.result.place = wrong_seated _ _ _ fine in
+    (c.field_step-s.result.place ≡ find (places_of a.form) t) × (c.field_step-s.result.wrong ≡ wrong (places_of a.form) c.loop-at.next (find (places_of a.form) t)) = stepped c.args.form c.loop-at.next c.line_tag-tag.result _ c.field_step-s.result c.line_tag-tag.ensures c.if-tag-eq0.false c.field_step-s.ensures in
+    let fine : wrong (places_of c.args.form) c.loop-at.next c.field_step-s.result.place ≡ 0 = ap (wrong (places_of c.args.form) c.loop-at.next) spot.0 ∙ sym spot.1 ∙ c.if-w-ne0.false in
+    let seat : Seated (places_of c.args.form) c.loop-at.next c.field_step-s.result.place = wrong_seated _ _ _ fine in
     let p = few_places c.args.form in omega (arith, seat.within)
 
 pub overflow_add-at-in-loop-at : goal.overflow_add-at-in-loop-at
@@ -174,15 +173,15 @@ loop-at-preserved c =
     line_bad (eqb c.loop-at.at 5) (take (c.end_of-end.result - c.loop-at.at) (drop c.loop-at.at m)) ≡ false = sym c.is_bad_line.ensures ∙ c.if-is_bad_line.false in
     let spot : let a = c.args in
     let t = upto 58 (tail (take (c.end_of-end.result - c.loop-at.at) (drop c.loop-at.at a.m.now))) in
-    (c.field_step-s.result.place ≡ find (places_of a.form) t) × (c.field_step-s.result.wrong ≡ wrong (places_of a.form) c.loop-at.next (find (places_of a.form) t)) =                 stepped c.args.form c.loop-at.next c.line_tag-tag.result _ c.field_step-s.result c.line_tag-tag.ensures c.if-tag-eq0.false c.field_step-s.ensures in
-    let fine :     wrong (places_of c.args.form) c.loop-at.next c.field_step-s.result.place ≡ 0 =             ap (wrong (places_of c.args.form) c.loop-at.next) spot.0 ∙ sym spot.1 ∙ c.if-w-ne0.false in
-    let seat :     Seated (places_of c.args.form) c.loop-at.next c.field_step-s.result.place = wrong_seated _ _ _ fine in
-                            let p = few_places c.args.form in
+    (c.field_step-s.result.place ≡ find (places_of a.form) t) × (c.field_step-s.result.wrong ≡ wrong (places_of a.form) c.loop-at.next (find (places_of a.form) t)) = stepped c.args.form c.loop-at.next c.line_tag-tag.result _ c.field_step-s.result c.line_tag-tag.ensures c.if-tag-eq0.false c.field_step-s.ensures in
+    let fine : wrong (places_of c.args.form) c.loop-at.next c.field_step-s.result.place ≡ 0 = ap (wrong (places_of c.args.form) c.loop-at.next) spot.0 ∙ sym spot.1 ∙ c.if-w-ne0.false in
+    let seat : Seated (places_of c.args.form) c.loop-at.next c.field_step-s.result.place = wrong_seated _ _ _ fine in
+    let p = few_places c.args.form in
     on_field c.loop-at.invariant line good (opened _ (λ q. c.if-tag-eq0.false (c.line_tag-tag.ensures ∙ q))) spot.0 fine
     (c.bit_of-word.ensures ∙ bit_of_lem _ (omega (arith, seat.within)))
 
 pub returns-then-is_missing : goal.returns-then-is_missing
-returns-then-is_missing c =                 let a = c.args in
+returns-then-is_missing c = let a = c.args in
     c.refused-then-is_missing.ensures
     ∙ bare_broken a.form a.m.now (finish c.loop-at.invariant c.loop-at-test.false (sym (missing_of_form c.requires.1 c.loop-at.next) ∙ sym c.is_missing.ensures ∙ c.if-is_missing.true))
 
@@ -200,5 +199,5 @@ bounds-spots-n-2 c =
     omega (arith, few.0)
 
 pub returns : goal.returns
-returns c =             accept c.loop-at.invariant c.loop-at-test.false
+returns c = accept c.loop-at.invariant c.loop-at-test.false
     (finish c.loop-at.invariant c.loop-at-test.false (sym (missing_of_form c.requires.1 c.loop-at.next) ∙ sym c.is_missing.ensures ∙ c.if-is_missing.false))

@@ -2,7 +2,6 @@
 use Rattle.message.proofs.PartLaws.{inside_span, inside_is}
 use Rattle.message.specs.Calls.{part_of, content_of}
 use mathlib.Core.Path.{ap, ◌∙◌}
-use borrow.Author.Rules.{rules}
 use Rattle.message.proofs.content.content.Goals as goal
 
 pub cut-requires : goal.cut-requires

@@ -3,7 +3,6 @@ use Rattle.message.proofs.PartLaws.{inside_is}
 use Rattle.message.specs.Calls.{part_of}
 use native.Mathlib.Omega.{arith}
 use mathlib.Core.Path.{sym, ap}
-use borrow.Author.Rules.{rules}
 use Rattle.message.proofs.content.cut.Goals as goal
 
 pub slice_bounds-result-count : goal.slice_bounds-result-count

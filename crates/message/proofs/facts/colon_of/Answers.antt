@@ -1,5 +1,4 @@
 -- `message::facts::colon_of` meets its contract. Assumes nothing.
-use borrow.Author.Rules.{rules}
 use Rattle.message.proofs.FactLaws.{else_old, colon_is}
 use Rattle.message.proofs.facts.colon_of.Goals as goal
 

@@ -1,5 +1,4 @@
 -- `message::facts::fault_of` meets its contract. Assumes nothing.
-use borrow.Author.Rules.{rules}
 use Rattle.message.proofs.FactLaws.{else_old, fault_none, fault_some}
 use Rattle.message.proofs.facts.fault_of.Goals as goal
 

@@ -1,7 +1,6 @@
 -- `message::facts::is_kpp` meets its contract. Assumes nothing.
 use mathlib.Core.Path.{sym, ap, ◌∙◌}
 use mathlib.Core.Bool.{Bool, ◌&&◌, and-false, and-true}
-use borrow.Author.Tests.{not-true, not-false}
 use Rattle.base.specs.Bytes.{same}
 use Rattle.fields.specs.Shapes.{unpack}
 use Rattle.fields.proofs.PackLaws.{same_unpack}

@@ -6,7 +6,6 @@ use Rattle.types.specs.Walk.{walked}
 use Rattle.frame.specs.Frame.{word_of}
 use Rattle.contents.specs.Rule8.{rule_8}
 use Rattle.roles.specs.Rule21.{rule_21}
-use borrow.Author.Rules.{rules}
 use Rattle.message.proofs.lengths.lengths_rule.Goals as goal
 
 pub over_rule-requires : goal.over_rule-requires

@@ -3,7 +3,6 @@ use mathlib.Core.Path.{sym, ap, ◌∙◌}
 use native.Mathlib.Omega.{arith}
 use Rattle.message.specs.Calls.{part_of}
 use Rattle.message.proofs.LengthLaws.{no_72, some_72, two_fields, dash_after, none_72, short_last, inside, inside_part, place_21}
-use borrow.Author.Rules.{rules}
 use Rattle.message.proofs.lengths.over_rule.Goals as goal
 
 pub returns-then-bit_at-eq0 : goal.returns-then-bit_at-eq0

@@ -4,7 +4,6 @@ use Rattle.base.specs.declared.Verdict.{Verdict}
 use Rattle.values.specs.Answers.{kopecks_of}
 use Rattle.message.specs.Calls.{paid, amount_by, amount_of}
 use Rattle.message.proofs.PartLaws.{inside_span, inside_is, paid_part}
-use borrow.Author.Rules.{rules}
 use Rattle.message.proofs.paid.kopecks.Goals as goal
 
 pub cut-requires : goal.cut-requires

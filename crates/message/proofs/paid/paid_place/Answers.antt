@@ -1,6 +1,5 @@
 -- `message::paid::paid_place` meets its contract, form by form. Assumes nothing.
 use mathlib.Core.Path.{sym, ap}
-use borrow.Author.Rules.{rules}
 use Rattle.base.specs.Bytes.{same}
 use Rattle.base.specs.Quoted.{bytes}
 use Rattle.types.specs.declared.Form.{Form}

@@ -1,5 +1,4 @@
 -- `message::parts::field_at` meets its contract: the field stands at its spot, and the next at the next. Assumes nothing.
-use borrow.Author.Rules.{rules}
 use Rattle.message.proofs.FieldLaws.{stands, here}
 use mathlib.Core.Path.{refl}
 use native.Mathlib.Omega.{arith}

@@ -1,5 +1,4 @@
 -- `message::rules::as_verdict` meets its contract. Assumes nothing.
-use borrow.Author.Rules.{rules}
 use Rattle.message.proofs.FactLaws.{verdict_some}
 use Rattle.message.proofs.rules.as_verdict.Goals as goal
 

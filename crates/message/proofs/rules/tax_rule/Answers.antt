@@ -1,7 +1,6 @@
 -- `message::rules::tax_rule` meets its contract. Assumes nothing.
 use mathlib.Core.Path.{◌∙◌}
 use Rattle.message.proofs.FactLaws.{no_purpose, no_budget, tax_whole_lem, tax_part_lem}
-use borrow.Author.Rules.{rules}
 use Rattle.message.proofs.rules.tax_rule.Goals as goal
 
 pub returns-then-purpose-eq0 : goal.returns-then-purpose-eq0

@@ -1,5 +1,4 @@
 -- `message::sign::is_signed` meets its contract. Assumes nothing.
-use borrow.Author.Rules.{rules}
 use Rattle.message.proofs.FieldLaws.{sign_past, sign_read}
 use Rattle.message.proofs.sign.is_signed.Goals as goal
 

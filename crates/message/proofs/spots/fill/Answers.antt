@@ -1,7 +1,6 @@
 -- `message::spots::fill` meets its contract: what the fields that are left come to stands behind what was put. Assumes nothing.
-use Prim.Native.Nat.{◌-◌}
 use native.Mathlib.Omega.{arith}
-use Rattle.message.proofs.FillLaws.{Filling, fill_begin, fill_on, fill_end}
+use Rattle.message.proofs.FillLaws.{fill_begin, fill_on, fill_end}
 use Rattle.message.proofs.spots.fill.Goals as goal
 
 pub loop-k-init : goal.loop-k-init
@@ -23,16 +22,16 @@ pub overflow_cast-p-in-loop-k-2 : goal.overflow_cast-p-in-loop-k-2
 overflow_cast-p-in-loop-k-2 c = let h = c.field_at-p.ensures in omega (arith, h.high, c.requires.0.within)
 
 pub put-requires : goal.put-requires
-put-requires c =             omega (arith, c.loop-k.invariant.kept, c.loop-k-test.true, c.requires.2)
+put-requires c = omega (arith, c.loop-k.invariant.kept, c.loop-k-test.true, c.requires.2)
 
 pub overflow_add-k : goal.overflow_add-k
-overflow_add-k c =             omega (arith, c.loop-k-test.true, c.requires.1, c.requires.0.few)
+overflow_add-k c = omega (arith, c.loop-k-test.true, c.requires.1, c.requires.0.few)
 
 pub loop-k-smaller : goal.loop-k-smaller
 loop-k-smaller c = let h = c.loop-k-test.true in omega arith
 
 pub loop-k-preserved : goal.loop-k-preserved
-loop-k-preserved c =             fill_on c.loop-k.invariant c.field_at-p.ensures c.put.ensures
+loop-k-preserved c = fill_on c.loop-k.invariant c.field_at-p.ensures c.put.ensures
 
 pub shape_of-list : goal.shape_of-list
 shape_of-list c = c.loop-k.invariant.kept

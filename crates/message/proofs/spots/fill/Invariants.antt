@@ -1,7 +1,6 @@
 -- `message::spots::fill` meets its contract: what the fields that are left come to stands behind what was put. Assumes nothing.
 use Prim.Native.Nat.{◌-◌}
-use native.Mathlib.Omega.{arith}
-use Rattle.message.proofs.FillLaws.{Filling, fill_begin, fill_on, fill_end}
+use Rattle.message.proofs.FillLaws.{Filling}
 use Rattle.message.proofs.spots.fill.Given as goal
 
 abbrev pub invariant-loop-k : goal.invariant-loop-k

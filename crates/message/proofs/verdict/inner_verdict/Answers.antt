@@ -1,7 +1,6 @@
 -- `message::verdict::inner_verdict` meets its contract. Assumes nothing.
 use Rattle.fields.specs.Field.{fields}
 use Rattle.message.proofs.JudgeLaws.{inner_refused, inner_texts, inner_lengths}
-use borrow.Author.Rules.{rules}
 use Rattle.message.proofs.verdict.inner_verdict.Goals as goal
 
 pub returns-in-Broken : goal.returns-in-Broken

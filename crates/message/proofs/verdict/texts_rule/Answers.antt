@@ -1,9 +1,7 @@
 -- `message::verdict::texts_rule` meets its contract. Assumes nothing.
 use mathlib.Core.Path.{◌∙◌}
-use borrow.Author.Tests.{not-true, not-false}
 use Rattle.fields.specs.Field.{fields}
 use Rattle.message.proofs.JudgeLaws.{texts_plain, texts_signed}
-use borrow.Author.Rules.{rules}
 use Rattle.message.proofs.verdict.texts_rule.Goals as goal
 
 pub returns-then-not-sign : goal.returns-then-not-sign

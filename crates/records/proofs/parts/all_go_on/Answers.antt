@@ -1,13 +1,8 @@
 -- `records::parts::all_go_on` meets its contract: from each part on as from the start. Assumes nothing.
-use Prim.Native.Nat.{◌-◌, ◌+◌, ◌≤◌}
-use mathlib.Core.Path.{◌≡◌, refl, sym, ◌∙◌}
+use Prim.Native.Nat.{◌≤◌}
+use mathlib.Core.Path.{refl, sym, ◌∙◌}
 use native.Mathlib.Omega.{arith}
-use borrow.Author.Rules.{rules}
-use borrow.Author.Tests.{not-true, not-false}
 use lib.ListN.{length}
-use Rattle.base.specs.Choice.{all}
-use Rattle.fields.specs.Shapes.{goes_on}
-use Rattle.records.specs.Found.{pieces_at}
 use Rattle.records.proofs.PieceLaws.{end_within}
 use Rattle.records.proofs.FoundLaws.{on_end, on_hit, on_miss}
 use Rattle.records.proofs.parts.all_go_on.Goals as goal

@@ -1,6 +1,5 @@
 -- `records::parts::goes_on` meets its contract. Assumes nothing.
 use Rattle.records.proofs.PartLaws.{goes_none, goes_dash, goes_last}
-use borrow.Author.Rules.{rules}
 use Rattle.records.proofs.parts.goes_on.Goals as goal
 
 pub returns-then-p-eq0 : goal.returns-then-p-eq0

@@ -3,10 +3,8 @@ use mathlib.Core.Path.{sym, ◌∙◌}
 use native.Mathlib.Omega.{arith}
 use Prim.Native.Nat.{◌≤◌}
 use lib.ListN.{length}
-use borrow.Author.Tests.{not-true, not-false}
 use Rattle.records.proofs.PieceLaws.{end_within}
 use Rattle.records.proofs.FoundLaws.{detailed_none, detailed_code, detailed_on}
-use borrow.Author.Rules.{rules}
 use Rattle.records.proofs.parts.is_detailed.Goals as goal
 
 pub returns-then-l-i : goal.returns-then-l-i

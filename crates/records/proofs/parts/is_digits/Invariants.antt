@@ -1,13 +1,9 @@
 -- `records::parts::is_digits` meets its contract: from k on as from the start. Assumes nothing.
 use Prim.Native.Nat.{◌-◌}
-use mathlib.Core.Path.{◌≡◌, refl, sym, ◌∙◌}
-use borrow.Author.Tests.{not-true, not-false}
-use native.Mathlib.Omega.{arith}
-use borrow.Author.Rules.{rules}
+use mathlib.Core.Path.{◌≡◌}
 use lib.ListN.{length, drop}
 use Rattle.base.specs.Choice.{all}
 use Rattle.base.specs.Bytes.{digit}
-use Rattle.records.proofs.PartLaws.{all_hit, all_miss, all_end, digits_size, digits_all}
 use Rattle.records.proofs.parts.is_digits.Given as goal
 
 abbrev pub invariant-loop-k : goal.invariant-loop-k

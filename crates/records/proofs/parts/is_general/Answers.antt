@@ -2,7 +2,6 @@
 use native.Mathlib.Omega.{arith}
 use Rattle.records.proofs.PieceLaws.{end_within}
 use Rattle.records.proofs.FoundLaws.{general_none, general_empty, general_on}
-use borrow.Author.Rules.{rules}
 use Rattle.records.proofs.parts.is_general.Goals as goal
 
 pub returns-then-l-i : goal.returns-then-l-i

@@ -2,7 +2,6 @@
 use mathlib.Core.Path.{sym, ◌∙◌}
 use native.Mathlib.Omega.{arith}
 use Rattle.records.proofs.FoundLaws.{tag_size, tag_within, good_untagged, good_shape}
-use borrow.Author.Rules.{rules}
 use Rattle.records.proofs.parts.is_good.Goals as goal
 
 pub slice_bounds-tag_number-end : goal.slice_bounds-tag_number-end

@@ -2,11 +2,9 @@
 use mathlib.Core.Path.{◌≡◌, sym, ◌∙◌}
 use mathlib.Core.Bool.{true}
 use native.Mathlib.Omega.{arith}
-use borrow.Author.Tests.{not-true, not-false}
 use Rattle.records.specs.Found.{pieces_at}
 use Rattle.records.specs.Rule19.{general}
 use Rattle.records.proofs.FoundLaws.{general_within, general_end, payer_not, payer_account, payer_name}
-use borrow.Author.Rules.{rules}
 use Rattle.records.proofs.parts.is_payer.Goals as goal
 
 pub returns-then-not-is_general : goal.returns-then-not-is_general

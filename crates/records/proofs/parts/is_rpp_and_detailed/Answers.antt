@@ -4,7 +4,6 @@ use Prim.Native.Nat.{◌≤◌}
 use lib.ListN.{length}
 use Rattle.records.proofs.PieceLaws.{end_within}
 use Rattle.records.proofs.FoundLaws.{rpp_none, rpp_on}
-use borrow.Author.Rules.{rules}
 use Rattle.records.proofs.parts.is_rpp_and_detailed.Goals as goal
 
 pub returns-then-l-i : goal.returns-then-l-i

@@ -1,6 +1,5 @@
 -- `records::parts::is_sole` meets its contract. Assumes nothing.
 use Rattle.records.proofs.FoundLaws.{sole_none, sole_empty, sole_last}
-use borrow.Author.Rules.{rules}
 use Rattle.records.proofs.parts.is_sole.Goals as goal
 
 pub returns-then-l-i : goal.returns-then-l-i

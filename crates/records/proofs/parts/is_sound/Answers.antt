@@ -2,7 +2,6 @@
 use Rattle.records.specs.Found.{pieces_at}
 use Rattle.records.specs.Rule19.{sound}
 use Rattle.records.proofs.FoundLaws.{sound_by}
-use borrow.Author.Rules.{rules}
 use Rattle.records.proofs.parts.is_sound.Goals as goal
 
 pub returns-in-Plain : goal.returns-in-Plain

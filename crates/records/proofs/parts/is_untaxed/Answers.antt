@@ -2,11 +2,9 @@
 use native.Mathlib.Omega.{arith}
 use Prim.Native.Nat.{◌≤◌}
 use lib.ListN.{length}
-use borrow.Author.Tests.{not-true, not-false}
 use Rattle.roles.specs.Rule14.{is_cyrillic_inn}
 use Rattle.records.proofs.PieceLaws.{end_within}
 use Rattle.records.proofs.FoundLaws.{untaxed_off, untaxed_none, untaxed_part}
-use borrow.Author.Rules.{rules}
 use Rattle.records.proofs.parts.is_untaxed.Goals as goal
 
 pub returns-then-not-sign : goal.returns-then-not-sign

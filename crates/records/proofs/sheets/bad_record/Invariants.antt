@@ -1,13 +1,8 @@
 -- `records::sheets::bad_record` meets its contract: from each record on as from the start. Assumes nothing.
 use Prim.Native.Nat.{◌-◌, ◌≤◌}
-use mathlib.Core.Path.{◌≡◌, refl, sym, ◌∙◌}
-use native.Mathlib.Omega.{arith}
-use borrow.Author.Rules.{rules}
-use borrow.Author.Tests.{not-true, not-false}
+use mathlib.Core.Path.{◌≡◌}
 use lib.ListN.{length}
 use Rattle.records.specs.Found.{pieces_at, bad_sheet_line}
-use Rattle.records.proofs.PieceLaws.{end_within}
-use Rattle.records.proofs.WalkLaws.{bad_last, bad_hit, bad_miss, bad_end}
 use Rattle.records.proofs.sheets.bad_record.Given as goal
 
 abbrev pub invariant-loop-at : goal.invariant-loop-at

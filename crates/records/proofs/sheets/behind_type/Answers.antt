@@ -3,7 +3,6 @@ use mathlib.Core.Path.{sym, ◌∙◌}
 use Rattle.types.specs.Walk.{rule_18}
 use Rattle.types.proofs.TableLaws.{no_places, some_places}
 use Rattle.records.proofs.WalkLaws.{then_stop, then_type}
-use borrow.Author.Rules.{rules}
 use Rattle.records.proofs.sheets.behind_type.Goals as goal
 
 pub returns-in_default : goal.returns-in_default

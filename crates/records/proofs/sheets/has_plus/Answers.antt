@@ -1,7 +1,6 @@
 -- `records::sheets::has_plus` meets its contract. Assumes nothing.
 use native.Mathlib.Omega.{arith}
 use Rattle.records.proofs.FoundLaws.{tag_within, plus_none, plus_some}
-use borrow.Author.Rules.{rules}
 use Rattle.records.proofs.sheets.has_plus.Goals as goal
 
 pub overflow_add-t : goal.overflow_add-t

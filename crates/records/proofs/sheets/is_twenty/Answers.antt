@@ -1,6 +1,5 @@
 -- `records::sheets::is_twenty` meets its contract. Assumes nothing.
 use Rattle.records.proofs.FoundLaws.{tag_size, twenty_is}
-use borrow.Author.Rules.{rules}
 use Rattle.records.proofs.sheets.is_twenty.Goals as goal
 
 pub slice_bounds-is_two-end : goal.slice_bounds-is_two-end

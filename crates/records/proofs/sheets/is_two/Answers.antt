@@ -1,7 +1,6 @@
 -- `records::sheets::is_two` meets its contract. Assumes nothing.
 use Rattle.base.proofs.Flags.{flags}
 use Rattle.records.proofs.PartLaws.{two_size, two_bytes}
-use borrow.Author.Rules.{rules}
 use Rattle.records.proofs.sheets.is_two.Goals as goal
 
 pub returns-then-p-ne2 : goal.returns-then-p-ne2

@@ -3,11 +3,9 @@ use mathlib.Core.Path.{sym, ap, ◌∙◌}
 use native.Mathlib.Omega.{arith}
 use lib.ListN.{length, drop, length-drop}
 use lib.Seq.{length-take-le, take_all}
-use borrow.Author.Tests.{not-true, not-false}
 use Prim.Native.Nat.{◌-◌}
 use Rattle.records.specs.Rule19.{is_digits}
 use Rattle.records.proofs.TypeLaws.{typed_size, typed_tab, typed_mark, typed_six}
-use borrow.Author.Rules.{rules}
 use Rattle.records.proofs.sheets.is_typed.Goals as goal
 
 pub returns-then-l-ne6 : goal.returns-then-l-ne6

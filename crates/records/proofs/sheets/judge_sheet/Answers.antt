@@ -3,13 +3,11 @@ use Prim.Native.Nat.{◌+◌, ◌≤◌}
 use mathlib.Core.Path.{◌≡◌, sym, ◌∙◌}
 use mathlib.Core.Bool.{true}
 use native.Mathlib.Omega.{arith}
-use borrow.Author.Tests.{not-true, not-false}
 use lib.ListN.{length, take}
 use Rattle.records.specs.Record.{record_of}
 use Rattle.records.specs.Rule19.{typed}
 use Rattle.records.proofs.WalkLaws.{first_within, first_size, judge_none, judge_untyped, judge_typed}
 use Rattle.records.proofs.TypeLaws.{six_end, type_digits, type_form}
-use borrow.Author.Rules.{rules}
 use Rattle.records.proofs.sheets.judge_sheet.Goals as goal
 
 pub returns-then-e-s : goal.returns-then-e-s

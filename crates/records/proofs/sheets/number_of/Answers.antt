@@ -1,7 +1,6 @@
 -- `records::sheets::number_of` meets its contract: the three bytes are digits. Assumes nothing.
 use native.Mathlib.Omega.{arith}
 use Rattle.records.proofs.FoundLaws.{three}
-use borrow.Author.Rules.{rules}
 use Rattle.records.proofs.sheets.number_of.Goals as goal
 
 pub bounds-p-0 : goal.bounds-p-0

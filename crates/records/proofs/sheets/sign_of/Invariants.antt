@@ -1,16 +1,12 @@
 -- `records::sheets::sign_of` meets its contract: from each line on as from the start. Assumes nothing.
-use Prim.Native.Nat.{◌-◌, ◌+◌, ◌≤◌}
-use mathlib.Core.Path.{◌≡◌, sym, ◌∙◌}
+use Prim.Native.Nat.{◌-◌, ◌+◌}
+use mathlib.Core.Path.{◌≡◌}
 use mathlib.Core.List.{map}
-use native.Mathlib.Omega.{arith}
-use borrow.Author.Rules.{rules}
 use lib.ListN.{length}
 use Rattle.types.specs.Sign.{sign_of}
 use Rattle.records.specs.Record.{record_of}
 use Rattle.records.specs.Found.{pieces_at}
 use Rattle.records.specs.Rule19.{sheet_sign}
-use Rattle.records.proofs.PieceLaws.{end_within}
-use Rattle.records.proofs.WalkLaws.{sign_start, sign_end, sign_hit, sign_miss}
 use Rattle.records.proofs.sheets.sign_of.Given as goal
 
 abbrev pub invariant-loop-at : goal.invariant-loop-at

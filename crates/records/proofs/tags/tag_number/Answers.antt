@@ -2,7 +2,6 @@
 use mathlib.Core.Path.{ap, ◌∙◌}
 use Rattle.records.specs.Found.{tag_number}
 use Rattle.records.proofs.PartLaws.{of_two, of_three, tag_other}
-use borrow.Author.Rules.{rules}
 use Rattle.records.proofs.tags.tag_number.Goals as goal
 
 pub returns-then-t-eq2 : goal.returns-then-t-eq2

@@ -1,8 +1,6 @@
 -- `records::tags::two_digits` meets its contract. Assumes nothing.
 use mathlib.Core.Path.{refl, sym, ◌∙◌}
-use borrow.Author.Tests.{not-true, not-false}
 use Rattle.records.proofs.PartLaws.{two_tag, two_first, two_second}
-use borrow.Author.Rules.{rules}
 use Rattle.records.proofs.tags.two_digits.Goals as goal
 
 pub returns-then-not-is_digit : goal.returns-then-not-is_digit

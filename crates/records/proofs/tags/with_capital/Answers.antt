@@ -1,9 +1,7 @@
 -- `records::tags::with_capital` meets its contract. Assumes nothing.
 use mathlib.Core.Path.{sym, ◌∙◌}
 use native.Mathlib.Omega.{arith}
-use borrow.Author.Tests.{not-true, not-false}
 use Rattle.records.proofs.PartLaws.{two_within, three_small, three_none, three_tag}
-use borrow.Author.Rules.{rules}
 use Rattle.records.proofs.tags.with_capital.Goals as goal
 
 pub returns-then-not-is_capital : goal.returns-then-not-is_capital

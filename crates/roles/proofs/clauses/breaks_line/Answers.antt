@@ -1,7 +1,6 @@
 -- `roles::clauses::breaks_line` meets its contract. Assumes nothing.
 use Rattle.base.proofs.Flags.{flags}
 use Rattle.roles.specs.Found.{line_breaks}
-use borrow.Author.Rules.{rules}
 use Rattle.roles.proofs.clauses.breaks_line.Goals as goal
 
 pub returns-then-not-tax : goal.returns-then-not-tax

@@ -6,7 +6,6 @@ use mathlib.Core.List.{List, [], ◌∷◌}
 use Rattle.base.specs.Bytes.{byte, is_in}
 use Rattle.base.proofs.Flags.{pick_yes, pick_no, pick_not, pick_not_not}
 use Rattle.roles.proofs.ClauseLaws.{name_is}
-use borrow.Author.Rules.{rules}
 use Rattle.roles.proofs.clauses.breaks_name.Goals as goal
 
 pub returns-then-is_mute : goal.returns-then-is_mute

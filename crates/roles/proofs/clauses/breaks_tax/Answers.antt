@@ -5,7 +5,6 @@ use Rattle.base.proofs.Flags.{pick_yes, pick_no}
 use Rattle.contents.specs.Tests.{looks_tax}
 use Rattle.roles.specs.Rule14.{is_cyrillic_inn}
 use Rattle.roles.proofs.ClauseLaws.{tax_is}
-use borrow.Author.Rules.{rules}
 use Rattle.roles.proofs.clauses.breaks_tax.Goals as goal
 
 pub returns-then-breaks_name : goal.returns-then-breaks_name

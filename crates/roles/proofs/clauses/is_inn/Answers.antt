@@ -1,5 +1,4 @@
 -- `roles::clauses::is_inn` meets its contract. Assumes nothing.
-use borrow.Author.Rules.{rules}
 use Rattle.roles.specs.Rule14.{is_cyrillic_inn}
 use Rattle.roles.proofs.clauses.is_inn.Goals as goal
 

@@ -3,7 +3,6 @@ use mathlib.Core.Path.{sym, ap, ◌∙◌}
 use mathlib.Core.Bool.{Bool, ◌||◌}
 use lib.Dec.{eqb}
 use Rattle.roles.specs.Found.{mute_in}
-use borrow.Author.Rules.{rules}
 use Rattle.roles.proofs.clauses.is_mute.Goals as goal
 
 pub returns-then-latin : goal.returns-then-latin

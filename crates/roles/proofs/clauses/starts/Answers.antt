@@ -1,7 +1,6 @@
 -- `roles::clauses::starts` meets its contract. Assumes nothing.
 use Rattle.roles.proofs.ClauseLaws.{starts_none, starts_some}
 use native.Mathlib.Omega.{arith}
-use borrow.Author.Rules.{rules}
 use Rattle.roles.proofs.clauses.starts.Goals as goal
 
 pub returns-then-line-eq0 : goal.returns-then-line-eq0

@@ -1,7 +1,6 @@
 -- `roles::parts::is_payer_name` meets its contract. Assumes nothing.
 use Rattle.roles.proofs.PartLaws.{payer_slash, payer_tax}
 use mathlib.Core.Path.{sym, ◌∙◌}
-use borrow.Author.Rules.{rules}
 use Rattle.roles.proofs.parts.is_payer_name.Goals as goal
 
 pub returns-then-starts : goal.returns-then-starts

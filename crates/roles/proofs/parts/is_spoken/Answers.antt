@@ -1,10 +1,8 @@
 -- `roles::parts::is_spoken` meets its contract: by the role. Assumes nothing.
 use Rattle.roles.proofs.PartLaws.{sign_off, sign_on}
 use Rattle.roles.specs.declared.Role.TheVariants.{Copies, OfPayer, OfPayee, OfAgent, Taxed, Names}
-use borrow.Author.Tests.{not-true, not-false}
 use mathlib.Core.Bool.{not}
 use mathlib.Core.Path.{refl, ap}
-use borrow.Author.Rules.{rules}
 use Rattle.roles.proofs.parts.is_spoken.Goals as goal
 
 pub returns-then-not-sign : goal.returns-then-not-sign

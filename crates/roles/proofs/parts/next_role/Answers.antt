@@ -2,7 +2,6 @@
 use Rattle.roles.proofs.PartLaws.{payer_next}
 use mathlib.Core.Bool.{true, false}
 use mathlib.Core.Path.{sym, ◌∙◌}
-use borrow.Author.Rules.{rules}
 use Rattle.roles.proofs.parts.next_role.Goals as goal
 
 pub returns-then-starts : goal.returns-then-starts

@@ -1,7 +1,6 @@
 -- `roles::shapes::shape_for` meets its contract. Assumes nothing.
 use mathlib.Core.Path.{sym, ap}
 use Rattle.roles.specs.Role.{shape_for}
-use borrow.Author.Rules.{rules}
 use Rattle.roles.proofs.shapes.shape_for.Goals as goal
 
 pub returns-in-Unknown : goal.returns-in-Unknown

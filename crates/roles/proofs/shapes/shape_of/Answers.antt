@@ -1,6 +1,5 @@
 -- `roles::shapes::shape_of` meets its contract. Assumes nothing.
 use mathlib.Core.Path.{ap, ◌∙◌}
-use borrow.Author.Rules.{rules}
 use Rattle.roles.specs.Role.{shape_for, shape_of}
 use Rattle.roles.proofs.shapes.shape_of.Goals as goal
 

@@ -5,7 +5,6 @@ use Rattle.roles.specs.declared.Shape.TheVariants.{Plain, Payer, Payee, Agent, D
 use Rattle.fields.specs.Lines.{lines_in}
 use Rattle.roles.specs.Speech.{speeches}
 use Rattle.roles.proofs.FoundLaws.{by_shape, plain_none, details_whole}
-use borrow.Author.Rules.{rules}
 use Rattle.roles.proofs.texts.broken_text.Goals as goal
 
 pub returns-in-Plain : goal.returns-in-Plain

@@ -1,6 +1,5 @@
 -- `roles::texts::has_characters` meets its contract. Assumes nothing.
 use Rattle.base.proofs.Flags.{flags}
-use borrow.Author.Rules.{rules}
 use Rattle.roles.proofs.texts.has_characters.Goals as goal
 
 pub returns : goal.returns

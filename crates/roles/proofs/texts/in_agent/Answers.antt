@@ -1,7 +1,6 @@
 -- `roles::texts::in_agent` meets its contract. Assumes nothing.
 use mathlib.Core.Path.{◌∙◌}
 use Rattle.roles.proofs.FoundLaws.{agent_names}
-use borrow.Author.Rules.{rules}
 use Rattle.roles.proofs.texts.in_agent.Goals as goal
 
 pub returns : goal.returns

@@ -2,11 +2,9 @@
 use Prim.Native.Nat.{◌+◌, ◌≤◌}
 use mathlib.Core.Path.{refl, sym, ◌∙◌}
 use native.Mathlib.Omega.{arith}
-use borrow.Author.Tests.{not-true, not-false}
 use lib.ListN.{length, drop}
 use Rattle.roles.proofs.LineLaws.{end_near}
 use Rattle.roles.proofs.FoundLaws.{details_heard, details_here, details_next}
-use borrow.Author.Rules.{rules}
 use Rattle.base.specs.Bytes.{count_up_to}
 use Rattle.roles.proofs.texts.in_details.Goals as goal
 

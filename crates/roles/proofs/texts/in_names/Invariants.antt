@@ -1,13 +1,9 @@
 -- `roles::texts::in_names` meets its contract: behind each line as behind the first. Assumes nothing.
-use Prim.Native.Nat.{◌-◌, ◌+◌, ◌≤◌}
-use mathlib.Core.Path.{◌≡◌, refl, sym, ◌∙◌}
-use native.Mathlib.Omega.{arith}
-use borrow.Author.Rules.{rules}
+use Prim.Native.Nat.{◌-◌, ◌+◌}
+use mathlib.Core.Path.{◌≡◌}
 use lib.ListN.{length}
-use Rattle.base.proofs.MarkLaws.{up_rest}
 use Rattle.roles.specs.Speech.{name_speeches}
 use Rattle.roles.specs.Found.{lines_past, cast_from, found}
-use Rattle.roles.proofs.FoundLaws.{names_end, names_hit, names_miss}
 use Rattle.roles.proofs.texts.in_names.Given as goal
 
 abbrev pub invariant-loop-e : goal.invariant-loop-e

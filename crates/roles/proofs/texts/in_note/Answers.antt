@@ -1,9 +1,7 @@
 -- `roles::texts::in_note` meets its contract: an RPP line in front, or none. Assumes nothing.
 use mathlib.Core.Path.{sym, ◌∙◌}
-use borrow.Author.Tests.{not-true, not-false}
 use Rattle.roles.proofs.LineLaws.{head_size}
 use Rattle.roles.proofs.FoundLaws.{note_none, note_alone, note_more}
-use borrow.Author.Rules.{rules}
 use Rattle.roles.proofs.texts.in_note.Goals as goal
 
 pub slice_bounds-opens_rpp-end : goal.slice_bounds-opens_rpp-end

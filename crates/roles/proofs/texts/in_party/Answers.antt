@@ -2,7 +2,6 @@
 use mathlib.Core.Path.{sym, ◌∙◌}
 use Rattle.roles.proofs.LineLaws.{head_size}
 use Rattle.roles.proofs.FoundLaws.{party_account_lem, party_hit, party_miss}
-use borrow.Author.Rules.{rules}
 use Rattle.roles.proofs.texts.in_party.Goals as goal
 
 pub slice_bounds-starts-end : goal.slice_bounds-starts-end

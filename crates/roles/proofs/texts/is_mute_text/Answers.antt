@@ -1,15 +1,14 @@
 -- `roles::texts::is_mute_text` meets its contract: each line's piece goes on from the piece before. Assumes nothing.
-use Prim.Native.Nat.{◌-◌, ◌≤◌}
-use mathlib.Core.Path.{◌≡◌, sym, ap, ◌∙◌}
+use Prim.Native.Nat.{◌≤◌}
+use mathlib.Core.Path.{sym, ap, ◌∙◌}
 use mathlib.Core.Bool.{Bool, false, not, ◌||◌}
 use native.Mathlib.Omega.{arith}
-use borrow.Author.Rules.{rules}
 use lib.ListN.{length, drop}
 use Rattle.alphabets.specs.Pieces.{piece_in}
 use Rattle.fields.specs.Lines.{lines_in}
 use Rattle.base.proofs.MarkLaws.{up_rest}
 use Rattle.roles.specs.Speech.{details_text}
-use Rattle.roles.specs.Found.{mute_in, mute_after}
+use Rattle.roles.specs.Found.{mute_after}
 use Rattle.roles.proofs.FoundLaws.{mute_start, mute_past, mute_stops, mute_last, mute_on}
 use Rattle.roles.proofs.texts.is_mute_text.Goals as goal
 

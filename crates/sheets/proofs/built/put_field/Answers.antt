@@ -3,7 +3,6 @@ use native.Mathlib.Omega.{arith}
 use Rattle.fields.specs.Lines.{lines_in}
 use Rattle.sheets.specs.Steps.{rest_text}
 use Rattle.sheets.proofs.FieldLaws.{field_none, field_some}
-use borrow.Author.Rules.{rules}
 use Rattle.sheets.proofs.built.put_field.Goals as goal
 
 pub returns-then-is_left_out : goal.returns-then-is_left_out

@@ -3,7 +3,6 @@ use lib.ListN.{length}
 use Rattle.fields.specs.Lines.{lines_in}
 use Rattle.sheets.specs.Steps.{rest_text}
 use Rattle.sheets.proofs.FieldLaws.{tag_some, tag_within, field_small, record_put, tag_place}
-use borrow.Author.Rules.{rules}
 use Rattle.sheets.proofs.built.put_record.Goals as goal
 
 pub returns : goal.returns

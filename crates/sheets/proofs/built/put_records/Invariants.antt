@@ -1,15 +1,12 @@
 -- `sheets::built::put_records` meets its contract: from each field on as from the first. Assumes nothing.
 use Prim.Native.Nat.{◌+◌, ◌-◌, ◌*◌, ◌≤◌}
-use mathlib.Core.Path.{◌≡◌, refl}
-use native.Mathlib.Omega.{arith}
+use mathlib.Core.Path.{◌≡◌}
 use lib.ListN.{length, drop}
-use borrow.Author.Rules.{rules}
 use Rattle.base.specs.Bytes.{byte}
 use Rattle.base.proofs.Room.{Leads}
 use Rattle.fields.specs.Field.{fields}
 use Rattle.fields.specs.Lines.{lines_in}
 use Rattle.sheets.specs.Steps.{rest_text, sheet_by}
-use Rattle.sheets.proofs.FieldLaws.{part_within, at_on, sheet_on, sheet_end}
 use Rattle.sheets.proofs.built.put_records.Given as goal
 
 abbrev pub invariant-loop-k : goal.invariant-loop-k

@@ -2,7 +2,6 @@
 use mathlib.Core.Path.{◌∙◌}
 use Rattle.message.proofs.FieldLaws.{signed_is}
 use Rattle.sheets.proofs.CallLaws.{type_fine, sheet_put, sound_two}
-use borrow.Author.Rules.{rules}
 use Rattle.sheets.proofs.built.put_sheet.Goals as goal
 
 pub runs_on-rest-requires : goal.runs_on-rest-requires

@@ -1,6 +1,5 @@
 -- `sheets::built::put_type` meets its contract, form by form. Assumes nothing.
 use mathlib.Core.Path.{refl}
-use borrow.Author.Rules.{rules}
 use Rattle.sheets.proofs.FieldLaws.{type_put, no_other}
 use Rattle.sheets.proofs.built.put_type.Goals as goal
 

@@ -3,7 +3,6 @@ use Rattle.sheets.specs.Gather.{code_digits}
 use lib.ListN.{take}
 use mathlib.Core.Bool.{Bool}
 use mathlib.Core.Path.{sym, ap, ◌∙◌}
-use borrow.Author.Rules.{rules}
 use Rattle.sheets.proofs.parts.digits_of.Goals as goal
 
 pub returns-then-sign : goal.returns-then-sign

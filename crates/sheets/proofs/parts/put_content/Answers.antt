@@ -7,7 +7,6 @@ use Rattle.fields.specs.Lines.{lines_in}
 use Rattle.sheets.specs.Steps.{rest_text, content_by}
 use Rattle.sheets.proofs.RestLaws.{rpp_few}
 use Rattle.sheets.proofs.ContentLaws.{shape_put, rpp_put, lines_put}
-use borrow.Author.Rules.{rules}
 use Rattle.sheets.proofs.parts.put_content.Goals as goal
 
 pub put_part-requires : goal.put_part-requires

@@ -3,7 +3,6 @@ use Rattle.sheets.proofs.TextLaws.{code_few}
 use Rattle.sheets.proofs.ContentLaws.{details_put}
 use Rattle.roles.proofs.LineLaws.{head_size}
 use native.Mathlib.Omega.{arith}
-use borrow.Author.Rules.{rules}
 use Rattle.sheets.proofs.parts.put_details.Goals as goal
 
 pub slice_bounds-past-end : goal.slice_bounds-past-end

@@ -2,7 +2,6 @@
 use Rattle.sheets.proofs.ContentLaws.{head_small, note_none, note_alone, note_more}
 use Rattle.roles.proofs.LineLaws.{head_size}
 use native.Mathlib.Omega.{arith}
-use borrow.Author.Tests.{not-true, not-false}
 use borrow.Author.Rules.{rules}
 use Rattle.sheets.proofs.parts.put_note.Goals as goal
 

@@ -3,7 +3,6 @@ use native.Mathlib.Omega.{arith}
 use Rattle.fields.specs.Lines.{lines_in}
 use Rattle.sheets.specs.Steps.{rest_text}
 use Rattle.sheets.proofs.ContentLaws.{whole_alone, whole_more}
-use borrow.Author.Rules.{rules}
 use Rattle.sheets.proofs.parts.put_whole.Goals as goal
 
 pub returns-then-rest-eq0 : goal.returns-then-rest-eq0

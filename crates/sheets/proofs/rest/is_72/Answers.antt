@@ -5,7 +5,6 @@ use Rattle.fields.specs.Shapes.{unpack}
 use Rattle.roles.specs.Role.{shape_of}
 use Rattle.sheets.specs.Steps.{is_note}
 use Rattle.sheets.proofs.TagLaws.{other_digit}
-use borrow.Author.Rules.{rules}
 use Rattle.sheets.proofs.rest.is_72.Goals as goal
 
 pub returns-then-f-ne50 : goal.returns-then-f-ne50

@@ -1,7 +1,5 @@
 -- `sheets::rest::is_left_out` meets its contract. Assumes nothing.
-use borrow.Author.Tests.{not-true, not-false}
 use Rattle.sheets.proofs.RestLaws.{left_none, left_note}
-use borrow.Author.Rules.{rules}
 use Rattle.sheets.proofs.rest.is_left_out.Goals as goal
 
 pub returns-then-not-is_note : goal.returns-then-not-is_note

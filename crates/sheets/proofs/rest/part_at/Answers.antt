@@ -2,7 +2,6 @@
 use native.Mathlib.Omega.{arith}
 use mathlib.Core.Path.{refl}
 use Rattle.sheets.proofs.FieldLaws.{part_within, part_sound}
-use borrow.Author.Rules.{rules}
 use Rattle.sheets.proofs.rest.part_at.Goals as goal
 
 pub overflow_cast-o : goal.overflow_cast-o

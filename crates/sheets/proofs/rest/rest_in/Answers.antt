@@ -1,9 +1,7 @@
 -- `sheets::rest::rest_in` meets its contract: with an RPP line and without. Assumes nothing.
 use native.Mathlib.Omega.{arith}
-use borrow.Author.Tests.{not-true, not-false}
 use Rattle.roles.proofs.LineLaws.{head_size, head_within}
 use Rattle.sheets.proofs.RestLaws.{rest_behind_lem, rest_all}
-use borrow.Author.Rules.{rules}
 use Rattle.sheets.proofs.rest.rest_in.Goals as goal
 
 pub slice_bounds-opens_rpp-end : goal.slice_bounds-opens_rpp-end

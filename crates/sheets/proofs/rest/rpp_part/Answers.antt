@@ -1,9 +1,7 @@
 -- `sheets::rest::rpp_part` meets its contract: with an RPP line and without. Assumes nothing.
 use mathlib.Core.Path.{◌∙◌}
-use borrow.Author.Tests.{not-true, not-false}
 use Rattle.roles.proofs.LineLaws.{head_size}
 use Rattle.sheets.proofs.RestLaws.{rpp_some, rpp_none}
-use borrow.Author.Rules.{rules}
 use Rattle.sheets.proofs.rest.rpp_part.Goals as goal
 
 pub slice_bounds-opens_rpp-end : goal.slice_bounds-opens_rpp-end

@@ -3,7 +3,6 @@ use native.Mathlib.Omega.{arith}
 use mathlib.Core.Path.{ap}
 use lib.ListN.{length}
 use Rattle.sheets.proofs.RestLaws.{rest_here, rest_next, content_small, rest_small}
-use borrow.Author.Rules.{rules}
 use Rattle.sheets.proofs.rest.runs_on.Goals as goal
 
 pub rest_in-requires : goal.rest_in-requires

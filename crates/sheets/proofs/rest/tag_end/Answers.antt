@@ -1,7 +1,6 @@
 -- `sheets::rest::tag_end` meets its contract. Assumes nothing.
 use Rattle.sheets.proofs.FieldLaws.{tag_short, tag_long}
 use native.Mathlib.Omega.{arith}
-use borrow.Author.Rules.{rules}
 use Rattle.sheets.proofs.rest.tag_end.Goals as goal
 
 pub returns-then-f-eq58 : goal.returns-then-f-eq58

@@ -1,14 +1,9 @@
 -- `sheets::texts::put_lines` meets its contract: from each line on as from the first. Assumes nothing.
 use Rattle.sheets.proofs.TextLaws.{this_within, line_less, part_needs, part_last, part_next, lines_last, lines_on}
-use Rattle.base.proofs.Room.{Leads}
-use Rattle.sheets.specs.Steps.{parts_by}
-use Rattle.fields.specs.Lines.{lines_in}
-use Rattle.records.specs.Record.{tabbed}
-use lib.ListN.{length, drop}
+use lib.ListN.{length}
 use native.Mathlib.Omega.{arith}
-use mathlib.Core.List.{map}
-use mathlib.Core.Path.{◌≡◌, refl}
-use Prim.Native.Nat.{◌+◌, ◌-◌, ◌≤◌}
+use mathlib.Core.Path.{refl}
+use Prim.Native.Nat.{◌≤◌}
 use borrow.Author.Rules.{rules}
 use Rattle.sheets.proofs.texts.put_lines.Goals as goal
 

@@ -1,13 +1,9 @@
 -- `sheets::texts::put_over` meets its contract: from each line on as from the first. Assumes nothing.
 use Rattle.sheets.proofs.TextLaws.{this_within, line_less, part_needs, part_next, piece_last, over_last, over_on}
-use Rattle.base.proofs.Room.{Leads}
-use Rattle.sheets.specs.Steps.{text_pieces, over_by}
-use Rattle.fields.specs.Lines.{lines_in}
-use lib.ListN.{length, drop}
+use lib.ListN.{length}
 use native.Mathlib.Omega.{arith}
-use mathlib.Core.Bool.{false}
-use mathlib.Core.Path.{◌≡◌, refl}
-use Prim.Native.Nat.{◌+◌, ◌-◌, ◌≤◌}
+use mathlib.Core.Path.{refl}
+use Prim.Native.Nat.{◌≤◌}
 use borrow.Author.Rules.{rules}
 use Rattle.sheets.proofs.texts.put_over.Goals as goal
 

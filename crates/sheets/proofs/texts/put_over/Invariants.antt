@@ -1,14 +1,11 @@
 -- `sheets::texts::put_over` meets its contract: from each line on as from the first. Assumes nothing.
-use Rattle.sheets.proofs.TextLaws.{this_within, line_less, part_needs, part_next, piece_last, over_last, over_on}
 use Rattle.base.proofs.Room.{Leads}
 use Rattle.sheets.specs.Steps.{text_pieces, over_by}
 use Rattle.fields.specs.Lines.{lines_in}
 use lib.ListN.{length, drop}
-use native.Mathlib.Omega.{arith}
 use mathlib.Core.Bool.{false}
-use mathlib.Core.Path.{◌≡◌, refl}
+use mathlib.Core.Path.{◌≡◌}
 use Prim.Native.Nat.{◌+◌, ◌-◌, ◌≤◌}
-use borrow.Author.Rules.{rules}
 use Rattle.sheets.proofs.texts.put_over.Given as goal
 
 abbrev pub invariant-loop-b : goal.invariant-loop-b

@@ -1,7 +1,6 @@
 -- `sheets::texts::put_part` meets its contract. Assumes nothing.
 use Rattle.sheets.proofs.TextLaws.{tab_put}
 use native.Mathlib.Omega.{arith}
-use borrow.Author.Rules.{rules}
 use Rattle.sheets.proofs.texts.put_part.Goals as goal
 
 pub returns : goal.returns

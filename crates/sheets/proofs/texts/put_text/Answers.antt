@@ -1,8 +1,6 @@
 -- `sheets::texts::put_text` meets its contract: its bytes, or what the table reads in them. Assumes nothing.
 use mathlib.Core.Path.{sym, ◌∙◌}
 use native.Mathlib.Omega.{arith}
-use borrow.Author.Rules.{rules}
-use borrow.Author.Tests.{not-true, not-false}
 use Rattle.sheets.proofs.TextLaws.{text_plain, text_halts, units_small, text_reads}
 use Rattle.sheets.proofs.texts.put_text.Goals as goal
 

@@ -1,7 +1,6 @@
 -- `sheets::to_sheet::read_judged` meets its contract. Assumes nothing.
 use Rattle.message.proofs.VerdictTheorems.{judged_by}
 use Rattle.sheets.proofs.CallLaws.{own_refused, judged_sound}
-use borrow.Author.Rules.{rules}
 use Rattle.sheets.proofs.to_sheet.read_judged.Goals as goal
 
 pub returns-in-Broken : goal.returns-in-Broken

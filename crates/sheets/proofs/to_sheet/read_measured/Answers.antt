@@ -1,6 +1,5 @@
 -- `sheets::to_sheet::read_measured` meets its contract: 17, or the sheet. Assumes nothing.
 use Rattle.sheets.proofs.CallLaws.{sheet_short, sheet_done}
-use borrow.Author.Rules.{rules}
 use Rattle.sheets.proofs.to_sheet.read_measured.Goals as goal
 
 pub returns-then-out-size : goal.returns-then-out-size

@@ -1,6 +1,5 @@
 -- `sheets::to_sheet::read_sound` meets its contract. Assumes nothing.
 use Rattle.sheets.proofs.CallLaws.{sheet_at_once}
-use borrow.Author.Rules.{rules}
 use Rattle.sheets.proofs.to_sheet.read_sound.Goals as goal
 
 pub returns : goal.returns

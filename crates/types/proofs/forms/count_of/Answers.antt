@@ -1,7 +1,6 @@
 -- `types::forms::count_of` meets its contract, form by form. Assumes nothing.
 use mathlib.Core.Path.{sym, ap}
 use lib.ListN.{length}
-use borrow.Author.Rules.{rules}
 use Rattle.types.specs.declared.Form.{Form}
 use Rattle.types.specs.Form.{places_of, places_103, places_202}
 use Rattle.types.proofs.forms.count_of.Goals as goal

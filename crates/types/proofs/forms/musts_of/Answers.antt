@@ -1,7 +1,6 @@
 -- `types::forms::musts_of` meets its contract, form by form. Assumes nothing.
 use mathlib.Core.Path.{sym, ap}
 use Rattle.types.specs.Tables.{mandatory_table}
-use borrow.Author.Rules.{rules}
 use Rattle.types.specs.declared.Form.{Form}
 use Rattle.types.specs.Form.{places_of, places_103, places_202}
 use Rattle.types.proofs.forms.musts_of.Goals as goal

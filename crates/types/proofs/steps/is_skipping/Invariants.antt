@@ -1,11 +1,9 @@
 -- `types::steps::is_skipping` meets its contract: no place passed is mandatory. Assumes nothing.
-use mathlib.Core.Path.{◌≡◌, refl, sym, ◌∙◌}
+use mathlib.Core.Path.{◌≡◌}
 use mathlib.Core.List.{[]}
 use Prim.Native.Nat.{◌-◌}
-use native.Mathlib.Omega.{arith}
 use Rattle.types.specs.Walk.{skips}
 use Rattle.types.specs.Tables.{table_places_from}
-use Rattle.types.proofs.StepLaws.{pass_met, pass_on, skips_end}
 use Rattle.types.proofs.steps.is_skipping.Given as goal
 
 abbrev pub invariant-loop-q : goal.invariant-loop-q

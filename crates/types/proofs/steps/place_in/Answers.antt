@@ -1,10 +1,7 @@
 -- `types::steps::place_in` meets its contract: no place passed has the tag. Assumes nothing.
 use mathlib.Core.Path.{sym, ◌∙◌}
-use Prim.Native.Nat.{◌-◌}
 use native.Mathlib.Omega.{arith}
-use borrow.Author.Rules.{rules}
-use Rattle.fields.specs.Shapes.{unpack}
-use Rattle.types.proofs.StepLaws.{Looking, look_start, look_on, look_met, look_end}
+use Rattle.types.proofs.StepLaws.{look_start, look_on, look_met, look_end}
 use Rattle.types.proofs.steps.place_in.Goals as goal
 
 pub loop-q-init : goal.loop-q-init

@@ -1,11 +1,7 @@
 -- `types::steps::seek` meets its contract: no place passed has the tag or is mandatory. Assumes nothing.
 use mathlib.Core.Path.{sym, ◌∙◌}
-use Prim.Native.Nat.{◌-◌}
 use native.Mathlib.Omega.{arith}
-use borrow.Author.Rules.{rules}
-use Rattle.fields.specs.Shapes.{unpack}
-use Rattle.types.specs.Tables.{table_places_from}
-use Rattle.types.proofs.StepLaws.{Seeking, seek_start, seeking_on, seeking_met, seeking_stop, seeking_end}
+use Rattle.types.proofs.StepLaws.{seek_start, seeking_on, seeking_met, seeking_stop, seeking_end}
 use Rattle.types.proofs.steps.seek.Goals as goal
 
 pub loop-q-init : goal.loop-q-init
@@ -18,7 +14,7 @@ pub bounds-musts-q : goal.bounds-musts-q
 bounds-musts-q c = omega arith
 
 pub returns-then-musts-q : goal.returns-then-musts-q
-returns-then-musts-q c =     seeking_stop _ _ _ _ _ _ c.loop-q.invariant c.loop-q-test.true (sym c.has_tag.ensures ∙ c.if-has_tag.false) c.if-musts-q.true
+returns-then-musts-q c = seeking_stop _ _ _ _ _ _ c.loop-q.invariant c.loop-q-test.true (sym c.has_tag.ensures ∙ c.if-has_tag.false) c.if-musts-q.true
 
 pub overflow_add-q : goal.overflow_add-q
 overflow_add-q c = omega arith
@@ -27,7 +23,7 @@ pub loop-q-smaller : goal.loop-q-smaller
 loop-q-smaller c = omega arith
 
 pub loop-q-preserved : goal.loop-q-preserved
-loop-q-preserved c =     seeking_on _ _ _ _ _ _ c.loop-q.invariant c.loop-q-test.true (sym c.has_tag.ensures ∙ c.if-has_tag.false) c.if-musts-q.false
+loop-q-preserved c = seeking_on _ _ _ _ _ _ c.loop-q.invariant c.loop-q-test.true (sym c.has_tag.ensures ∙ c.if-has_tag.false) c.if-musts-q.false
 
 pub returns : goal.returns
 returns c = seeking_end _ _ _ _ _ _ c.loop-q.invariant c.loop-q-test.false

@@ -2,7 +2,6 @@
 use mathlib.Core.Path.{sym, ◌∙◌}
 use Rattle.contents.specs.Answers.{PaidWith}
 use Rattle.values.proofs.GrammarLaws.{unpaid_date, paid_date_lem}
-use borrow.Author.Rules.{rules}
 use Rattle.values.proofs.amounts.date_of.Goals as goal
 
 pub returns-in_default : goal.returns-in_default

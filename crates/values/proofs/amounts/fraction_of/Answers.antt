@@ -3,7 +3,6 @@ use Prim.Native.Nat.{ℕ, ◌+◌, ◌*◌}
 use mathlib.Core.Path.{sym, ap, ap₂, ◌∙◌}
 use native.Mathlib.Omega.{arith}
 use Rattle.values.proofs.MoneyLaws.{fraction_none, fraction_one, fraction_two}
-use borrow.Author.Rules.{rules}
 use Rattle.values.proofs.amounts.fraction_of.Goals as goal
 
 pub returns-then-s-lt1 : goal.returns-then-s-lt1

@@ -4,7 +4,6 @@ use native.Mathlib.Omega.{arith}
 use Rattle.contents.specs.Answers.{PaidWith}
 use Rattle.values.proofs.GrammarLaws.{unpaid_kopecks}
 use Rattle.values.proofs.MoneyLaws.{paid_size, paid_few, whole_run, whole_small, kopecks_by}
-use borrow.Author.Rules.{rules}
 use Rattle.values.proofs.amounts.kopecks_of.Goals as goal
 
 pub returns-in_default : goal.returns-in_default

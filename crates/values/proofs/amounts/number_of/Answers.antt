@@ -1,9 +1,6 @@
 -- `values::amounts::number_of` meets its contract: the first i digits come to n (`Counting`). Assumes nothing.
-use Prim.Native.Nat.{◌-◌}
 use native.Mathlib.Omega.{arith}
-use lib.ListN.{length}
-use borrow.Author.Rules.{rules}
-use Rattle.values.proofs.MoneyLaws.{Counting, count_start, count_small, count_on, count_end}
+use Rattle.values.proofs.MoneyLaws.{count_start, count_small, count_on, count_end}
 use Rattle.values.proofs.amounts.number_of.Goals as goal
 
 pub loop-i-init : goal.loop-i-init

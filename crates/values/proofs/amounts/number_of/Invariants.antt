@@ -1,9 +1,7 @@
 -- `values::amounts::number_of` meets its contract: the first i digits come to n (`Counting`). Assumes nothing.
 use Prim.Native.Nat.{◌-◌}
-use native.Mathlib.Omega.{arith}
 use lib.ListN.{length}
-use borrow.Author.Rules.{rules}
-use Rattle.values.proofs.MoneyLaws.{Counting, count_start, count_small, count_on, count_end}
+use Rattle.values.proofs.MoneyLaws.{Counting}
 use Rattle.values.proofs.amounts.number_of.Given as goal
 
 abbrev pub invariant-loop-i : goal.invariant-loop-i

@@ -1,6 +1,5 @@
 -- `values::days::date_number` meets its contract. Assumes nothing.
 use Rattle.values.specs.Day.{dated}
-use borrow.Author.Rules.{rules}
 use Rattle.values.proofs.days.date_number.Goals as goal
 
 pub returns : goal.returns

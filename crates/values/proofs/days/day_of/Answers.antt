@@ -3,7 +3,6 @@ use mathlib.Core.Path.{sym, ap, ◌∙◌}
 use native.Mathlib.Omega.{arith}
 use Rattle.values.specs.Day.{year_of}
 use Rattle.values.proofs.DayLaws.{two_digits}
-use borrow.Author.Rules.{rules}
 use Rattle.values.proofs.days.day_of.Goals as goal
 
 pub returns : goal.returns

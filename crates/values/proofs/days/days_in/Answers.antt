@@ -2,7 +2,6 @@
 use Rattle.base.proofs.Flags.{flags}
 use Rattle.values.specs.Day.{days_in}
 use Rattle.base.specs.Bytes.{is_in}
-use borrow.Author.Rules.{rules}
 use Rattle.values.proofs.days.days_in.Goals as goal
 
 pub returns-then-is_leap : goal.returns-then-is_leap

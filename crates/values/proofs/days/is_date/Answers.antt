@@ -3,7 +3,6 @@ use mathlib.Core.Path.{ap}
 use lib.Dec.{leb}
 use Rattle.base.proofs.Flags.{flags}
 use Rattle.values.specs.Day.{is_day}
-use borrow.Author.Rules.{rules}
 use Rattle.values.proofs.days.is_date.Goals as goal
 
 pub returns-then-month-lt1 : goal.returns-then-month-lt1

@@ -1,7 +1,6 @@
 -- `values::days::is_day` meets its contract. Assumes nothing.
 use mathlib.Core.Path.{◌∙◌}
 use Rattle.values.specs.Day.{real_day}
-use borrow.Author.Rules.{rules}
 use Rattle.values.proofs.days.is_day.Goals as goal
 
 pub returns : goal.returns

@@ -2,7 +2,6 @@
 use mathlib.Core.Path.{sym}
 use native.Mathlib.Omega.{arith}
 use Rattle.values.proofs.DayLaws.{year_19, year_20, year_high}
-use borrow.Author.Rules.{rules}
 use Rattle.values.proofs.days.year_of.Goals as goal
 
 pub returns-then-yy-lt80 : goal.returns-then-yy-lt80

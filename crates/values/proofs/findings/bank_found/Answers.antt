@@ -4,7 +4,6 @@ use mathlib.Core.Path.{sym, ap, ◌∙◌}
 use mathlib.Core.Bool.{false}
 use Rattle.fields.specs.Lines.{lines_in}
 use Rattle.values.specs.Steps.{made_of, finds, bank_found}
-use borrow.Author.Rules.{rules}
 use Rattle.values.proofs.findings.bank_found.Goals as goal
 
 pub party_fault-requires : goal.party_fault-requires

@@ -4,7 +4,6 @@ use Rattle.fields.specs.Lines.{lines_in}
 use Rattle.contents.specs.declared.Content.TheVariants as holds
 use Rattle.values.specs.Values.{values_of}
 use Rattle.values.proofs.FoundLaws.{line_asks, plain_asks, bank_held, customer_held, payer_held, bic_led, name_led, bank_by_bic, bank_by_name, rest_dated, details_dated, rpp_and_rest, rpp_and_details}
-use borrow.Author.Rules.{rules}
 use Rattle.values.proofs.findings.found_in.Goals as goal
 
 pub bank_found-requires : goal.bank_found-requires

@@ -1,7 +1,6 @@
 -- `values::findings::held_found` meets its contract. Assumes nothing.
 use mathlib.Core.Path.{sym, ap, ◌∙◌}
 use Rattle.values.specs.Steps.{held_found}
-use borrow.Author.Rules.{rules}
 use Rattle.values.proofs.findings.held_found.Goals as goal
 
 pub returns-in-Plain : goal.returns-in-Plain

@@ -4,7 +4,6 @@ use mathlib.Core.Path.{◌≡◌, ap, ◌∙◌}
 use native.Mathlib.Omega.{arith}
 use Rattle.contents.specs.Answers.{cut}
 use Rattle.values.specs.Day.{real_day}
-use borrow.Author.Rules.{rules}
 use Rattle.values.proofs.findings.is_day_at.Goals as goal
 
 pub returns : goal.returns

@@ -3,7 +3,6 @@ use Rattle.base.proofs.SaysLaws.{said, denied}
 use Rattle.fields.specs.Lines.{lines_in}
 use Rattle.contents.proofs.RightLaws.{not_one}
 use Rattle.values.proofs.FoundLaws.{not_line, is_line, finding_none}
-use borrow.Author.Rules.{rules}
 use Rattle.values.proofs.findings.line_found.Goals as goal
 
 pub returns-then-not-is_one_line : goal.returns-then-not-is_one_line

@@ -3,7 +3,6 @@ use mathlib.Core.Path.{sym, ap, ◌∙◌}
 use mathlib.Core.Bool.{Bool}
 use Rattle.base.specs.Choice.{pick}
 use Rattle.values.specs.declared.Found.TheVariants.{Plain, Has}
-use borrow.Author.Rules.{rules}
 use Rattle.values.proofs.findings.made.Goals as goal
 
 pub returns-then-is_nothing : goal.returns-then-is_nothing

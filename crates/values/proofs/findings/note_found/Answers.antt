@@ -4,7 +4,6 @@ use mathlib.Core.Path.{sym, ap, ◌∙◌}
 use mathlib.Core.Bool.{false}
 use Rattle.fields.specs.Lines.{lines_in}
 use Rattle.values.specs.Steps.{made_of, finds, note_found}
-use borrow.Author.Rules.{rules}
 use Rattle.values.proofs.findings.note_found.Goals as goal
 
 pub rpp_fault-requires : goal.rpp_fault-requires

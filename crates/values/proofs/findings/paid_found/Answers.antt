@@ -11,7 +11,6 @@ use Rattle.contents.specs.Answers.{cut, PaidWith}
 use Rattle.contents.proofs.RightLaws.{not_one}
 use Rattle.values.proofs.MoneyLaws.{paid_size}
 use Rattle.values.proofs.FoundLaws.{finding_paid, made_found}
-use borrow.Author.Rules.{rules}
 use Rattle.values.proofs.findings.paid_found.Goals as goal
 
 pub returns-then-not-is_one_line : goal.returns-then-not-is_one_line

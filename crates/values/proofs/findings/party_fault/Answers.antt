@@ -8,7 +8,6 @@ use Rattle.fields.specs.Lines.{lines_in}
 use Rattle.contents.specs.Fields.{Then, Any}
 use Rattle.contents.specs.Answers.{cut, BikWith}
 use Rattle.values.proofs.FrontLaws.{party_wrong, party_account_lem, party_bik_lem, party_both}
-use borrow.Author.Rules.{rules}
 use Rattle.values.proofs.findings.party_fault.Goals as goal
 
 pub returns-then-account-eq0 : goal.returns-then-account-eq0

@@ -4,7 +4,6 @@ use mathlib.Core.Path.{◌≡◌, sym, ap₂, ◌∙◌}
 use mathlib.Core.Bool.{Bool}
 use native.Mathlib.Omega.{arith}
 use Rattle.base.specs.Choice.{pick}
-use borrow.Author.Tests.{not-true, not-false}
 use Rattle.values.proofs.FrontLaws.{rpp_read, rpp_first, rpp_one, rpp_two}
 use Rattle.values.proofs.findings.rpp_fault.Goals as goal
 

@@ -5,7 +5,6 @@ use native.Mathlib.Omega.{arith}
 use Rattle.writer.specs.Steps.{records_at}
 use Rattle.writer.proofs.SeenLaws.{other_nowhere}
 use Rattle.writer.proofs.BuildLaws.{seven_within, uncut_unfit, lines_103, cut_103, unfit_103, whole_103}
-use borrow.Author.Rules.{rules}
 use Rattle.writer.proofs.built.build_on.Goals as goal
 
 pub returns-in_default : goal.returns-in_default

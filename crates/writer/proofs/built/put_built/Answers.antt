@@ -1,7 +1,6 @@
 -- `writer::built::put_built` meets its contract: with its details cut or not. Assumes nothing.
 use native.Mathlib.Omega.{arith}
 use Rattle.writer.proofs.HolderLaws.{built_within, built_seven, built_good, built_lines, built_cut, put_built, put_run_built}
-use borrow.Author.Rules.{rules}
 use Rattle.writer.proofs.built.put_built.Goals as goal
 
 pub put_message-requires : goal.put_message-requires

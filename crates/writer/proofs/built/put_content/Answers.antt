@@ -6,7 +6,6 @@ use lib.ListN.{length}
 use Rattle.records.specs.Found.{pieces_at}
 use Rattle.writer.proofs.StepLaws.{within_more}
 use Rattle.writer.proofs.PutLaws.{content_parts_lem, content_details, content_note, content_rpp, sole_within, sound_details, sound_note}
-use borrow.Author.Rules.{rules}
 use Rattle.writer.proofs.built.put_content.Goals as goal
 
 pub put_purpose-requires : goal.put_purpose-requires
@@ -22,7 +21,7 @@ pub put_parts-requires : goal.put_parts-requires
 put_parts-requires c = (c.requires.0, c.requires.1, c.requires.2)
 
 pub returns-in-Details : goal.returns-in-Details
-returns-in-Details c =         let a = c.args in
+returns-in-Details c = let a = c.args in
     let e = c.in-Details.is in (
       content_details a.sign a.i (pieces_at 9 a.l.now a.i) e c.put_purpose.ensures.0,
       within_more (length a.l.now) (a.at + 4 * length a.l.now + 300) c.put_purpose.ensures.1 (omega arith) (omega arith),

@@ -4,7 +4,6 @@ use native.Mathlib.Omega.{arith}
 use Rattle.writer.specs.Steps.{records_at}
 use Rattle.writer.proofs.StepLaws.{not_put, within_put}
 use Rattle.writer.proofs.BuildLaws.{message_put, message_stop}
-use borrow.Author.Rules.{rules}
 use Rattle.writer.proofs.built.put_message.Goals as goal
 
 pub returns-in_default : goal.returns-in_default

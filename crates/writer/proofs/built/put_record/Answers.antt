@@ -5,7 +5,6 @@ use Rattle.records.proofs.FoundLaws.{tag_within, tag_size}
 use lib.ListN.{length, take}
 use native.Mathlib.Omega.{arith}
 use Prim.Native.Nat.{◌+◌, ◌*◌}
-use borrow.Author.Rules.{rules}
 use Rattle.writer.proofs.built.put_record.Goals as goal
 
 pub slice_bounds-tag-end : goal.slice_bounds-tag-end

@@ -1,17 +1,12 @@
 -- `writer::built::put_records` meets its contract: from each record on as from the first. Assumes nothing.
 use borrow.Author.Rules.{rules}
-use Rattle.writer.proofs.PutLaws.{body_of, ended, good_here, good_on, records_stop, records_on, records_end}
-use Rattle.writer.proofs.StepLaws.{in_stuck, in_put, adds_unfit, adds_put, Onward, within_stuck, Goes, goes_unfit, goes_put, within_next}
-use Rattle.writer.specs.Steps.{records_at, unfit_in}
-use Rattle.writer.specs.Sheet.{rule_15, some_crowded}
+use Rattle.writer.proofs.PutLaws.{ended, good_here, good_on, records_stop, records_on, records_end}
+use Rattle.writer.proofs.StepLaws.{in_stuck, in_put, adds_unfit, adds_put, within_stuck, Goes, goes_unfit, goes_put, within_next}
+use Rattle.writer.specs.Steps.{unfit_in}
 use Rattle.records.proofs.PieceLaws.{piece_length}
-use Rattle.records.specs.Found.{pieces_at, bad_sheet_line}
 use Rattle.base.proofs.Room.{puts_none}
-use Rattle.base.specs.declared.Verdict.TheVariants.{Fine}
 use lib.ListN.{length, take, drop}
 use native.Mathlib.Omega.{arith}
-use mathlib.Core.Logic.{⊎_elim}
-use mathlib.Core.Bool.{not, ◌||◌}
 use mathlib.Core.Path.{◌≡◌, refl}
 use Prim.Native.Nat.{◌+◌, ◌*◌, ◌-◌, ◌≤◌}
 use Rattle.writer.proofs.built.put_records.Goals as goal
@@ -51,7 +46,7 @@ pub returns-in-Stuck : goal.returns-in-Stuck
 returns-in-Stuck c =
     let within : (c.loop-i.i ≤ c.mark_at-e.result) × (c.mark_at-e.result + 1 ≤ length c.args.s.now) = let a = c.args in (omega (arith, c.mark_at-e.ensures), omega (arith, ended a.form a.sign a.s.now c.loop-i.i c.mark_at-e.result c.loop-i.invariant.1 c.mark_at-e.ensures c.loop-i-test.true c.loop-i.invariant.3)) in
     let sized : length (take (c.mark_at-e.result - c.loop-i.i) (drop c.loop-i.i c.args.s.now)) ≡ c.mark_at-e.result - c.loop-i.i = piece_length c.args.s.now c.loop-i.i c.mark_at-e.result within.0 (omega (arith, within)) in
-                let a = c.args in
+    let a = c.args in
     let p = c.put_record.ensures in (
       c.loop-i.invariant.4 _ _ (records_stop a.form a.sign a.s.now c.loop-i.i c.mark_at-e.result c.loop-i.invariant.1 c.mark_at-e.ensures c.loop-i-test.true c.loop-i.invariant.3 c.loop-i.fit c.in-Stuck.is p.0),
       in_stuck _ 10000 _ (omega (arith, within, sized, within_stuck c.in-Stuck.is p.1, c.requires)),
@@ -72,7 +67,7 @@ loop-i-preserved c =
     let within : (c.loop-i.i ≤ c.mark_at-e.result) × (c.mark_at-e.result + 1 ≤ length c.args.s.now) = let a = c.args in (omega (arith, c.mark_at-e.ensures), omega (arith, ended a.form a.sign a.s.now c.loop-i.i c.mark_at-e.result c.loop-i.invariant.1 c.mark_at-e.ensures c.loop-i-test.true c.loop-i.invariant.3)) in
     let sized : length (take (c.mark_at-e.result - c.loop-i.i) (drop c.loop-i.i c.args.s.now)) ≡ c.mark_at-e.result - c.loop-i.i = piece_length c.args.s.now c.loop-i.i c.mark_at-e.result within.0 (omega (arith, within)) in
     let went : Goes c.loop-i.fit c.loop-i.n c.put_record.result c.match-put_record.fit c.match-put_record.n = elim c.match-put_record.branch [ in-Unfit w ↦ goes_unfit w.in-Unfit.is w.fit-is w.n-is | in-Put w ↦ goes_put w.in-Put.is w.fit-is w.n-is ] in
-                let a = c.args in
+    let a = c.args in
     let t = c.loop-i-test.true in
     let e = c.mark_at-e.result in
     let p = c.put_record.ensures in (
@@ -85,13 +80,13 @@ loop-i-preserved c =
     )
 
 pub returns-then-not-fit : goal.returns-then-not-fit
-returns-then-not-fit c =         let a = c.args in (
-      c.loop-i.invariant.4 _ _ (records_end a.form a.sign a.s.now c.loop-i.i c.loop-i.invariant.1 c.loop-i-test.false c.loop-i.fit (adds_unfit refl c.if-not-fit.true-raw)),
-      unfit_in,
-    )
+returns-then-not-fit c = let a = c.args in (
+  c.loop-i.invariant.4 _ _ (records_end a.form a.sign a.s.now c.loop-i.i c.loop-i.invariant.1 c.loop-i-test.false c.loop-i.fit (adds_unfit refl c.if-not-fit.true-raw)),
+  unfit_in,
+)
 
 pub returns : goal.returns
-returns c =         let a = c.args in (
-      c.loop-i.invariant.4 _ _ (records_end a.form a.sign a.s.now c.loop-i.i c.loop-i.invariant.1 c.loop-i-test.false c.loop-i.fit (adds_put refl c.if-not-fit.false-raw puts_none)),
-      in_put c.loop-i.n 10000 _ (omega (arith, c.loop-i.invariant)),
-    )
+returns c = let a = c.args in (
+  c.loop-i.invariant.4 _ _ (records_end a.form a.sign a.s.now c.loop-i.i c.loop-i.invariant.1 c.loop-i-test.false c.loop-i.fit (adds_put refl c.if-not-fit.false-raw puts_none)),
+  in_put c.loop-i.n 10000 _ (omega (arith, c.loop-i.invariant)),
+)

@@ -1,18 +1,13 @@
 -- `writer::built::put_records` meets its contract: from each record on as from the first. Assumes nothing.
-use borrow.Author.Rules.{rules}
-use Rattle.writer.proofs.PutLaws.{body_of, ended, good_here, good_on, records_stop, records_on, records_end}
-use Rattle.writer.proofs.StepLaws.{in_stuck, in_put, adds_unfit, adds_put, Onward, within_stuck, Goes, goes_unfit, goes_put, within_next}
-use Rattle.writer.specs.Steps.{records_at, unfit_in}
+use Rattle.writer.proofs.PutLaws.{body_of}
+use Rattle.writer.proofs.StepLaws.{Onward}
+use Rattle.writer.specs.Steps.{records_at}
 use Rattle.writer.specs.Sheet.{rule_15, some_crowded}
-use Rattle.records.proofs.PieceLaws.{piece_length}
 use Rattle.records.specs.Found.{pieces_at, bad_sheet_line}
-use Rattle.base.proofs.Room.{puts_none}
 use Rattle.base.specs.declared.Verdict.TheVariants.{Fine}
-use lib.ListN.{length, take, drop}
-use native.Mathlib.Omega.{arith}
-use mathlib.Core.Logic.{⊎_elim}
+use lib.ListN.{length}
 use mathlib.Core.Bool.{not, ◌||◌}
-use mathlib.Core.Path.{◌≡◌, refl}
+use mathlib.Core.Path.{◌≡◌}
 use Prim.Native.Nat.{◌+◌, ◌*◌, ◌-◌, ◌≤◌}
 use Rattle.writer.proofs.built.put_records.Given as goal
 

@@ -3,7 +3,6 @@ use borrow.Enum.Refused.{opened}
 use native.Mathlib.Omega.{arith}
 use Rattle.records.proofs.PieceLaws.{piece_length}
 use Rattle.writer.proofs.SeenLaws.{not_one, too_many, the_70, is_the_70, too_long, none_there, cut_there, cut_few}
-use borrow.Author.Rules.{rules}
 use Rattle.writer.proofs.cuts.find_cut.Goals as goal
 
 pub returns-then-seen-ne1 : goal.returns-then-seen-ne1

@@ -2,7 +2,6 @@
 use native.Mathlib.Omega.{arith}
 use lib.ListN.{length-take}
 use Rattle.writer.proofs.SeenLaws.{digits_at, run_70}
-use borrow.Author.Rules.{rules}
 use Rattle.writer.proofs.cuts.run_of.Goals as goal
 
 pub slice_bounds-put_code-end : goal.slice_bounds-put_code-end

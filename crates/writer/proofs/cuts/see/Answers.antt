@@ -1,7 +1,6 @@
 -- `writer::cuts::see` meets its contract: by the tag. Assumes nothing.
 use Rattle.records.specs.Record.{record_of}
 use Rattle.writer.proofs.SeenLaws.{is_70, not_a_70, is_72, not_a_72, see_70, see_72, see_not}
-use borrow.Author.Rules.{rules}
 use Rattle.writer.proofs.cuts.see.Goals as goal
 
 pub returns-then-tag-eq-TAG_70 : goal.returns-then-tag-eq-TAG_70

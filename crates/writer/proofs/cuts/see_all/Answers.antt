@@ -1,12 +1,9 @@
 -- `writer::cuts::see_all` meets its contract: from each record on as from the first. Assumes nothing.
 use Prim.Native.Nat.{◌+◌, ◌-◌, ◌≤◌}
-use mathlib.Core.Path.{◌≡◌, refl, ap, ◌∙◌}
+use mathlib.Core.Path.{refl, ap, ◌∙◌}
 use native.Mathlib.Omega.{arith}
 use lib.ListN.{length, take, drop}
-use borrow.Author.Rules.{rules}
 use Rattle.records.specs.Record.{record_of}
-use Rattle.writer.specs.Steps.{records_at}
-use Rattle.writer.specs.Runs.{none_seen, seen_from, Passes}
 use Rattle.writer.specs.declared.cuts.Seen.{Seen}
 use Rattle.writer.proofs.PutLaws.{ended, good_on}
 use Rattle.writer.proofs.SeenLaws.{see_few, seen_on, seen_end}

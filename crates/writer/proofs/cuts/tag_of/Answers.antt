@@ -1,7 +1,6 @@
 -- `writer::cuts::tag_of` meets its contract: what stands before the first tab. Assumes nothing.
 use Rattle.records.proofs.FoundLaws.{tag_size}
 use Rattle.writer.proofs.SeenLaws.{tag_read}
-use borrow.Author.Rules.{rules}
 use Rattle.writer.proofs.cuts.tag_of.Goals as goal
 
 pub slice_bounds-tag_number-end : goal.slice_bounds-tag_number-end

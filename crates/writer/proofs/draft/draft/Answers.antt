@@ -2,7 +2,6 @@
 use native.Mathlib.Omega.{arith}
 use Rattle.writer.proofs.BuildLaws.{built_stopped, built_whole, built_size}
 use Rattle.writer.proofs.CallLaws.{draft_refused, draft_short, draft_done}
-use borrow.Author.Rules.{rules}
 use Rattle.writer.proofs.draft.draft.Goals as goal
 
 pub returns-then-out-size : goal.returns-then-out-size

@@ -1,22 +1,14 @@
 -- `writer::holder::find_holder` meets its contract: from each record on as from the second. Assumes nothing.
 use borrow.Enum.Refused.{opened}
-use Prim.Native.Nat.{◌+◌, ◌*◌, ◌-◌, ◌≤◌}
+use Prim.Native.Nat.{◌+◌, ◌-◌, ◌≤◌}
 use mathlib.Core.Path.{◌≡◌, refl, sym, ◌∙◌}
-use mathlib.Core.Bool.{false}
 use native.Mathlib.Omega.{arith}
 use lib.ListN.{length, take, drop}
 use borrow.Author.Rules.{rules}
-use Rattle.base.specs.declared.Verdict.TheVariants.{Fine}
-use Rattle.records.specs.Found.{pieces_at, bad_sheet_line}
 use Rattle.records.proofs.PieceLaws.{piece_length}
-use Rattle.writer.specs.Sheet.{rule_15, some_crowded}
-use Rattle.writer.specs.Steps.{records_at}
-use Rattle.writer.specs.Holder.{holder_in}
 use Rattle.writer.proofs.StepLaws.{within_put, not_put}
 use Rattle.writer.proofs.PutLaws.{ended, good_here, good_on}
 use Rattle.writer.proofs.HolderLaws.{texts_on, details_on, is_put, holder_hit, holder_miss, holder_end}
-use Rattle.records.specs.Places.{starts_of}
-use Rattle.writer.specs.Spread.{spread}
 use Rattle.writer.proofs.holder.find_holder.Goals as goal
 
 pub loop-i-init : goal.loop-i-init
@@ -70,14 +62,14 @@ loop-i-preserved c =
     let within : (c.loop-i.i ≤ c.mark_at-e.result) × (c.mark_at-e.result + 1 ≤ length c.args.s.now) = let a = c.args in (omega (arith, c.mark_at-e.ensures), omega (arith, ended a.form a.sign a.s.now c.loop-i.i c.mark_at-e.result c.loop-i.invariant.0 c.mark_at-e.ensures c.loop-i-test.true c.loop-i.invariant.2)) in
     let sized : length (take (c.mark_at-e.result - c.loop-i.i) (drop c.loop-i.i c.args.s.now)) ≡ c.mark_at-e.result - c.loop-i.i = piece_length c.args.s.now c.loop-i.i c.mark_at-e.result within.0 (omega (arith, within)) in
     let a = c.args in let v = c.loop-i.invariant in (
-  within.1,
-  omega (arith, within, sized, v, within_put c.in-Put.is c.put_record.ensures.1),
-  good_on a.form a.sign a.s.now c.loop-i.i c.mark_at-e.result v.0 c.mark_at-e.ensures c.loop-i-test.true v.2,
-  texts_on a.form a.sign a.s.now c.loop-i.i c.mark_at-e.result v.0 c.mark_at-e.ensures c.loop-i-test.true v.2 v.3 v.4,
-  details_on a.form a.sign a.s.now c.loop-i.i c.mark_at-e.result v.0 c.mark_at-e.ensures c.loop-i-test.true v.2 v.3 v.4,
-  v.5 ∙ holder_miss a.form a.sign a.s.now c.loop-i.i c.mark_at-e.result v.0 c.mark_at-e.ensures c.loop-i-test.true v.2 v.3 v.4 c.put_record.ensures.0 c.in-Put.is a.place (sym c.is_between.ensures ∙ c.if-is_between.false),
-  search rules,
-)
+      within.1,
+      omega (arith, within, sized, v, within_put c.in-Put.is c.put_record.ensures.1),
+      good_on a.form a.sign a.s.now c.loop-i.i c.mark_at-e.result v.0 c.mark_at-e.ensures c.loop-i-test.true v.2,
+      texts_on a.form a.sign a.s.now c.loop-i.i c.mark_at-e.result v.0 c.mark_at-e.ensures c.loop-i-test.true v.2 v.3 v.4,
+      details_on a.form a.sign a.s.now c.loop-i.i c.mark_at-e.result v.0 c.mark_at-e.ensures c.loop-i-test.true v.2 v.3 v.4,
+      v.5 ∙ holder_miss a.form a.sign a.s.now c.loop-i.i c.mark_at-e.result v.0 c.mark_at-e.ensures c.loop-i-test.true v.2 v.3 v.4 c.put_record.ensures.0 c.in-Put.is a.place (sym c.is_between.ensures ∙ c.if-is_between.false),
+      search rules,
+    )
 
 pub returns : goal.returns
 returns c = let a = c.args in let v = c.loop-i.invariant in sym (v.5 ∙ holder_end a.form a.sign a.s.now c.loop-i.i a.place c.loop-i.n v.0 c.loop-i-test.false)

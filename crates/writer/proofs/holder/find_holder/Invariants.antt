@@ -1,19 +1,13 @@
 -- `writer::holder::find_holder` meets its contract: from each record on as from the second. Assumes nothing.
 use Prim.Native.Nat.{◌+◌, ◌*◌, ◌-◌, ◌≤◌}
-use mathlib.Core.Path.{◌≡◌, refl, sym, ◌∙◌}
+use mathlib.Core.Path.{◌≡◌}
 use mathlib.Core.Bool.{false}
-use native.Mathlib.Omega.{arith}
-use lib.ListN.{length, take, drop}
-use borrow.Author.Rules.{rules}
+use lib.ListN.{length}
 use Rattle.base.specs.declared.Verdict.TheVariants.{Fine}
 use Rattle.records.specs.Found.{pieces_at, bad_sheet_line}
-use Rattle.records.proofs.PieceLaws.{piece_length}
 use Rattle.writer.specs.Sheet.{rule_15, some_crowded}
 use Rattle.writer.specs.Steps.{records_at}
 use Rattle.writer.specs.Holder.{holder_in}
-use Rattle.writer.proofs.StepLaws.{within_put, not_put}
-use Rattle.writer.proofs.PutLaws.{ended, good_here, good_on}
-use Rattle.writer.proofs.HolderLaws.{texts_on, details_on, is_put, holder_hit, holder_miss, holder_end}
 use Rattle.records.specs.Places.{starts_of}
 use Rattle.writer.specs.Spread.{spread}
 use Rattle.writer.proofs.holder.find_holder.Given as goal

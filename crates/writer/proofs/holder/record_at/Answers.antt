@@ -3,7 +3,6 @@ use mathlib.Core.Path.{◌∙◌}
 use native.Mathlib.Omega.{arith}
 use Rattle.writer.proofs.BuildLaws.{built_stopped, built_whole}
 use Rattle.writer.proofs.HolderLaws.{holder_refused, built_within, built_seven, built_good, built_texts, built_details, built_lines, built_cut, holder_built, holder_run}
-use borrow.Author.Rules.{rules}
 use Rattle.writer.proofs.holder.record_at.Goals as goal
 
 pub returns-in_default : goal.returns-in_default

@@ -2,18 +2,12 @@
 use borrow.Enum.Refused.{opened}
 use Prim.Native.Nat.{◌+◌, ◌-◌, ◌*◌, ◌≤◌}
 use mathlib.Core.Path.{◌≡◌, refl}
-use mathlib.Core.List.{map}
 use native.Mathlib.Omega.{arith}
 use borrow.Author.Rules.{rules}
 use lib.ListN.{length, take, drop}
-use Rattle.fields.specs.Field.{with_cr_lf}
-use Rattle.roles.specs.Parts.{cast_by}
-use Rattle.records.specs.Found.{pieces_at}
 use Rattle.records.proofs.PieceLaws.{end_within, piece_length}
-use Rattle.writer.specs.Spread.{line_for}
 use Rattle.writer.proofs.StepLaws.{in_put, not_put, within_more, within_any, within_put}
-use Rattle.writer.specs.Sheet.{unsaid}
-use Rattle.writer.proofs.PartLaws.{PartsLeft, parts_on, parts_stop, parts_end}
+use Rattle.writer.proofs.PartLaws.{parts_on, parts_stop, parts_end}
 use Rattle.writer.proofs.parts.put_parts.Goals as goal
 
 pub loop-i-init : goal.loop-i-init
@@ -38,14 +32,14 @@ pub put_line-r-requires : goal.put_line-r-requires
 put_line-r-requires c =
     let within : (c.loop-i.i ≤ c.mark_at-e.result) × (c.mark_at-e.result ≤ length c.args.l.now) = let a = c.args in (omega (arith, c.mark_at-e.ensures), end_within 9 a.l.now c.loop-i.i c.mark_at-e.result c.loop-i-test.true c.mark_at-e.ensures) in
     let sized : length (take (c.mark_at-e.result - c.loop-i.i) (drop c.loop-i.i c.args.l.now)) ≡ c.mark_at-e.result - c.loop-i.i = piece_length c.args.l.now c.loop-i.i c.mark_at-e.result within.0 within.1 in
-            (omega (arith, sized, within, c.requires), omega (arith, within, c.requires), omega (arith, c.loop-i.invariant, c.requires))
+    (omega (arith, sized, within, c.requires), omega (arith, within, c.requires), omega (arith, c.loop-i.invariant, c.requires))
 
 pub returns-in_default : goal.returns-in_default
 returns-in_default c =
     let within : (c.loop-i.i ≤ c.mark_at-e.result) × (c.mark_at-e.result ≤ length c.args.l.now) = let a = c.args in (omega (arith, c.mark_at-e.ensures), end_within 9 a.l.now c.loop-i.i c.mark_at-e.result c.loop-i-test.true c.mark_at-e.ensures) in
     let sized : length (take (c.mark_at-e.result - c.loop-i.i) (drop c.loop-i.i c.args.l.now)) ≡ c.mark_at-e.result - c.loop-i.i = piece_length c.args.l.now c.loop-i.i c.mark_at-e.result within.0 within.1 in
-                let a = c.args in
-            let n = not_put c.put_line-r.result (opened c.in_default.in_default-own.keys2) in (
+    let a = c.args in
+    let n = not_put c.put_line-r.result (opened c.in_default.in_default-own.keys2) in (
       parts_stop a.sign c.loop-i.role a.l.now c.loop-i.i c.mark_at-e.result c.loop-i-test.true c.mark_at-e.ensures c.is_spoken-spoken.ensures c.put_line-r.ensures.0 c.loop-i.invariant.4 n,
       within_more (length a.l.now) (a.at + 4 * length a.l.now + 4) (within_any (a.at + 4 * length a.l.now + 4) n c.put_line-r.ensures.1) (omega (arith, sized, within)) (omega arith),
     )
@@ -64,8 +58,7 @@ pub loop-i-preserved : goal.loop-i-preserved
 loop-i-preserved c =
     let within : (c.loop-i.i ≤ c.mark_at-e.result) × (c.mark_at-e.result ≤ length c.args.l.now) = let a = c.args in (omega (arith, c.mark_at-e.ensures), end_within 9 a.l.now c.loop-i.i c.mark_at-e.result c.loop-i-test.true c.mark_at-e.ensures) in
     let sized : length (take (c.mark_at-e.result - c.loop-i.i) (drop c.loop-i.i c.args.l.now)) ≡ c.mark_at-e.result - c.loop-i.i = piece_length c.args.l.now c.loop-i.i c.mark_at-e.result within.0 within.1 in
-                let a = c.args in
-        (
+    let a = c.args in (
       search rules,
       omega (arith, within),
       omega (arith, c.loop-i.invariant, c.mark_at-e.ensures),
@@ -77,4 +70,4 @@ pub shape_of-out : goal.shape_of-out
 shape_of-out c = c.loop-i.invariant.0
 
 pub returns : goal.returns
-returns c = let a = c.args in     (parts_end a.sign c.loop-i.role a.l.now c.loop-i.i (omega (arith, c.loop-i-test.false)) c.loop-i.invariant.4, in_put c.loop-i.at (length a.l.now) (a.at + 4 * length a.l.now + 4) (omega (arith, c.loop-i.invariant)))
+returns c = let a = c.args in (parts_end a.sign c.loop-i.role a.l.now c.loop-i.i (omega (arith, c.loop-i-test.false)) c.loop-i.invariant.4, in_put c.loop-i.at (length a.l.now) (a.at + 4 * length a.l.now + 4) (omega (arith, c.loop-i.invariant)))

@@ -1,18 +1,14 @@
 -- `writer::parts::put_parts` meets its contract: from each part on as from the first. Assumes nothing.
 use Prim.Native.Nat.{◌+◌, ◌-◌, ◌*◌, ◌≤◌}
-use mathlib.Core.Path.{◌≡◌, refl}
+use mathlib.Core.Path.{◌≡◌}
 use mathlib.Core.List.{map}
-use native.Mathlib.Omega.{arith}
-use borrow.Author.Rules.{rules}
-use lib.ListN.{length, take, drop}
+use lib.ListN.{length}
 use Rattle.fields.specs.Field.{with_cr_lf}
 use Rattle.roles.specs.Parts.{cast_by}
 use Rattle.records.specs.Found.{pieces_at}
-use Rattle.records.proofs.PieceLaws.{end_within, piece_length}
 use Rattle.writer.specs.Spread.{line_for}
-use Rattle.writer.proofs.StepLaws.{in_put, not_put, within_more, within_any, within_put}
 use Rattle.writer.specs.Sheet.{unsaid}
-use Rattle.writer.proofs.PartLaws.{PartsLeft, parts_on, parts_stop, parts_end}
+use Rattle.writer.proofs.PartLaws.{PartsLeft}
 use Rattle.writer.proofs.parts.put_parts.Given as goal
 
 abbrev pub invariant-loop-i : goal.invariant-loop-i

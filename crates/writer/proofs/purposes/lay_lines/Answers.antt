@@ -5,7 +5,6 @@ use native.Mathlib.Omega.{arith}
 use Rattle.writer.proofs.PurposeLaws.{laid_few, lines_put, lines_unfit}
 use Rattle.writer.proofs.StepLaws.{in_put}
 use Rattle.writer.specs.Steps.{unfit_in}
-use borrow.Author.Rules.{rules}
 use Rattle.writer.proofs.purposes.lay_lines.Goals as goal
 
 pub returns-in_default : goal.returns-in_default

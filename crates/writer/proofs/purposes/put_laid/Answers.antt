@@ -3,7 +3,6 @@ use borrow.Enum.Refused.{opened}
 use Prim.Native.Nat.{◌+◌}
 use native.Mathlib.Omega.{arith}
 use lib.ListN.{length, length-take}
-use borrow.Author.Rules.{rules}
 use Rattle.writer.specs.Steps.{unfit_in}
 use Rattle.writer.proofs.StepLaws.{not_put, within_more, within_any}
 use Rattle.writer.proofs.PurposeLaws.{laid_stop, laid_over, laid_put}

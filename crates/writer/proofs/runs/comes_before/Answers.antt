@@ -1,7 +1,6 @@
 -- `writer::runs::comes_before` meets its contract: by the tag. Assumes nothing.
 use Rattle.records.specs.Record.{record_of}
 use Rattle.writer.proofs.RunLaws.{not_before, is_before}
-use borrow.Author.Rules.{rules}
 use Rattle.writer.proofs.runs.comes_before.Goals as goal
 
 pub returns-then-not-new : goal.returns-then-not-new

@@ -1,6 +1,5 @@
 -- `writer::runs::held_by` meets its contract: a record that was found stays. Assumes nothing.
 use Rattle.writer.proofs.RunLaws.{held_here, held_not}
-use borrow.Author.Rules.{rules}
 use Rattle.writer.proofs.runs.held_by.Goals as goal
 
 pub returns-then-is_between : goal.returns-then-is_between

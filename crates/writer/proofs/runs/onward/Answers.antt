@@ -1,7 +1,6 @@
 -- `writer::runs::onward` meets its contract: by the step. Assumes nothing.
 use borrow.Enum.Refused.{opened}
 use Rattle.writer.proofs.RunLaws.{onward_none, onward_some}
-use borrow.Author.Rules.{rules}
 use Rattle.writer.proofs.runs.onward.Goals as goal
 
 pub returns-in_default : goal.returns-in_default

@@ -7,7 +7,6 @@ use Rattle.runon.specs.RunOn.{tag_72}
 use Rattle.writer.proofs.StepLaws.{not_put, within_more, within_put}
 use Rattle.writer.proofs.PutLaws.{tag_behind}
 use Rattle.writer.proofs.RunLaws.{rpp_within, rpp_is_put, both_put}
-use borrow.Author.Rules.{rules}
 use Rattle.writer.proofs.runs.put_both.Goals as goal
 
 pub put_rpp-requires : goal.put_rpp-requires

@@ -7,7 +7,6 @@ use Rattle.writer.proofs.StepLaws.{within_more}
 use Rattle.writer.proofs.PutLaws.{tag_behind}
 use Rattle.writer.proofs.SeenLaws.{detailed_70}
 use Rattle.writer.proofs.RunLaws.{first_put}
-use borrow.Author.Rules.{rules}
 use Rattle.writer.proofs.runs.put_first.Goals as goal
 
 pub put_purpose-requires : goal.put_purpose-requires

@@ -9,7 +9,6 @@ use Rattle.writer.proofs.StepLaws.{within_more}
 use Rattle.writer.proofs.PutLaws.{own_good, own_put}
 use Rattle.writer.proofs.SeenLaws.{is_70, not_a_70, is_72, not_a_72}
 use Rattle.writer.proofs.RunLaws.{first_tag, run_first, run_second, run_other}
-use borrow.Author.Rules.{rules}
 use Rattle.writer.proofs.runs.put_half.Goals as goal
 
 pub put_first-requires : goal.put_first-requires

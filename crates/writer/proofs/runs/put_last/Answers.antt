@@ -6,7 +6,6 @@ use Rattle.types.specs.declared.Form.TheVariants.{Mt103}
 use Rattle.runon.specs.RunOn.{new_note}
 use Rattle.writer.specs.Spread.{field_for}
 use Rattle.writer.proofs.RunLaws.{onward_put, last_none, last_new, was_new}
-use borrow.Author.Rules.{rules}
 use Rattle.writer.proofs.runs.put_last.Goals as goal
 
 pub returns-then-not-run : goal.returns-then-not-run

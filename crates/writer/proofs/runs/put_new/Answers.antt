@@ -5,7 +5,6 @@ use Rattle.runon.specs.RunOn.{tag_72}
 use Rattle.writer.proofs.StepLaws.{within_more}
 use Rattle.writer.proofs.PutLaws.{tag_behind}
 use Rattle.writer.proofs.RunLaws.{new_put}
-use borrow.Author.Rules.{rules}
 use Rattle.writer.proofs.runs.put_new.Goals as goal
 
 pub returns : goal.returns

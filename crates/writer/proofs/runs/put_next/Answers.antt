@@ -7,7 +7,6 @@ use Rattle.runon.specs.RunOn.{new_note, halved}
 use Rattle.writer.specs.Spread.{field_for}
 use Rattle.writer.specs.Runs.{record_in, one_in}
 use Rattle.writer.proofs.RunLaws.{is_new, onward_put, here_alone, here_both}
-use borrow.Author.Rules.{rules}
 use Rattle.writer.proofs.runs.put_next.Goals as goal
 
 pub put_new-note-requires : goal.put_new-note-requires

@@ -1,24 +1,16 @@
 -- `writer::runs::put_run` meets its contract: from each record on as from the first, then the closing. Assumes nothing.
-use Prim.Native.Nat.{◌+◌, ◌-◌, ◌*◌, ◌≤◌}
-use mathlib.Core.Path.{◌≡◌, refl}
-use mathlib.Core.Bool.{true}
-use mathlib.Core.List.{[]}
+use Prim.Native.Nat.{◌+◌, ◌≤◌}
+use mathlib.Core.Path.{refl}
 use native.Mathlib.Omega.{arith}
 use lib.ListN.{length}
 use borrow.Author.Rules.{rules}
-use Rattle.base.specs.Examples.{AllHold}
-use Rattle.base.specs.declared.Verdict.TheVariants.{Fine}
 use Rattle.types.specs.declared.Form.TheVariants.{Mt103}
-use Rattle.records.specs.Found.{pieces_at, bad_sheet_line}
-use Rattle.details.specs.declared.DetailsField.TheVariants.{In72}
-use Rattle.runon.specs.Run.{fits_in}
 use Rattle.runon.specs.RunOn.{run_as}
 use Rattle.writer.specs.Spread.{spread}
 use Rattle.writer.specs.Steps.{records_at}
-use Rattle.writer.specs.Holder.{sources}
 use Rattle.writer.specs.Runs.{record_in, one_in, Here}
 use Rattle.writer.proofs.PutLaws.{ended, good_on}
-use Rattle.writer.proofs.RunLaws.{LeftOn, all_on, still_new_lem, left_on, left_end, run_whole}
+use Rattle.writer.proofs.RunLaws.{all_on, still_new_lem, left_on, left_end, run_whole}
 use Rattle.writer.proofs.runs.put_run.Goals as goal
 
 pub loop-i-init : goal.loop-i-init

@@ -1,11 +1,9 @@
 -- `writer::runs::put_run` meets its contract: from each record on as from the first, then the closing. Assumes nothing.
 use Prim.Native.Nat.{◌+◌, ◌-◌, ◌*◌, ◌≤◌}
-use mathlib.Core.Path.{◌≡◌, refl}
+use mathlib.Core.Path.{◌≡◌}
 use mathlib.Core.Bool.{true}
 use mathlib.Core.List.{[]}
-use native.Mathlib.Omega.{arith}
 use lib.ListN.{length}
-use borrow.Author.Rules.{rules}
 use Rattle.base.specs.Examples.{AllHold}
 use Rattle.base.specs.declared.Verdict.TheVariants.{Fine}
 use Rattle.types.specs.declared.Form.TheVariants.{Mt103}
@@ -16,9 +14,8 @@ use Rattle.runon.specs.RunOn.{run_as}
 use Rattle.writer.specs.Spread.{spread}
 use Rattle.writer.specs.Steps.{records_at}
 use Rattle.writer.specs.Holder.{sources}
-use Rattle.writer.specs.Runs.{record_in, one_in, Here}
-use Rattle.writer.proofs.PutLaws.{ended, good_on}
-use Rattle.writer.proofs.RunLaws.{LeftOn, all_on, still_new_lem, left_on, left_end, run_whole}
+use Rattle.writer.specs.Runs.{one_in, Here}
+use Rattle.writer.proofs.RunLaws.{LeftOn}
 use Rattle.writer.proofs.runs.put_run.Given as goal
 
 abbrev pub invariant-loop-i : goal.invariant-loop-i
@@ -26,7 +23,7 @@ invariant-loop-i l =
     (length l.out ≡ length l.initial.out) × (l.i ≤ length l.s) × (l.run.at ≤ 5 + 800 * l.i) × (bad_sheet_line Mt103 l.sign l.i (pieces_at 10 l.s l.i) ≡ Fine) × AllHold (Here l.sign l.half l.rest) (records_at l.s l.i)
     × (l.run.new ≡ true → fits_in l.sign In72 [] l.rest ≡ true)
     × LeftOn (spread Mt103 l.sign (run_as l.new (one_in l.half) l.rest (records_at l.s 7))) (sources l.new l.start 7 (records_at l.s 7)) l.place l.initial.out l.initial.run
-        (spread Mt103 l.sign (run_as l.run.new (one_in l.half) l.rest (records_at l.s l.i))) (sources l.run.new l.start l.i (records_at l.s l.i)) l.out l.run
+    (spread Mt103 l.sign (run_as l.run.new (one_in l.half) l.rest (records_at l.s l.i))) (sources l.run.new l.start l.i (records_at l.s l.i)) l.out l.run
 
 abbrev pub decreases-loop-i : goal.decreases-loop-i
 decreases-loop-i l = length l.s - l.i

@@ -5,7 +5,6 @@ use native.Mathlib.Omega.{arith}
 use lib.ListN.{length}
 use Rattle.writer.proofs.StepLaws.{in_put, in_stuck}
 use Rattle.writer.proofs.TextLaws.{text_put, text_small, text_stuck, text_inside, text_long}
-use borrow.Author.Rules.{rules}
 use Rattle.writer.proofs.texts.put_text.Goals as goal
 
 pub overflow_add-result : goal.overflow_add-result
