@@ -7,7 +7,7 @@ use base::bytes::{front, past, put};
 use details::{DetailsField, Size, lay, room_from, size_of};
 use runon::{Run, run_on};
 use stored::{behind, line_at, up_to};
-use streams::write_output;
+use streams::{Output, write_output};
 
 // Code and texts that run on may come to so many bytes.
 const MOST: usize = 210;
@@ -27,14 +27,14 @@ fn less(a: usize, b: usize) -> usize {
 }
 
 // Each line behind its length.
-fn tell_lines(laid: &[u8]) -> Last {
+fn tell_lines(rt: &impl Output, laid: &[u8]) -> Last {
     let mut line = 0;
     let mut at = 0;
     while at < laid.len() {
         let ended = line_at(laid, at);
         let bytes = up_to(b'\r', ended);
-        tell_number(bytes.len());
-        tell_text(bytes);
+        tell_number(rt, bytes.len());
+        tell_text(rt, bytes);
         let next = behind(laid, at, ended.len());
         if next <= at {
             return Last {
@@ -49,69 +49,72 @@ fn tell_lines(laid: &[u8]) -> Last {
 }
 
 // The lines of a details field, where the text fits them. None has room for more than 250 bytes.
-fn tell_laid(into: DetailsField, least: usize, text: &[u8]) -> Last {
+fn tell_laid(rt: &impl Output, into: DetailsField, least: usize, text: &[u8]) -> Last {
     let mut out = [0u8; 250];
     let n = lay(into, least, text, &mut out, 0);
-    tell_lines(front(&out, n))
+    tell_lines(rt, front(&out, n))
 }
 
 // What is left of the last line, and of the lines behind it.
-fn tell_left(into: DetailsField, last: Last) {
+fn tell_left(rt: &impl Output, into: DetailsField, last: Last) {
     let room = room_from(into, last.line);
-    write_output(b"it fits, with ");
-    tell_bytes(less(room.bytes, less(last.bytes, room.mark)));
-    write_output(b" left\n");
+    write_output(rt, b"it fits, with ");
+    tell_bytes(rt, less(room.bytes, less(last.bytes, room.mark)));
+    write_output(rt, b" left\n");
 }
 
-fn tell_long(size: usize, most: usize) {
-    write_output(b"it does not fit: code and text have ");
-    tell_bytes(size);
-    write_output(b", ");
-    tell_number(less(size, most));
-    write_output(b" more than the lines hold\n");
+fn tell_long(rt: &impl Output, size: usize, most: usize) {
+    write_output(rt, b"it does not fit: code and text have ");
+    tell_bytes(rt, size);
+    write_output(rt, b", ");
+    tell_number(rt, less(size, most));
+    write_output(rt, b" more than the lines hold\n");
 }
 
 // By its length it would fit.
-fn tell_breaks(size: usize, most: usize) {
-    write_output(b"only its breaks do not fit: code and text have ");
-    tell_bytes(size);
-    write_output(b" and the lines hold ");
-    tell_number(most);
-    write_output(b", but a - or : stands where a later line would begin\n");
+fn tell_breaks(rt: &impl Output, size: usize, most: usize) {
+    write_output(rt, b"only its breaks do not fit: code and text have ");
+    tell_bytes(rt, size);
+    write_output(rt, b" and the lines hold ");
+    tell_number(rt, most);
+    write_output(
+        rt,
+        b", but a - or : stands where a later line would begin\n",
+    );
 }
 
-fn tell_unfit(into: DetailsField, size: usize) {
+fn tell_unfit(rt: &impl Output, into: DetailsField, size: usize) {
     let room = room_from(into, 0);
     if room.bytes < size {
-        tell_long(size, room.bytes);
+        tell_long(rt, size, room.bytes);
         return;
     }
-    tell_breaks(size, room.bytes);
+    tell_breaks(rt, size, room.bytes);
 }
 
-fn tell_fit(into: DetailsField, least: usize, text: &[u8], last: Last) {
+fn tell_fit(rt: &impl Output, into: DetailsField, least: usize, text: &[u8], last: Last) {
     let size = size_of(into, least, text);
     match size {
-        Size::Bytes(_) => tell_left(into, last),
-        Size::Unfit => tell_unfit(into, text.len()),
+        Size::Bytes(_) => tell_left(rt, into, last),
+        Size::Unfit => tell_unfit(rt, into, text.len()),
     }
 }
 
 // Behind an RPP line the lines are the same, where the text fits. Answers whether lines were broken, if at all then in 72, whose first one is shorter.
-fn tell_fields(least: usize, text: &[u8]) -> bool {
-    write_output(b"in field 70, with your own five digits in the code:\n");
-    let in70 = tell_laid(DetailsField::In70, least, text);
-    tell_fit(DetailsField::In70, least, text, in70);
-    write_output(b"in field 72 of a 202:\n");
-    let in72 = tell_laid(DetailsField::In72, least, text);
-    tell_fit(DetailsField::In72, least, text, in72);
-    write_output(b"behind an RPP line ");
-    tell_fit(DetailsField::BehindRpp, least, text, in72);
+fn tell_fields(rt: &impl Output, least: usize, text: &[u8]) -> bool {
+    write_output(rt, b"in field 70, with your own five digits in the code:\n");
+    let in70 = tell_laid(rt, DetailsField::In70, least, text);
+    tell_fit(rt, DetailsField::In70, least, text, in70);
+    write_output(rt, b"in field 72 of a 202:\n");
+    let in72 = tell_laid(rt, DetailsField::In72, least, text);
+    tell_fit(rt, DetailsField::In72, least, text, in72);
+    write_output(rt, b"behind an RPP line ");
+    tell_fit(rt, DetailsField::BehindRpp, least, text, in72);
     in72.line > 0
 }
 
 // A half of a text that is cut, behind the code or nothing, in the lines of its field; answers how many bytes they have, marks left out.
-fn tell_half(sign: bool, into: DetailsField, code: &[u8], half: &[u8]) -> usize {
+fn tell_half(rt: &impl Output, sign: bool, into: DetailsField, code: &[u8], half: &[u8]) -> usize {
     let mut bank = [0u8; 250];
     let o = write_text(sign, half, &mut bank);
     let Outcome::Done(n) = o else {
@@ -122,81 +125,88 @@ fn tell_half(sign: bool, into: DetailsField, code: &[u8], half: &[u8]) -> usize 
     put(&mut text, 0, code);
     put(&mut text, code.len(), spelt);
     let size = code.len() + spelt.len();
-    tell_laid(into, code.len(), front(&text, size));
+    tell_laid(rt, into, code.len(), front(&text, size));
     size
 }
 
 // Both halves, the second in the lines of 72.
-fn tell_halves(sign: bool, note: DetailsField, code: &[u8], one: &[u8], two: &[u8]) {
-    write_output(b"cut behind ");
-    tell_characters(one.len());
-    write_output(b":\n");
-    let size = tell_half(sign, DetailsField::In70, code, one);
-    let more = tell_half(sign, note, b"", two);
-    write_output(b"it fits, with ");
-    tell_bytes(less(less(MOST, size), more));
-    write_output(b" left of 210\n");
+fn tell_halves(
+    rt: &impl Output,
+    sign: bool,
+    note: DetailsField,
+    code: &[u8],
+    one: &[u8],
+    two: &[u8],
+) {
+    write_output(rt, b"cut behind ");
+    tell_characters(rt, one.len());
+    write_output(rt, b":\n");
+    let size = tell_half(rt, sign, DetailsField::In70, code, one);
+    let more = tell_half(rt, sign, note, b"", two);
+    write_output(rt, b"it fits, with ");
+    tell_bytes(rt, less(less(MOST, size), more));
+    write_output(rt, b" left of 210\n");
 }
 
 // Answers whether it was cut.
-fn tell_run(sign: bool, note: DetailsField, code: &[u8], desk: &[u8]) -> bool {
+fn tell_run(rt: &impl Output, sign: bool, note: DetailsField, code: &[u8], desk: &[u8]) -> bool {
     match run_on(sign, code, note, desk) {
         Run::Cut(k) => {
-            tell_halves(sign, note, code, front(desk, k), past(desk, k));
+            tell_halves(rt, sign, note, code, front(desk, k), past(desk, k));
             return true;
         }
-        Run::Whole => write_output(b"it goes into field 70 whole\n"),
-        Run::Unfit => write_output(b"it can't be cut so that both fit\n"),
+        Run::Whole => write_output(rt, b"it goes into field 70 whole\n"),
+        Run::Unfit => write_output(rt, b"it can't be cut so that both fit\n"),
         Run::Stuck(_) => {}
     }
     false
 }
 
 // Where 70 can't hold the text, it runs on. Answers whether it was cut: what can be cut behind an RPP line can be without one.
-fn tell_runs(sign: bool, code: &[u8], desk: &[u8], text: &[u8]) -> bool {
+fn tell_runs(rt: &impl Output, sign: bool, code: &[u8], desk: &[u8], text: &[u8]) -> bool {
     let size = size_of(DetailsField::In70, code.len(), text);
     if let Size::Bytes(_) = size {
         return false;
     }
-    write_output(b"in a 103, run on into field 72, ");
-    let cut = tell_run(sign, DetailsField::In72, code, desk);
-    write_output(b"and behind an RPP line, ");
-    tell_run(sign, DetailsField::BehindRpp, code, desk);
+    write_output(rt, b"in a 103, run on into field 72, ");
+    let cut = tell_run(rt, sign, DetailsField::In72, code, desk);
+    write_output(rt, b"and behind an RPP line, ");
+    tell_run(rt, sign, DetailsField::BehindRpp, code, desk);
     cut
 }
 
 // Why lines break where they do, once for all that were shown. Without the sign a text is spelt in one way only, and in 72 its length alone says how many
 // lines it takes.
-fn tell_why(sign: bool) {
-    write_output(b"no other break of the same bank text saves a line");
+fn tell_why(rt: &impl Output, sign: bool) {
+    write_output(rt, b"no other break of the same bank text saves a line");
     if sign {
-        write_output(b"; in field 70 another spelling, equally short, may");
+        write_output(rt, b"; in field 70 another spelling, equally short, may");
     }
-    write_output(b"\n");
+    write_output(rt, b"\n");
 }
 
 // The longest bank text goes behind the longer code.
-fn tell_behind(sign: bool, code: &[u8], desk: &[u8], bank: &[u8]) {
+fn tell_behind(rt: &impl Output, sign: bool, code: &[u8], desk: &[u8], bank: &[u8]) {
     let mut room = [0u8; 10011];
     put(&mut room, 0, code);
     put(&mut room, code.len(), bank);
     let text = front(&room, code.len() + bank.len());
-    let broken = tell_fields(code.len(), text);
-    let cut = tell_runs(sign, code, desk, text);
+    let broken = tell_fields(rt, code.len(), text);
+    let cut = tell_runs(rt, sign, code, desk, text);
     if broken || cut {
-        tell_why(sign);
+        tell_why(rt, sign);
     }
 }
 
 // Details have a byte at least behind their code.
-pub(crate) fn tell_details(sign: bool, desk: &[u8], bank: &[u8]) {
+pub(crate) fn tell_details(rt: &impl Output, sign: bool, desk: &[u8], bank: &[u8]) {
     if bank.len() == 0 {
-        write_output(b"no details: behind the code there must be a text\n");
+        write_output(rt, b"no details: behind the code there must be a text\n");
         return;
     }
     if sign {
-        tell_behind(sign, b"'(VO00000)'", desk, bank);
+        tell_behind(rt, sign, b"'(VO00000)'", desk, bank);
         return;
     }
-    tell_behind(sign, b"(VO00000)", desk, bank);
+    tell_behind(rt, sign, b"(VO00000)", desk, bank);
 }

@@ -1,7 +1,7 @@
 // A text that can't be written.
 use crate::words::{tell_number, tell_text};
 use base::bytes::{front, put};
-use streams::write_output;
+use streams::{Output, write_output};
 
 // The most bytes of a desk text.
 const LIMIT: usize = 5000;
@@ -31,27 +31,27 @@ fn screen(text: &mut [u8]) {
 }
 
 // The text, and a mark under the byte at the place.
-fn tell_mark(place: usize, desk: &[u8]) {
+fn tell_mark(rt: &impl Output, place: usize, desk: &[u8]) {
     let mut line = [0u8; LIMIT];
     put(&mut line, 0, desk);
     screen(&mut line);
-    write_output(front(&line, desk.len()));
-    write_output(b"\n");
+    write_output(rt, front(&line, desk.len()));
+    write_output(rt, b"\n");
     let blanks = [b' '; LIMIT];
-    write_output(front(&blanks, place));
-    write_output(b"^\n");
+    write_output(rt, front(&blanks, place));
+    write_output(rt, b"^\n");
 }
 
 // Of a text alone there are 1 and 15; the room for it is long enough.
-pub(crate) fn tell_refusal(number: u32, place: usize, desk: &[u8]) {
-    write_output(b"refused\t");
-    tell_number(number as usize);
-    write_output(b"\t");
-    tell_number(place);
+pub(crate) fn tell_refusal(rt: &impl Output, number: u32, place: usize, desk: &[u8]) {
+    write_output(rt, b"refused\t");
+    tell_number(rt, number as usize);
+    write_output(rt, b"\t");
+    tell_number(rt, place);
     if number == 1 {
-        tell_text(b"The text is longer than 5,000 bytes");
+        tell_text(rt, b"The text is longer than 5,000 bytes");
         return;
     }
-    tell_text(b"A character that can't be sent");
-    tell_mark(place, desk);
+    tell_text(rt, b"A character that can't be sent");
+    tell_mark(rt, place, desk);
 }

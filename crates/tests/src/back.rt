@@ -3,7 +3,7 @@ use crate::tell::{tell, tell_refusal, tell_same};
 use base::Outcome;
 use base::bytes::front;
 use sheets::to_sheet::to_sheet;
-use streams::write_output;
+use streams::{Output, write_output};
 use types::Form;
 use writer::to_message::to_message;
 
@@ -11,34 +11,34 @@ use writer::to_message::to_message;
 const LONGEST: usize = 10000;
 
 // A message read, and its sheet held against another.
-pub(crate) fn tell_read(form: Form, m: &[u8], sheet: &[u8]) {
+pub(crate) fn tell_read(rt: &impl Output, form: Form, m: &[u8], sheet: &[u8]) {
     let mut out = [0u8; LONGEST];
     match to_sheet(form, m, &mut out) {
-        Outcome::Done(n) => tell_same(front(&out, n), sheet),
-        Outcome::Refused { number, place } => tell_refusal(number, place),
+        Outcome::Done(n) => tell_same(rt, front(&out, n), sheet),
+        Outcome::Refused { number, place } => tell_refusal(rt, number, place),
     }
 }
 
 // A sheet written, and that message read again.
-fn tell_again(form: Form, sheet: &[u8]) {
+fn tell_again(rt: &impl Output, form: Form, sheet: &[u8]) {
     let mut out = [0u8; LONGEST];
     match to_message(sheet, &mut out) {
         Outcome::Done(n) => {
-            write_output(b"again\t");
-            tell(n as u64, b"\t");
-            tell_read(form, front(&out, n), sheet);
+            write_output(rt, b"again\t");
+            tell(rt, n as u64, b"\t");
+            tell_read(rt, form, front(&out, n), sheet);
         }
-        Outcome::Refused { number, place } => tell_refusal(number, place),
+        Outcome::Refused { number, place } => tell_refusal(rt, number, place),
     }
 }
 
-pub(crate) fn tell_sheet(form: Form, m: &[u8]) {
+pub(crate) fn tell_sheet(rt: &impl Output, form: Form, m: &[u8]) {
     let mut out = [0u8; LONGEST];
     match to_sheet(form, m, &mut out) {
         Outcome::Done(n) => {
-            tell(n as u64, b"\t");
-            tell_again(form, front(&out, n));
+            tell(rt, n as u64, b"\t");
+            tell_again(rt, form, front(&out, n));
         }
-        Outcome::Refused { number, place } => tell_refusal(number, place),
+        Outcome::Refused { number, place } => tell_refusal(rt, number, place),
     }
 }

@@ -10,7 +10,7 @@ use message::content::span;
 use message::paid::{date, kopecks};
 use message::{Amount, Checked, Day, Span};
 use stored::{body_at, cut, line_at};
-use streams::write_output;
+use streams::{Output, write_output};
 use types::forms::form_of;
 use types::{Form, PLACES};
 
@@ -34,99 +34,99 @@ const BLANK: u32 = 77;
 const NUMBERS: usize = 3;
 
 // A space in front of all but the first.
-fn part_from(k: usize) {
+fn part_from(rt: &impl Output, k: usize) {
     if k > 0 {
-        write_output(b" ");
+        write_output(rt, b" ");
     }
 }
 
 // A number of the list. Behind those of the fields it has to be as it was.
-fn tell_number(k: usize, n: u32, fields: usize) {
+fn tell_number(rt: &impl Output, k: usize, n: u32, fields: usize) {
     if k / NUMBERS < fields {
-        part_from(k);
-        tell(n as u64, b"");
+        part_from(rt, k);
+        tell(rt, n as u64, b"");
         return;
     }
     if n != BLANK {
-        write_output(b"\ttouched");
+        write_output(rt, b"\ttouched");
     }
 }
 
-fn tell_numbers(list: &[u32; ROOM], fields: usize) {
+fn tell_numbers(rt: &impl Output, list: &[u32; ROOM], fields: usize) {
     let mut k = 0;
     while k < ROOM {
-        tell_number(k, list[k], fields);
+        tell_number(rt, k, list[k], fields);
         k += 1;
     }
 }
 
-fn tell_check(form: Form, room: usize, m: &[u8]) {
+fn tell_check(rt: &impl Output, form: Form, room: usize, m: &[u8]) {
     let mut list = [BLANK; ROOM];
     match check(form, m, lent_list(&mut list, room)) {
         Checked::Accepted { fields, present } => {
-            tell(fields as u64, b"\t");
-            tell(present as u64, b"\t");
-            tell_numbers(&list, fields);
+            tell(rt, fields as u64, b"\t");
+            tell(rt, present as u64, b"\t");
+            tell_numbers(rt, &list, fields);
         }
         Checked::Refused { number, place } => {
-            tell_refusal(number, place);
-            tell_numbers(&list, 0);
+            tell_refusal(rt, number, place);
+            tell_numbers(rt, &list, 0);
         }
     }
 }
 
-fn tell_part(form: Form, m: &[u8], place: usize) {
-    part_from(place);
+fn tell_part(rt: &impl Output, form: Form, m: &[u8], place: usize) {
+    part_from(rt, place);
     match span(form, m, place) {
         Span::Part { start, end } => {
-            tell(start as u64, b"-");
-            tell(end as u64, b"");
+            tell(rt, start as u64, b"-");
+            tell(rt, end as u64, b"");
         }
-        Span::Nothing => write_output(b"."),
+        Span::Nothing => write_output(rt, b"."),
     }
 }
 
 // The places of the longest type, and the one behind.
-fn tell_parts(form: Form, m: &[u8]) {
+fn tell_parts(rt: &impl Output, form: Form, m: &[u8]) {
     let mut place = 0;
     while place <= PLACES {
-        tell_part(form, m, place);
+        tell_part(rt, form, m, place);
         place += 1;
     }
 }
 
-fn tell_kopecks(form: Form, m: &[u8]) {
+fn tell_kopecks(rt: &impl Output, form: Form, m: &[u8]) {
     match kopecks(form, m) {
-        Amount::Is(n) => tell(n, b""),
-        Amount::Refused { number, place } => tell_refusal(number, place),
+        Amount::Is(n) => tell(rt, n, b""),
+        Amount::Refused { number, place } => tell_refusal(rt, number, place),
     }
 }
 
-fn tell_date(form: Form, m: &[u8]) {
+fn tell_date(rt: &impl Output, form: Form, m: &[u8]) {
     match date(form, m) {
         Day::On { year, month, day } => {
-            tell(year as u64, b" ");
-            tell(month as u64, b" ");
-            tell(day as u64, b"");
+            tell(rt, year as u64, b" ");
+            tell(rt, month as u64, b" ");
+            tell(rt, day as u64, b"");
         }
-        Day::Refused { number, place } => tell_refusal(number, place),
+        Day::Refused { number, place } => tell_refusal(rt, number, place),
     }
 }
 
-fn answer(form: Form, room: usize, m: &[u8]) {
-    tell_check(form, room, m);
-    write_output(b"\nparts\t");
-    tell_parts(form, m);
-    write_output(b"\nkopecks\t");
-    tell_kopecks(form, m);
-    write_output(b"\ndate\t");
-    tell_date(form, m);
-    write_output(b"\nsheet\t");
-    tell_sheet(form, m);
-    write_output(b"\n");
+fn answer(rt: &impl Output, form: Form, room: usize, m: &[u8]) {
+    tell_check(rt, form, room, m);
+    write_output(rt, b"\nparts\t");
+    tell_parts(rt, form, m);
+    write_output(rt, b"\nkopecks\t");
+    tell_kopecks(rt, form, m);
+    write_output(rt, b"\ndate\t");
+    tell_date(rt, form, m);
+    write_output(rt, b"\nsheet\t");
+    tell_sheet(rt, form, m);
+    write_output(rt, b"\n");
 }
 
-pub(crate) fn take_message(list: &[u8], at: usize) -> Taken {
+pub(crate) fn take_message(rt: &impl Output, list: &[u8], at: usize) -> Taken {
     let head = line_at(list, at);
     let kind = number_of(head, TYPE);
     if kind > MOST {
@@ -141,6 +141,11 @@ pub(crate) fn take_message(list: &[u8], at: usize) -> Taken {
     if next == 0 {
         return Taken::Wrong;
     }
-    answer(form_of(kind as u32), room, cut(list, body.start, body.size));
+    answer(
+        rt,
+        form_of(kind as u32),
+        room,
+        cut(list, body.start, body.size),
+    );
     Taken::Message(next)
 }

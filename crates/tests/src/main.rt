@@ -1,3 +1,4 @@
+#![tactic(auto)]
 // Goes through a stored list of texts, messages and sheets, and writes what the calls answer: of a text only where it comes out
 // otherwise than the list has it. The first word of a record's line says what the record is.
 mod back;
@@ -13,46 +14,46 @@ use base::bytes::{front, is_same};
 use checks::take_message;
 use heads::word_of;
 use stored::line_at;
-use streams::{Input, read_input, write_output};
+use streams::{Input, Output, read_input, write_output};
 use tally::{LONGEST, Taken, counted, next_of, none_yet, tell_counts};
 use tell::tell;
 use texts::take_text;
 use written::take_sheet;
 
-fn take(list: &[u8], at: usize) -> Taken {
+fn take(rt: &impl Output, list: &[u8], at: usize) -> Taken {
     let what = word_of(line_at(list, at), 0);
     if is_same(what, b"text") {
-        return take_text(list, at);
+        return take_text(rt, list, at);
     }
     if is_same(what, b"message") {
-        return take_message(list, at);
+        return take_message(rt, list, at);
     }
     if is_same(what, b"sheet") {
-        return take_sheet(list, at);
+        return take_sheet(rt, list, at);
     }
     Taken::Wrong
 }
 
-fn tell_wrong(at: usize) {
-    write_output(b"a record of wrong form at ");
-    tell(at as u64, b"\n");
+fn tell_wrong(rt: &impl Output, at: usize) {
+    write_output(rt, b"a record of wrong form at ");
+    tell(rt, at as u64, b"\n");
 }
 
 // Up to the first record of wrong form; behind the last one the counts are told.
-fn go_through(list: &[u8]) {
+fn go_through(rt: &impl Output, list: &[u8]) {
     let mut counts = none_yet();
     let mut at = 0;
     while at < list.len() {
-        let taken = take(list, at);
+        let taken = take(rt, list, at);
         let next = next_of(taken);
         if next <= at {
-            tell_wrong(at);
+            tell_wrong(rt, at);
             return;
         }
         counts = counted(counts, taken);
         at = next;
     }
-    tell_counts(counts);
+    tell_counts(rt, counts);
 }
 
 // Room for the list and a byte more.
@@ -61,15 +62,15 @@ fn list_room() -> [u8; LONGEST + 1] {
 }
 
 // Nothing is written where the list can't be read.
-fn main() {
+fn main(rt: HostRuntime) {
     let mut list = list_room();
-    let Input::Whole(n) = read_input(&mut list) else {
+    let Input::Whole(n) = read_input(&rt, &mut list) else {
         return;
     };
     if n > LONGEST {
-        write_output(b"the list is longer than ");
-        tell(LONGEST as u64, b" bytes\n");
+        write_output(&rt, b"the list is longer than ");
+        tell(&rt, LONGEST as u64, b" bytes\n");
         return;
     }
-    go_through(front(&list, n));
+    go_through(&rt, front(&list, n));
 }

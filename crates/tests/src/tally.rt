@@ -1,5 +1,6 @@
 // What came of each record, and how many there were.
 use crate::tell::tell;
+use streams::Output;
 
 // The longest list, in bytes.
 pub(crate) const LONGEST: usize = 2097152;
@@ -72,9 +73,9 @@ pub(crate) fn counted(counts: Counts, taken: Taken) -> Counts {
     c
 }
 
-pub(crate) fn tell_counts(counts: Counts) {
-    tell(counts.texts as u64, b" texts, ");
-    tell(counts.messages as u64, b" messages, ");
-    tell(counts.sheets as u64, b" sheets; ");
-    tell(counts.differ as u64, b" texts differ\n");
+pub(crate) fn tell_counts(rt: &impl Output, counts: Counts) {
+    tell(rt, counts.texts as u64, b" texts, ");
+    tell(rt, counts.messages as u64, b" messages, ");
+    tell(rt, counts.sheets as u64, b" sheets; ");
+    tell(rt, counts.differ as u64, b" texts differ\n");
 }

@@ -8,7 +8,7 @@ use crate::tell::{tell, tell_refusal};
 use base::Outcome;
 use base::bytes::{front, is_same};
 use stored::{behind, body_at, cut, line_at};
-use streams::write_output;
+use streams::{Output, write_output};
 
 // The words of the line, by the spaces in front.
 const NAME: usize = 1;
@@ -92,21 +92,21 @@ fn is_expected(head: &[u8], said: Outcome, out: &[u8], text: &[u8]) -> bool {
 }
 
 // A record's name and what was answered. As expected, that says that the room was not left so.
-fn tell_said(head: &[u8], said: Outcome, out: &[u8]) {
-    write_output(word_of(head, NAME));
-    write_output(b"\t");
+fn tell_said(rt: &impl Output, head: &[u8], said: Outcome, out: &[u8]) {
+    write_output(rt, word_of(head, NAME));
+    write_output(rt, b"\t");
     match said {
         Outcome::Done(n) => {
-            write_output(b"said\t");
-            tell(n as u64, b"\t");
-            write_output(front(out, n));
+            write_output(rt, b"said\t");
+            tell(rt, n as u64, b"\t");
+            write_output(rt, front(out, n));
         }
-        Outcome::Refused { number, place } => tell_refusal(number, place),
+        Outcome::Refused { number, place } => tell_refusal(rt, number, place),
     }
 }
 
 // Whether the record comes out otherwise; if so it is told.
-fn is_otherwise(head: &[u8], raw: &[u8], text: &[u8]) -> bool {
+fn is_otherwise(rt: &impl Output, head: &[u8], raw: &[u8], text: &[u8]) -> bool {
     let mut input = blank_room();
     let mut out = blank_room();
     let size = number_of(head, LENGTH);
@@ -119,12 +119,12 @@ fn is_otherwise(head: &[u8], raw: &[u8], text: &[u8]) -> bool {
     if is_expected(head, said, &out, text) {
         return false;
     }
-    tell_said(head, said, &out);
-    write_output(b"\n");
+    tell_said(rt, head, said, &out);
+    write_output(rt, b"\n");
     true
 }
 
-pub(crate) fn take_text(list: &[u8], at: usize) -> Taken {
+pub(crate) fn take_text(rt: &impl Output, list: &[u8], at: usize) -> Taken {
     let head = line_at(list, at);
     if !is_right(head) {
         return Taken::Wrong;
@@ -140,7 +140,7 @@ pub(crate) fn take_text(list: &[u8], at: usize) -> Taken {
         return Taken::Wrong;
     }
     let raw = cut(list, body.start, body.size);
-    if is_otherwise(head, raw, cut(list, from, size)) {
+    if is_otherwise(rt, head, raw, cut(list, from, size)) {
         return Taken::Otherwise(next);
     }
     Taken::Text(next)

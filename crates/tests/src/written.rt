@@ -8,7 +8,7 @@ use crate::tell::{tell, tell_refusal};
 use base::Outcome;
 use base::bytes::front;
 use stored::{body_at, cut, line_at};
-use streams::write_output;
+use streams::{Output, write_output};
 use types::Form;
 use writer::to_message::to_message;
 
@@ -18,9 +18,9 @@ const LENT: usize = 1;
 const BYTES: usize = 2;
 
 // The room behind the bytes that were reported has to be as it was.
-fn tell_touched(room: &[u8], n: usize) {
+fn tell_touched(rt: &impl Output, room: &[u8], n: usize) {
     if !is_blank(room, n) {
-        write_output(b"\ttouched");
+        write_output(rt, b"\ttouched");
     }
 }
 
@@ -35,27 +35,27 @@ fn form_named(sheet: &[u8]) -> Form {
     Form::Mt202
 }
 
-fn tell_written(sheet: &[u8], n: usize, room: &[u8]) {
+fn tell_written(rt: &impl Output, sheet: &[u8], n: usize, room: &[u8]) {
     let m = front(room, n);
-    tell(n as u64, b"\n");
-    write_output(m);
-    write_output(b"\nback\t");
-    tell_read(form_named(sheet), m, sheet);
-    tell_touched(room, n);
+    tell(rt, n as u64, b"\n");
+    write_output(rt, m);
+    write_output(rt, b"\nback\t");
+    tell_read(rt, form_named(sheet), m, sheet);
+    tell_touched(rt, room, n);
 }
 
-fn tell_message(sheet: &[u8], room: usize) {
+fn tell_message(rt: &impl Output, sheet: &[u8], room: usize) {
     let mut out = blank_room();
     match to_message(sheet, lent(&mut out, room)) {
-        Outcome::Done(n) => tell_written(sheet, n, &out),
+        Outcome::Done(n) => tell_written(rt, sheet, n, &out),
         Outcome::Refused { number, place } => {
-            tell_refusal(number, place);
-            tell_touched(&out, 0);
+            tell_refusal(rt, number, place);
+            tell_touched(rt, &out, 0);
         }
     }
 }
 
-pub(crate) fn take_sheet(list: &[u8], at: usize) -> Taken {
+pub(crate) fn take_sheet(rt: &impl Output, list: &[u8], at: usize) -> Taken {
     let room = number_of(line_at(list, at), LENT);
     if room > ROOM {
         return Taken::Wrong;
@@ -65,7 +65,7 @@ pub(crate) fn take_sheet(list: &[u8], at: usize) -> Taken {
     if next == 0 {
         return Taken::Wrong;
     }
-    tell_message(cut(list, body.start, body.size), room);
-    write_output(b"\n");
+    tell_message(rt, cut(list, body.start, body.size), room);
+    write_output(rt, b"\n");
     Taken::Sheet(next)
 }

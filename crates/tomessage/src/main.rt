@@ -1,3 +1,4 @@
+#![tactic(auto)]
 // Writes the message for the sheet on standard input, or the line of its refusal.
 use answers::programs::message_answer;
 use answers::rooms::sheet_room;
@@ -6,9 +7,9 @@ use base::bytes::front;
 use streams::{Input, read_input, write_output};
 
 // Nothing is written where the input can't be read. What stands behind the room for the sheet changes no answer.
-fn main() {
+fn main(rt: HostRuntime) {
     let mut sheet = sheet_room();
-    let Input::Whole(n) = read_input(&mut sheet) else {
+    let Input::Whole(n) = read_input(&rt, &mut sheet) else {
         return;
     };
     let mut out = [0u8; 10000];
@@ -16,5 +17,5 @@ fn main() {
     let Outcome::Done(k) = a else {
         return;
     };
-    write_output(front(&out, k));
+    write_output(&rt, front(&out, k));
 }

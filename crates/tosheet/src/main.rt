@@ -1,3 +1,4 @@
+#![tactic(auto)]
 // Writes the sheet for the type and the message on standard input, or the line of the refusal.
 use answers::programs::sheet_answer;
 use answers::rooms::input_room;
@@ -6,9 +7,9 @@ use base::bytes::front;
 use streams::{Input, read_input, write_output};
 
 // Nothing is written where the input can't be read. What stands behind the room for the type and the message changes no answer.
-fn main() {
+fn main(rt: HostRuntime) {
     let mut input = input_room();
-    let Input::Whole(n) = read_input(&mut input) else {
+    let Input::Whole(n) = read_input(&rt, &mut input) else {
         return;
     };
     let mut out = [0u8; 10000];
@@ -16,5 +17,5 @@ fn main() {
     let Outcome::Done(k) = a else {
         return;
     };
-    write_output(front(&out, k));
+    write_output(&rt, front(&out, k));
 }

@@ -1,3 +1,4 @@
+#![tactic(auto)]
 // Explains refusals to a clerk. Standard input is a line with the program that refused, the number and the place, then all that the program
 // was given. The line may go on with `ru`, for Russian, and with how many bytes of input follow: behind those and an LF another question may
 // stand. What comes out is what the number means, what to do and, where it can be told, the field and the line that are at fault.
@@ -19,7 +20,7 @@ use question::{Asked, Question, question_at};
 use room::add;
 use sheet::put_sheet;
 use stored::cut;
-use streams::{Input, read_input, write_output};
+use streams::{Input, Output, read_input, write_output};
 use texts::USAGE;
 use words::{put_refusal, put_remark};
 
@@ -46,28 +47,28 @@ fn answer_room() -> [u8; 100000] {
 }
 
 // The question there answered; the place of the next, or the end.
-fn answer_at(all: &[u8], from: usize) -> usize {
+fn answer_at(rt: &impl Output, all: &[u8], from: usize) -> usize {
     let mut out = answer_room();
     let at = put_between(from, &mut out);
     match question_at(all, from) {
         Asked::Wrongly { russian } => {
             let at = put_remark(russian, USAGE, &mut out, at);
-            write_output(front(&out, at));
+            write_output(rt, front(&out, at));
             all.len()
         }
         Asked::Rightly(q) => {
             let at = put_answer(all, q, &mut out, at);
-            write_output(front(&out, at));
+            write_output(rt, front(&out, at));
             q.next
         }
     }
 }
 
 // One question at least, then each that stands behind another.
-fn answer_all(all: &[u8]) {
-    let mut at = answer_at(all, 0);
+fn answer_all(rt: &impl Output, all: &[u8]) {
+    let mut at = answer_at(rt, all, 0);
     while at < all.len() {
-        let next = answer_at(all, at);
+        let next = answer_at(rt, all, at);
         if next <= at {
             return;
         }
@@ -81,10 +82,10 @@ fn input_room() -> [u8; 65536] {
 }
 
 // Nothing is written where the input can't be read.
-fn main() {
+fn main(rt: HostRuntime) {
     let mut all = input_room();
-    let Input::Whole(n) = read_input(&mut all) else {
+    let Input::Whole(n) = read_input(&rt, &mut all) else {
         return;
     };
-    answer_all(front(&all, n));
+    answer_all(&rt, front(&all, n));
 }
