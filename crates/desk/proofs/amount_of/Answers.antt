@@ -2,7 +2,6 @@
 use mathlib.Core.Path.{subst, sym, ap, ◌∙◌}
 use Rattle.desk.specs.Answer.{amount_word}
 use Rattle.desk.specs.Sizes.{SmallAmount}
-use borrow.Author.Rules.{rules}
 use Rattle.desk.proofs.amount_of.Goals as goal
 
 pub refused-requires : goal.refused-requires

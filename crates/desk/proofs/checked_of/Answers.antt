@@ -3,7 +3,6 @@ use mathlib.Core.Path.{subst, sym, ap, ◌∙◌}
 use native.Mathlib.Omega.{arith}
 use Rattle.desk.specs.Answer.{checked_word}
 use Rattle.desk.specs.Sizes.{SmallCheck}
-use borrow.Author.Rules.{rules}
 use Rattle.desk.proofs.checked_of.Goals as goal
 
 pub overflow_add-result : goal.overflow_add-result

@@ -2,7 +2,6 @@
 use mathlib.Core.Path.{subst, sym, ap, ◌∙◌}
 use Rattle.desk.specs.Answer.{day_word}
 use Rattle.desk.specs.Sizes.{SmallDay}
-use borrow.Author.Rules.{rules}
 use Rattle.desk.proofs.day_of.Goals as goal
 
 pub refused-requires : goal.refused-requires

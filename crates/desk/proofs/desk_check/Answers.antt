@@ -1,5 +1,4 @@
 -- `desk::desk_check` meets its contract. Assumes nothing.
-use borrow.Author.Rules.{rules}
 use Rattle.desk.proofs.Sizes.{check_small, checks_as}
 use Rattle.desk.proofs.desk_check.Goals as goal
 

@@ -5,7 +5,6 @@ use Rattle.message.specs.Calls.{span_of}
 use Rattle.desk.specs.Answer.{span_word}
 use Rattle.desk.specs.Sizes.{SmallSpan}
 use Rattle.desk.proofs.Sizes.{span_small}
-use borrow.Author.Rules.{rules}
 use Rattle.desk.proofs.desk_content.Goals as goal
 
 pub span_of-requires : goal.span_of-requires

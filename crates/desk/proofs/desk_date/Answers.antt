@@ -5,7 +5,6 @@ use Rattle.message.specs.Calls.{day_of}
 use Rattle.desk.specs.Answer.{day_word}
 use Rattle.desk.specs.Sizes.{SmallDay}
 use Rattle.desk.proofs.Sizes.{day_small}
-use borrow.Author.Rules.{rules}
 use Rattle.desk.proofs.desk_date.Goals as goal
 
 pub day_of-requires : goal.day_of-requires

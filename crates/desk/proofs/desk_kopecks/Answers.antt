@@ -5,7 +5,6 @@ use Rattle.message.specs.Calls.{amount_of}
 use Rattle.desk.specs.Answer.{amount_word}
 use Rattle.desk.specs.Sizes.{SmallAmount}
 use Rattle.desk.proofs.Sizes.{amount_small}
-use borrow.Author.Rules.{rules}
 use Rattle.desk.proofs.desk_kopecks.Goals as goal
 
 pub amount_of-requires : goal.amount_of-requires

@@ -1,6 +1,5 @@
 -- `desk::desk_to_message` meets its contract. Assumes nothing.
 use Rattle.desk.proofs.Sizes.{message_small}
-use borrow.Author.Rules.{rules}
 use Rattle.desk.proofs.desk_to_message.Goals as goal
 
 pub word_of-requires : goal.word_of-requires

@@ -1,5 +1,4 @@
 -- `desk::desk_to_sheet` meets its contract. Assumes nothing.
-use borrow.Author.Rules.{rules}
 use Rattle.desk.proofs.Sizes.{sheet_small, sheet_as}
 use Rattle.desk.proofs.desk_to_sheet.Goals as goal
 

@@ -5,7 +5,6 @@ use Rattle.alphabets.proofs.SizeLaws.{write_small}
 use Rattle.alphabets.specs.Text.{WrittenTo}
 use Rattle.desk.specs.Answer.{is_on}
 use Rattle.desk.proofs.Sizes.{text_small}
-use borrow.Author.Rules.{rules}
 use Rattle.desk.proofs.desk_write_text.Goals as goal
 
 pub word_of-requires : goal.word_of-requires

@@ -3,7 +3,6 @@ use mathlib.Core.Path.{subst, sym, ap}
 use native.Mathlib.Omega.{arith}
 use Rattle.desk.specs.Answer.{span_word}
 use Rattle.desk.specs.Sizes.{SmallSpan}
-use borrow.Author.Rules.{rules}
 use Rattle.desk.proofs.span_of.Goals as goal
 
 pub overflow_mul-result : goal.overflow_mul-result

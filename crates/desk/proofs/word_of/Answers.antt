@@ -2,7 +2,6 @@
 use mathlib.Core.Path.{subst, sym, ap, ◌∙◌}
 use Rattle.desk.specs.Answer.{word}
 use Rattle.desk.specs.Sizes.{SmallOutcome}
-use borrow.Author.Rules.{rules}
 use Rattle.desk.proofs.word_of.Goals as goal
 
 pub refused-requires : goal.refused-requires
