@@ -196,7 +196,7 @@ module _ (s out : List ℕ) (r : Outcome) (after : List ℕ) (g : MessageTo s ou
   broken_at : (n p : ℕ) → FirstOf (write_rules s out) n p → r ≡ Refused n p
   broken_at n p f = given n p (broken_first (write_rules s out) n p f)
 
-  -- 1 at the limit exactly if the sheet is over it; a message over its own limit is 1 at 0 (exact-own)
+  -- 1 at the limit exactly if the sheet is over it; a message over its own limit is 1 at 0 (exact_own)
   pub exact_1 : (r ≡ Refused 1 limit) ↔ (limit < length s)
   exact_1 = ((λ e. go (because 1 limit e)), (λ h. given 1 limit (rw (is_long limit s h))))
     where
