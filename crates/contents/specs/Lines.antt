@@ -64,7 +64,7 @@ pub record Account (number : Text) (l : Line) : Type 0 where
   pub first : Not (BeginsWith "/" number)
   pub line : l ≡ join (bytes "/" ∷ number ∷ [])
 
--- Ctax: INN, 10 or 12 digits (in 58D 10 only), perhaps.KPP and nine digits
+-- Ctax: INN, 10 or 12 digits (in 58D 10 only), perhaps .KPP and nine digits
 abbrev pub Inn : Bool → Text → Type 0
 Inn true inn = Digits 10 inn or Digits 12 inn
 Inn false inn = Digits 10 inn

@@ -11,7 +11,7 @@ use message::content::content;
 use message::verdict::judge;
 use types::forms::form_of;
 
-#[derive(Drop)]
+#[derive(Clone, Copy)]
 pub struct Reader<'a> {
     pub kind: u32,
     pub message: &'a [u8],
@@ -85,4 +85,22 @@ pub fn first(kind: u32, message: &[u8]) -> &[u8]
     ensures { result.now ≡ content_of (form_of kind) message.now 0 }
 {
     current(open(kind, message))
+}
+
+#[cfg(test)]
+mod tests {
+    use super::*;
+    use base::bytes::is_same;
+
+    // A reader is copied: one that was asked for its content is moved on, and can be asked again. No contract says so.
+    #[test]
+    fn hands_over_one_after_another(rt: HostRuntime) {
+        let message =
+            b"{4:\r\n:20:+A17\r\n:23B:CRED\r\n:32A:240229RUB1500,5\r\n:50K:/40702\r\n'NORD'\r\n:53B:/D/30111810500000100000\r\n:59:/40702810700000099079\r\nINN7707083893\r\nOOO PoTR\r\n:70:'(VO10100)'OPLATA 'CNTR' 5\r\n:71A:OUR\r\n-}";
+        let r = open(103, message);
+        assert!(rt; is_same(current(r), b"+A17"));
+        let next = moved(r);
+        assert!(rt; is_same(current(next), b"CRED"));
+        assert!(rt; is_same(current(r), b"+A17"));
+    }
 }
