@@ -1,6 +1,6 @@
 // A text inside larger room: how long a text is, one without the sign put from a place on, and a piece of a bank text read into it.
 ghost use Rattle.std.specs.Prelude.{◌≡◌, leb, length, ◌+◌, ◌≤◌};
-ghost use Rattle.std.proofs.lemmas.List.Edits.{sets};
+ghost use lib.Seq.{sets};
 ghost use Rattle.base.specs.Calls.{placed, text_of};
 ghost use Rattle.alphabets.specs.Bank.{plainly};
 ghost use Rattle.alphabets.specs.Pieces.{piece_in};

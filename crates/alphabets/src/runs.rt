@@ -1,6 +1,6 @@
 // Runs of bytes by their values in a lent table: how far one goes, and what it stands for put into lent room.
 ghost use Rattle.std.specs.Prelude.{◌≡◌, false, ◌+◌, ◌≤◌, length, drop, get_or};
-ghost use Rattle.std.proofs.lemmas.List.Edits.{sets};
+ghost use lib.Seq.{sets};
 ghost use Rattle.alphabets.specs.Runs.{floor_of, heard_of, run, through};
 
 pub(crate) fn value(t: &[u8; 256], b: u8) -> u8

@@ -1,6 +1,6 @@
 // A desk text written: measured first, then put into the room. A turn takes a Russian run and the Latin group behind it.
 ghost use Rattle.std.specs.Prelude.{◌≡◌, [], ◌∷◌, ◌++◌, ◌+◌, ◌-◌, ◌≤◌, ◌<◌, length, drop, false};
-ghost use Rattle.std.proofs.lemmas.List.Edits.{sets};
+ghost use lib.Seq.{sets};
 ghost use Rattle.base.specs.Calls.{placed};
 ghost use Rattle.alphabets.specs.Best.{best, nowhere, bad, writes};
 ghost use Rattle.alphabets.specs.Parts.{extent_of};

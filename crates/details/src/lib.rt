@@ -2,7 +2,7 @@
 #![tactic(auto)]
 
 ghost use Rattle.std.specs.Prelude.{◌≡◌, ◌+◌, ◌-◌, ◌≤◌, ◌<◌, ◌++◌, length};
-ghost use Rattle.std.proofs.lemmas.List.Edits.{sets};
+ghost use lib.Seq.{sets};
 ghost use Rattle.base.specs.Calls.{placed};
 ghost use Rattle.details.specs.Breaking.{opens};
 ghost use Rattle.details.specs.Layouts.{size_for, room_from, Lays};

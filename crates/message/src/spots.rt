@@ -1,6 +1,6 @@
 // From the spots that the pass found: the list of the fields, and the part of a place.
 ghost use Rattle.std.specs.Prelude.{◌≡◌, [], ◌∷◌, ◌+◌, ◌*◌, ◌≤◌, length};
-ghost use Rattle.std.proofs.lemmas.List.Edits.{sets};
+ghost use lib.Seq.{sets};
 ghost use Rattle.base.specs.Calls.{over};
 ghost use Rattle.fields.specs.Field.{fields};
 ghost use Rattle.fields.specs.Places.{listed};
