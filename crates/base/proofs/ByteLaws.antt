@@ -1,14 +1,18 @@
--- Bytes of a range, texts that are the same, parts of a text, the table of classes, and the loop to the first byte outside the x set. Assumes nothing.
+-- Bytes of a range, texts that are the same, parts of a text, the table of classes, and the front that is of class 0. Assumes nothing.
 use Prim.Native.Nat.{ℕ, zero, suc, ◌+◌, ◌-◌, ◌<◌, ◌≤◌}
 use mathlib.Core.Path.{◌≡◌, refl, sym, ap, ap₂, ◌∙◌}
-use mathlib.Core.Bool.{Bool, true, false, ◌&&◌, ◌||◌, false≢true}
+use mathlib.Core.Bool.{Bool, true, false, not, cond, ◌&&◌, ◌||◌, false≢true}
 use mathlib.Core.List.{List, [], ◌∷◌}
 use native.Mathlib.Omega.{arith}
 use native.Mathlib.Numerals.{add-one}
 use lib.Dec.{T, eqb, leb, leb→le}
-use lib.ListN.{length, get_or, take, drop, drop_of_length-le, length-drop}
+use lib.ListN.{length, get_or, take, drop, length-drop}
 use lib.Seq.{drop-cons, take_all, take-nil}
+use lib.Pointwise.{pointwise}
 use borrow.Author.Tests.{eq-eqb, ne_eqb, eqb-true, lt-leb, le-leb, leb-true}
+use Rattle.std.specs.List.{position_or_len}
+use Rattle.std.proofs.lemmas.List.Recursion.{is_position_or_len}
+use Rattle.base.specs.Choice.{pick}
 use Rattle.base.specs.Bytes.{byte, begins, is_in, digit, capital, letter, marks, shared, xset, outside, classes, lead, same, empty}
 use Rattle.base.proofs.Bools.{left, right, both}
 use Rattle.base.proofs.Table.{every, and_left, and_right, values_at}
@@ -66,19 +70,13 @@ unfolding same
 same_refl [] = refl
 same_refl (x ∷ s) = both (eq-eqb x x refl) (same_refl s)
 
--- the loop over both: a byte that is the same, one that is not, the end, and texts that differ in length
-module _ (a b : List ℕ) (i : ℕ) (h : i < length a) (l : i < length b) where
-  pub same_on : get_or a i 0 ≡ get_or b i 0 → same (drop i a) (drop i b) ≡ same (drop (i + 1) a) (drop (i + 1) b)
-  unfolding same
-  same_on e = rw (add-one, drop-cons a i 0, drop-cons b i 0, eq-eqb (get_or a i 0) (get_or b i 0) e)
-
-  pub same_stop : (get_or a i 0 ≡ get_or b i 0 → ⊥) → same (drop i a) (drop i b) ≡ false
-  unfolding same
-  same_stop e = rw (drop-cons a i 0, drop-cons b i 0, ne_eqb (get_or a i 0) (get_or b i 0) e)
-
-pub same_end : (a b : List ℕ) (i : ℕ) → length a ≤ i → length b ≤ i → same (drop i a) (drop i b) ≡ true
+-- `==` of two texts
+pub same_pointwise : (s t : List ℕ) → same s t ≡ pointwise eqb s t
 unfolding same
-same_end a b i h l = rw (drop_of_length-le a h, drop_of_length-le b l)
+same_pointwise [] [] = refl
+same_pointwise [] (y ∷ t) = refl
+same_pointwise (x ∷ s) [] = refl
+same_pointwise (x ∷ s) (y ∷ t) = ap (λ (r : Bool). eqb x y && r) (same_pointwise s t)
 
 pub same_not : (a b : List ℕ) → (length a ≡ length b → ⊥) → same a b ≡ false
 unfolding same
@@ -91,10 +89,7 @@ same_not (x ∷ a) (y ∷ b) h = go (eqb x y) (same_not a b (λ e. h (ap suc e))
     go true e = e
     go false e = refl
 
--- ---- a part past the end, and one up to the end
-pub past_end : (s : List ℕ) (n : ℕ) → length s < n → take 0 s ≡ drop n s
-past_end s n h = sym (drop_of_length-le s {i = n} (omega arith))
-
+-- ---- a part up to the end
 pub past_in : (s : List ℕ) (n : ℕ) → take (length s - n) (drop n s) ≡ drop n s
 past_in s n = take_all (length s - n) (drop n s) (omega (arith, length-drop n s))
 
@@ -105,7 +100,19 @@ drop_take (suc j) zero l = let z : 0 ≡ 0 - suc j = omega arith in ap (λ (k : 
 drop_take (suc j) (suc n) [] = sym (take-nil (suc n - suc j))
 drop_take (suc j) (suc n) (x ∷ l) = let z : n - j ≡ suc n - suc j = omega arith in drop_take j n l ∙ ap (λ (k : ℕ). take k (drop j l)) z
 
--- ---- a loop that passes over the front
+-- ---- the front of class 0 ends at the first byte of another class
+abbrev pub classed : List ℕ → ℕ → Bool
+classed t x = not (eqb (get_or t x 0) 0)
+
+pub lead_place : (t s : List ℕ) → lead t s ≡ position_or_len (classed t) s
+unfolding lead
+lead_place t = is_position_or_len (lead t) (classed t) refl (λ x xs. go (eqb (get_or t x 0) 0) (lead t xs))
+  where
+    go : (b : Bool) (n : ℕ) → pick b (suc n) 0 ≡ cond (not b) 0 (1 + n)
+    go true n = omega arith
+    go false n = refl
+
+-- what passes over it goes on over a byte of class 0, and stops at the first of another
 module _ (t s : List ℕ) (i : ℕ) (h : i < length s) where
   pub lead_on : get_or t (get_or s i 0) 0 ≡ 0 → lead t (drop i s) ≡ suc (lead t (drop (i + 1) s))
   unfolding lead
@@ -114,21 +121,6 @@ module _ (t s : List ℕ) (i : ℕ) (h : i < length s) where
   pub lead_stop : (get_or t (get_or s i 0) 0 ≡ 0 → ⊥) → lead t (drop i s) ≡ 0
   unfolding lead
   lead_stop e = rw (drop-cons s i 0, ne_eqb (get_or t (get_or s i 0) 0) 0 e)
-
-pub lead_end : (t s : List ℕ) (i : ℕ) → length s ≤ i → lead t (drop i s) ≡ 0
-unfolding lead
-lead_end t s i h = rw (drop_of_length-le s h)
-
-pub lead_four : (t s : List ℕ) (i : ℕ) → i + 4 ≤ length s → get_or t (get_or s i 0) 0 ≡ 0 → get_or t (get_or s (i + 1) 0) 0 ≡ 0 → get_or t (get_or s (i + 2) 0) 0 ≡ 0 → get_or t (get_or s (i + 3) 0) 0 ≡ 0
-    → lead t (drop i s) ≡ 4 + lead t (drop (i + 4) s)
-lead_four t s i h a b c d =
-    let p : i + 1 + 1 ≡ i + 2 = omega arith in
-    let q : i + 2 + 1 ≡ i + 3 = omega arith in
-    let r : i + 3 + 1 ≡ i + 4 = omega arith in
-    let e1 : lead t (drop (i + 1) s) ≡ suc (lead t (drop (i + 2) s)) = lead_on t s (i + 1) (omega arith) b ∙ ap (λ (k : ℕ). suc (lead t (drop k s))) p in
-    let e2 : lead t (drop (i + 2) s) ≡ suc (lead t (drop (i + 3) s)) = lead_on t s (i + 2) (omega arith) c ∙ ap (λ (k : ℕ). suc (lead t (drop k s))) q in
-    let e3 : lead t (drop (i + 3) s) ≡ suc (lead t (drop (i + 4) s)) = lead_on t s (i + 3) (omega arith) d ∙ ap (λ (k : ℕ). suc (lead t (drop k s))) r in
-    omega (arith, lead_on t s i (omega arith) a)
 
 -- ---- past 255 there is no letter and no mark
 abbrev small : ℕ → ℕ → Bool

@@ -6,12 +6,10 @@ use native.Mathlib.Omega.{arith}
 use native.Mathlib.Decide.{dec_lt}
 use lib.ListN.{length}
 use borrow.Author.Tests.{lt-ltb, le-ltb}
+use Rattle.std.specs.Prelude.{Err}
 use Rattle.base.specs.Rules.{then, first}
-use Rattle.base.specs.Calls.{said, stuck, long, short, outcome, over, room, Gives}
-use Rattle.base.specs.declared.Verdict.{Verdict}
-use Rattle.base.specs.declared.Verdict.TheVariants.{Fine, Broken}
-use Rattle.base.specs.declared.Outcome.{Outcome}
-use Rattle.base.specs.declared.Outcome.TheVariants.{Done, Refused}
+use Rattle.base.specs.Calls.{said, stuck, long, short, over, room, Gives}
+use Rattle.base.specs.Verdicts.{Verdict, Fine, Broken, Outcome, Done, Refused, answered}
 use Rattle.base.proofs.RuleLaws.{fine_broken, then_fine, first_append}
 
 -- a contract that gives the answer itself: any two answers are equal
@@ -72,17 +70,17 @@ pub record Accepted (rules : List Verdict) (t out : List ℕ) (n : ℕ) (after :
 pub accepted : (rules : List Verdict) (t out : List ℕ) (n : ℕ) (after : List ℕ) → Gives rules t out (Done n) after → Accepted rules t out n after
 accepted rules t out n after g = go (first rules) refl g.answers g.leaves
   where
-    go : (v : Verdict) → first rules ≡ v → Done n ≡ outcome v (length t) → after ≡ room v t out → Accepted rules t out n after
+    go : (v : Verdict) → first rules ≡ v → Done n ≡ answered v (length t) → after ≡ room v t out → Accepted rules t out n after
     go Fine e a l = record { clean = e; count = cc; filled = l }
-    go (Broken k p) e a l = absurd (done_refused n k p a)
+    go (Err r) e a l = absurd (done_refused n r.number r.place a)
 
 -- a refused call: its rule, and the room as it was
 pub refused : (rules : List Verdict) (t out : List ℕ) (k p : ℕ) (after : List ℕ) → Gives rules t out (Refused k p) after → (first rules ≡ Broken k p) × (after ≡ out)
 refused rules t out k p after g = go (first rules) refl g.answers g.leaves
   where
-    go : (v : Verdict) → first rules ≡ v → Refused k p ≡ outcome v (length t) → after ≡ room v t out → (first rules ≡ Broken k p) × (after ≡ out)
+    go : (v : Verdict) → first rules ≡ v → Refused k p ≡ answered v (length t) → after ≡ room v t out → (first rules ≡ Broken k p) × (after ≡ out)
     go Fine e a l = absurd (done_refused (length t) k p (sym a))
-    go (Broken j q) e a l = (e ∙ cc, l)
+    go (Err r) e a l = (e ∙ cc, l)
 
 -- a text that does not stop
 pub not_said : (k : ℕ) (t : List ℕ) → stuck k ≡ said t → ⊥
@@ -92,7 +90,7 @@ not_said k t e = let z : ◌≡◌ {A = ℕ} 0 1 = cc in omega arith
 pub gives_on : (us vs : List Verdict) {t out after : List ℕ} {r : Outcome} → first us ≡ Fine → Gives vs t out r after → Gives (us ++ vs) t out r after
 gives_on us vs {t} {out} e g =
     let z : first vs ≡ first (us ++ vs) = ap (λ (v : Verdict). then v (first vs)) (sym e) ∙ sym (first_append us vs) in
-    record { answers = g.answers ∙ ap (λ (v : Verdict). outcome v (length t)) z; leaves = g.leaves ∙ ap (λ (v : Verdict). room v t out) z }
+    record { answers = g.answers ∙ ap (λ (v : Verdict). answered v (length t)) z; leaves = g.leaves ∙ ap (λ (v : Verdict). room v t out) z }
 
 pub gives_past : {v : Verdict} {rules : List Verdict} {t out : List ℕ} {r : Outcome} {after : List ℕ} → v ≡ Fine → Gives rules t out r after → Gives (v ∷ rules) t out r after
 gives_past {v = v} {rules = rules} e g = gives_on (v ∷ []) rules (then_fine v ∙ e) g

@@ -6,9 +6,11 @@ use native.Mathlib.Omega.{arith}
 use native.Mathlib.Numerals.{add-one}
 use native.Mathlib.Nat.{zero-add, suc-add, add-suc, add-zero}
 use native.Mathlib.Decide.{dec_lt}
-use lib.ListN.{length, drop, set, get_or, length-append, drop_of_length-le}
-use lib.Seq.{sets, sets-eq, length-sets, set-set, drop-cons}
+use lib.ListN.{length, take, drop, set, length-append}
+use Rattle.std.proofs.lemmas.List.{append_assoc, drop-drop}
+use lib.Seq.{sets, sets-eq, length-sets, set-set}
 use borrow.Author.Tests.{le-leb, lt-leb}
+use borrow.Rule.Slice.PartMut.{put_mid}
 use Rattle.base.specs.Calls.{over, placed, Puts}
 
 -- the front filled unit by unit
@@ -44,15 +46,13 @@ placed_none out n = go (dec_lt (length out) (n + 0))
     go (yes h) = placed_not out n [] h
     go (no h) = placed_fits out n [] (omega arith)
 
-pub copy_on : (out part : List ℕ) (at k : ℕ) → k < length part → sets out (at + k) (drop k part) ≡ sets (set out (at + k) (get_or part k 0)) (at + (k + 1)) (drop (k + 1) part)
-copy_on out part at k h =
-    let e : suc (at + k) ≡ at + (k + 1) = omega arith in
-    ap (sets out (at + k)) (drop-cons part k 0 h)
-    ∙ ap (λ (j : ℕ). sets (set out (at + k) (get_or part k 0)) j (drop (suc k) part)) e
-    ∙ ap (λ (j : ℕ). sets (set out (at + k) (get_or part k 0)) (at + (k + 1)) (drop j part)) (sym (add-one k))
-
-pub copy_end : (out part : List ℕ) (at k : ℕ) → length part ≤ k → sets out (at + k) (drop k part) ≡ out
-copy_end out part at k h = ap (sets out (at + k)) (drop_of_length-le part h)
+-- the part written over
+pub put_part : (out : List ℕ) (at k : ℕ) (part now : List ℕ) → now ≡ part → at + length part ≤ length out → k ≡ length part → put_mid at k out now ≡ placed out at part
+unfolding placed
+put_part out at k part now e h p =
+    rw (le-leb (at + length part) (length out) h)
+    (ap₂ (λ (t u : List ℕ). take at out ++ (t ++ u)) e (drop-drop k at out ∙ ap (λ (n : ℕ). drop (at + n) out) p)
+    ∙ sym (append_assoc (take at out) part (drop (at + length part) out)))
 
 -- ---- steps, one behind another
 pub puts_put : {u out after : List ℕ} {at r : ℕ} → r ≡ at + length u → after ≡ placed out at u → Puts u out at r after

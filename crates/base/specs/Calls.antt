@@ -1,12 +1,9 @@
 -- What a call comes to that puts a text into lent room: its rules in order, its answer, and the room then (N1, N17, K6). Assumes nothing.
-use Rattle.std.specs.Prelude.{ℕ, ◌+◌, ◌≤◌, ◌≡◌, List, [], ◌++◌, ltb, leb, length, take, drop}
+use Rattle.std.specs.Prelude.{ℕ, ◌+◌, ◌≤◌, ◌≡◌, List, [], ◌++◌, ltb, leb, length, take, drop, Err}
 use lib.Seq.{sets}
 use Rattle.base.specs.Choice.{pick}
 use Rattle.base.specs.Rules.{first}
-use Rattle.base.specs.declared.Verdict.{Verdict}
-use Rattle.base.specs.declared.Verdict.TheVariants.{Fine, Broken}
-use Rattle.base.specs.declared.Outcome.{Outcome}
-use Rattle.base.specs.declared.Outcome.TheVariants.{Done, Refused}
+use Rattle.base.specs.Verdicts.{Verdict, Fine, Broken, Outcome, answered}
 
 -- what a text comes to: the text that it stands for, or the place where it stops
 pub data Answer : Type 0 where
@@ -30,22 +27,17 @@ stopped number (stuck k) = Broken number k
 unfoldable pub short : {A : Type 0} → List A → List A → Verdict
 short t out = pick (ltb (length out) (length t)) (Broken 17 (length t)) Fine
 
--- the answer, by the first rule that is broken: n units, or its number and place
-abbrev pub outcome : Verdict → ℕ → Outcome
-outcome Fine n = Done n
-outcome (Broken number place) n = Refused number place
-
 -- the units put over the front of the room, which a refusal leaves as it was
 abbrev pub over : {A : Type 0} → List A → List A → List A
 over t out = t ++ drop (length t) out
 
 abbrev pub room : {A : Type 0} → Verdict → List A → List A → List A
 room Fine t out = over t out
-room (Broken number place) t out = out
+room (Err r) t out = out
 
 -- a call with these rules that puts t into the room lent answers r and leaves the room as after
 pub record Gives (rules : List Verdict) (t out : List ℕ) (r : Outcome) (after : List ℕ) : Type 0 where
-  pub answers : r ≡ outcome (first rules) (length t)
+  pub answers : r ≡ answered (first rules) (length t)
   pub leaves : after ≡ room (first rules) t out
 
 -- a part put into the room from n on, where it fits; else the room as it was

@@ -1,8 +1,10 @@
 pub mod Choice
 pub mod Bytes
+pub mod Verdicts
 pub mod Rules
 pub mod Calls
 pub mod Bits
 pub mod Quoted
 pub mod Says
 pub mod Examples
+pub mod Search

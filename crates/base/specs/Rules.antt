@@ -1,7 +1,6 @@
 -- Rules in order. An entry of the list says nothing, or gives a number and a place (O1-O3). Assumes nothing.
-use Rattle.std.specs.Prelude.{ℕ, ◌≡◌, List, [], ◌∷◌, ◌++◌}
-use Rattle.base.specs.declared.Verdict.{Verdict}
-use Rattle.base.specs.declared.Verdict.TheVariants.{Fine, Broken}
+use Rattle.std.specs.Prelude.{ℕ, ◌≡◌, List, [], ◌∷◌, ◌++◌, Err}
+use Rattle.base.specs.Verdicts.{Verdict, Fine, Broken}
 
 -- the greatest number that a refusal has
 abbrev pub last_number : ℕ
@@ -9,7 +8,7 @@ last_number = 21
 
 abbrev pub then : Verdict → Verdict → Verdict
 then Fine w = w
-then (Broken n p) w = Broken n p
+then (Err r) w = Broken r.number r.place
 
 -- the first entry that is broken
 abbrev pub first : List Verdict → Verdict

@@ -3,21 +3,20 @@ ghost use Rattle.std.specs.Prelude.{◌≡◌, ◌%◌, ◌^◌};
 ghost use Rattle.std.specs.Int.Count.{ones};
 ghost use Rattle.base.specs.Bits.{bit, bit_of};
 
+// How many bits a word has.
+const WIDTH: usize = u32::BITS as usize;
+
 pub fn bit_of(place: usize) -> u32
     ensures { result ≡ bit_of place }
 {
-    if place < 32 {
-        1u32 << (place as u32)
-    } else {
-        0
-    }
+    if place < WIDTH { 1 << place } else { 0 }
 }
 
 pub fn bit_at(word: u32, place: usize) -> u32
     ensures { result ≡ bit word place }
 {
-    if place < 32 {
-        (word >> (place as u32)) % 2
+    if place < WIDTH {
+        (word >> place) % 2
     } else {
         0
     }
@@ -27,8 +26,10 @@ pub fn bit_at(word: u32, place: usize) -> u32
 pub fn ones_below(word: u32, place: usize) -> usize
     ensures { result ≡ ones (word % 2 ^ place) }
 {
-    if 32 <= place {
-        return u32::count_ones(word) as usize;
-    }
-    u32::count_ones(word % bit_of(place)) as usize
+    let below = if place < WIDTH {
+        word % (1 << place)
+    } else {
+        word
+    };
+    below.count_ones() as usize
 }

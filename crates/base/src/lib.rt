@@ -6,16 +6,15 @@ pub mod bytes;
 pub mod marks;
 pub mod xset;
 
-// The answer of a call that writes: how many units it wrote, or the number and the place that a clerk sees.
-#[derive(Clone, Copy)]
-pub enum Outcome {
-    Done(usize),
-    Refused { number: u32, place: usize },
+// A refusal, as a clerk sees it: the number of the rule that is broken, and the place.
+#[derive(Clone, Copy, PartialEq, Eq, Debug)]
+pub struct Refusal {
+    pub number: u32,
+    pub place: usize,
 }
 
-// What a rule says: nothing, or its number and place.
-#[derive(Clone, Copy)]
-pub enum Verdict {
-    Fine,
-    Broken { number: u32, place: usize },
-}
+// What a rule says: nothing, or its refusal.
+pub type Verdict = Result<(), Refusal>;
+
+// The answer of a call that writes: how many units it wrote, or its refusal.
+pub type Outcome = Result<usize, Refusal>;

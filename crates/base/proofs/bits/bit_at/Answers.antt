@@ -6,5 +6,5 @@ use native.Mathlib.Omega.{arith}
 use Rattle.base.proofs.BitLaws.{past_word}
 use Rattle.base.proofs.bits.bit_at.Goals as goal
 
-pub returns-else-place-lt32 : goal.returns-else-place-lt32
-returns-else-place-lt32 c = let a = c.args in sym (ap (λ (x : ℕ). x % 2) (div-eq_of_lt (past_word a.word a.place (omega arith) c.if-place-lt32.false)))
+pub returns-else-place-lt-WIDTH : goal.returns-else-place-lt-WIDTH
+returns-else-place-lt-WIDTH c = let a = c.args in sym (ap (λ (x : ℕ). x % 2) (div-eq_of_lt (past_word a.word a.place (omega arith) c.if-place-lt-WIDTH.false)))
