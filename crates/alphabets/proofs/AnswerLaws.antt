@@ -9,17 +9,14 @@ use native.Mathlib.Decide.{dec_lt}
 use lib.ListN.{length, take, drop}
 use lib.Seq.{take-append_seam, drop-append_seam}
 use Rattle.base.specs.Calls.{Answer, said, stuck, text_of, Gives}
-use Rattle.base.specs.declared.Outcome.{Outcome}
-use Rattle.base.specs.declared.Outcome.TheVariants.{Done, Refused}
+use Rattle.base.specs.Verdicts.{Outcome, Done, Refused}
+use Rattle.base.proofs.RuleLaws.{same_refusal}
 use Rattle.base.proofs.CallLaws.{gives_one, gives_refused, gives_done, is_long, not_long, is_short, not_short}
 use Rattle.alphabets.specs.Text.{text_rules}
 use Rattle.alphabets.specs.Sentences.{Answers, over, stops, short, done}
 
 done_refused : (n k p : ℕ) → Done n ≡ Refused k p → ⊥
 done_refused n k p e = let z : ◌≡◌ {A = ℕ} 0 1 = cc in omega arith
-
-same_refused : (j k p q : ℕ) → Refused j p ≡ Refused k q → (j ≡ k) × (p ≡ q)
-same_refused j k p q e = (cc, cc)
 
 same_done : (m n : ℕ) → Done m ≡ Done n → m ≡ n
 same_done m n e = cc
@@ -87,9 +84,9 @@ module _ (limit number : ℕ) (input : List ℕ) {a : Answer} {Is : List ℕ →
     long_iff n1 p = (to r after (answers r after g), λ w. answered (Refused 1 limit) out (over w.0) ∙ ap (Refused 1) (sym w.1))
       where
         to : (r : Outcome) (after : List ℕ) → Answers limit number input Is Stops out r after → r ≡ Refused 1 p → (limit < length input) × (p ≡ limit)
-        to r after (over h) e = (h, sym (same_refused 1 1 limit p e).1)
-        to r after (stops {k} h w) e = absurd (n1 (same_refused number 1 k p e).0)
-        to r after (short {t} h w l) e = absurd (omega (arith, (same_refused 17 1 (length t) p e).0))
+        to r after (over h) e = (h, sym (same_refusal e).1)
+        to r after (stops {k} h w) e = absurd (n1 (same_refusal e).0)
+        to r after (short {t} h w l) e = absurd (omega (arith, (same_refusal e).0))
         to r after (done {t} h w l) e = absurd (done_refused (length t) 1 p e)
 
     module _ (within : length input ≤ limit) where
@@ -97,9 +94,9 @@ module _ (limit number : ℕ) (input : List ℕ) {a : Answer} {Is : List ℕ →
       stop_iff n1 n17 k = (to r after (answers r after g), λ w. answered (Refused number k) out (stops within w))
         where
           to : (r : Outcome) (after : List ℕ) → Answers limit number input Is Stops out r after → r ≡ Refused number k → Stops k
-          to r after (over h) e = absurd (n1 (sym (same_refused 1 number limit k e).0))
-          to r after (stops {k = j} h w) e = subst Stops (same_refused number number j k e).1 w
-          to r after (short {t} h w l) e = absurd (n17 (sym (same_refused 17 number (length t) k e).0))
+          to r after (over h) e = absurd (n1 (sym (same_refusal e).0))
+          to r after (stops {k = j} h w) e = subst Stops (same_refusal e).1 w
+          to r after (short {t} h w l) e = absurd (n17 (sym (same_refusal e).0))
           to r after (done {t} h w l) e = absurd (done_refused (length t) number k e)
 
       module _ (t : List ℕ) (this : Is t) where
@@ -110,9 +107,9 @@ module _ (limit number : ℕ) (input : List ℕ) {a : Answer} {Is : List ℕ →
         short_iff n17 p = (to r after (answers r after g), λ w. answered (Refused 17 (length t)) out (short within this w.0) ∙ ap (Refused 17) (sym w.1))
           where
             to : (r : Outcome) (after : List ℕ) → Answers limit number input Is Stops out r after → r ≡ Refused 17 p → (length out < length t) × (p ≡ length t)
-            to r after (over h) e = absurd (omega (arith, (same_refused 1 17 limit p e).0))
-            to r after (stops {k} h w) e = absurd (n17 (same_refused number 17 k p e).0)
-            to r after (short {t = u} h w l) e = let f : length u ≡ length t = ap length (other u w) in (omega arith, sym (same_refused 17 17 (length u) p e).1 ∙ f)
+            to r after (over h) e = absurd (omega (arith, (same_refusal e).0))
+            to r after (stops {k} h w) e = absurd (n17 (same_refusal e).0)
+            to r after (short {t = u} h w l) e = let f : length u ≡ length t = ap length (other u w) in (omega arith, sym (same_refusal e).1 ∙ f)
             to r after (done {t = u} h w l) e = absurd (done_refused (length u) 17 p e)
 
         pub done_iff : (n : ℕ) → (r ≡ Done n) ↔ ((length t ≤ length out) × (n ≡ length t))

@@ -1,31 +1,31 @@
 -- Only the code's way needs this. The ways out of the calls for a text inside larger room. Assumes nothing.
-use Prim.Native.Nat.{ℕ, ◌+◌, ◌-◌, ◌<◌, ◌≤◌}
-use mathlib.Core.Path.{◌≡◌, sym, ap, ◌∙◌}
+use Prim.Native.Nat.{ℕ, ◌+◌, ◌<◌, ◌≤◌}
+use mathlib.Core.Path.{◌≡◌, refl, sym, ap, ◌∙◌, subst}
+use Rattle.std.specs.Prelude.{Result, Ok, Err, MatchResult}
+use Rattle.std.specs.Result.{IsErrAnd}
+use Rattle.std.proofs.lemmas.Result.{err_from_is_err_and}
 use mathlib.Core.Bool.{Bool, true, false}
 use mathlib.Core.List.{List, []}
 use native.Mathlib.Omega.{arith}
-use native.Mathlib.Decide.{dec_lt}
 use lib.Dec.{leb}
 use lib.ListN.{length}
 use lib.Seq.{sets}
-use borrow.Author.Tests.{lt-ltb, le-ltb, le-leb, lt-leb, leb-true, leb-false}
+use borrow.Author.Tests.{lt-ltb, le-ltb, leb-true, leb-false}
 use Rattle.base.specs.Calls.{Answer, said, stuck, text_of, placed}
 use Rattle.base.proofs.Room.{placed_fits, placed_not, placed_none}
 use Rattle.alphabets.specs.Best.{writing}
 use Rattle.alphabets.specs.Parts.{extent_of, extent, written}
-use Rattle.alphabets.specs.declared.parts.Extent.{Extent}
-use Rattle.alphabets.specs.declared.parts.Extent.TheVariants.{Takes, Halts, Long}
+use Rattle.alphabets.specs.Extent.{Extent, Takes, Halts, Long}
 
--- ---- room from a place on
-pub fits_not : (room at n : ℕ) → room < n → false ≡ leb (at + n) room
-fits_not room at n h = sym (lt-leb (at + n) room (omega arith))
+-- ---- an answer whose refusal was told in other words
+module _ {X Y Z : Type 0} {m : Result X Z} (P : Y → Z → Type 0) where
+  pub told_ok : (r : Result X Y) → MatchResult r (λ x. m ≡ Ok x) (λ y. IsErrAnd m (P y)) → (x : X) → m ≡ Ok x → r ≡ Ok x
+  told_ok (Ok y) w x e = let z : y ≡ x = cc in ap Ok z
+  told_ok (Err k) w x e = let p = err_from_is_err_and m w in let q : m ≡ Err p.0 = p.1 in absurd cc
 
-pub fits_by : (room at n : ℕ) → n ≤ room → leb at (room - n) ≡ leb (at + n) room
-fits_by room at n h = go (dec_lt (room - n) at)
-  where
-    go : Dec (room - n < at) → leb at (room - n) ≡ leb (at + n) room
-    go (yes g) = lt-leb at (room - n) g ∙ sym (lt-leb (at + n) room (omega arith))
-    go (no g) = le-leb at (room - n) (omega arith) ∙ sym (le-leb (at + n) room (omega arith))
+  pub told_err : (r : Result X Y) → MatchResult r (λ x. m ≡ Ok x) (λ y. IsErrAnd m (P y)) → (z : Z) → m ≡ Err z → (y : Y) × (r ≡ Err y) × P y z
+  told_err (Ok y) w z e = absurd cc
+  told_err (Err k) w z e = let p = err_from_is_err_and m w in let q : m ≡ Err p.0 = p.1 in let f : p.0 ≡ z = cc in (k, refl, subst (P k) f p.2)
 
 -- ---- a text that is put where it fits
 pub none_room : (out : List ℕ) (at : ℕ) (t : List ℕ) → t ≡ [] → out ≡ placed out at t
@@ -44,13 +44,13 @@ module _ (out : List ℕ) (at n : ℕ) (t : List ℕ) (m : n ≡ length t) (q : 
 
 -- by the answer: how long it is, and what is put
 pub takes_halts : (n k : ℕ) → Takes n ≡ Halts k → ⊥
-takes_halts n k e = let z : ◌≡◌ {A = ℕ} 0 1 = cc in omega arith
+takes_halts n k e = cc
 
 pub takes_long : (n : ℕ) → Takes n ≡ Long → ⊥
-takes_long n e = let z : ◌≡◌ {A = ℕ} 0 1 = cc in omega arith
+takes_long n e = cc
 
 pub halts_long : (k : ℕ) → Halts k ≡ Long → ⊥
-halts_long k e = let z : ◌≡◌ {A = ℕ} 0 1 = cc in omega arith
+halts_long k e = cc
 
 module _ (a : Answer) (out : List ℕ) (at : ℕ) where
   pub stuck_put : (k : ℕ) → a ≡ stuck k → (Halts k ≡ extent_of a) × (out ≡ placed out at (text_of a))

@@ -1,4 +1,5 @@
 -- What is promised of the calls for a text inside larger room: one outcome, the size and the text put agree with what is written, and pieces put one behind another are the text (T10, K6). Assumes nothing.
+use Rattle.std.specs.Prelude.{Ok, Err}
 use Prim.Native.Nat.{ℕ, ◌+◌, ◌<◌, ◌≤◌}
 use mathlib.Core.Path.{◌≡◌, refl, sym, ap, ◌∙◌}
 use mathlib.Core.Bool.{Bool, true, false, not}
@@ -17,11 +18,9 @@ use Rattle.alphabets.specs.Bank.{reads}
 use Rattle.alphabets.specs.Best.{writing}
 use Rattle.alphabets.specs.Steps.{back_table}
 use Rattle.alphabets.specs.Runs.{floor_of, heard_of}
-use Rattle.alphabets.specs.Pieces.{piece_after, piece_in, piece_on, whole}
 use Rattle.alphabets.specs.Parts.{extent_of, extent, written, WhenTakes, WhenHalts, spoken, piece_text}
-use Rattle.alphabets.specs.declared.parts.Extent.TheVariants.{Takes, Halts, Long}
-use Rattle.alphabets.specs.declared.pieces.Piece.{Piece}
-use Rattle.alphabets.specs.declared.pieces.Piece.TheVariants.{Read, Stops}
+use Rattle.alphabets.specs.Extent.{Takes, Halts, Long}
+use Rattle.alphabets.specs.Pieces.{Piece, Read, Stops, piece_after, piece_in, piece_on, whole}
 use Rattle.alphabets.proofs.Theorems.{shortest_iff, unwritable_iff}
 use Rattle.alphabets.proofs.StopLaws.{unwritable_at}
 use Rattle.alphabets.proofs.SizeLaws.{twice_at_most}
@@ -98,8 +97,12 @@ put_behind out at t u h =
     ∙ sym (placed_fits out at (t ++ u) (omega (arith, length-append t u)) ∙ sets_append t u out at)
 
 -- ---- pieces of a bank text
+abbrev side_of : Piece → Bool
+side_of (Ok p) = p.latin
+side_of (Err k) = false
+
 read_same : (m n : ℕ) (y z : Bool) → Read m y ≡ Read n z → y ≡ z
-read_same m n y z e = cc
+read_same m n y z e = ap side_of e
 
 spoken_append : (t : List ℕ) (s : Bool) (a b : List ℕ) (n : ℕ) (z : Bool) → piece_in t s a ≡ Read n z → spoken t s (a ++ b) ≡ spoken t s a ++ spoken t z b
 unfolding piece_in spoken
@@ -107,8 +110,8 @@ spoken_append t s [] b n z e = ap (λ (y : Bool). spoken t y b) (read_same 0 n s
 spoken_append t s (x ∷ a) b n z e = go (ltb (floor_of s) (get_or t x 0)) (eqb x 39) e (λ m. spoken_append t s a b m z) (λ m. spoken_append t (not s) a b m z)
   where
     more : {X : Type 0} (j : ℕ) (p : Piece) → piece_after 1 j p ≡ Read n z → ((m : ℕ) → p ≡ Read m z → X) → X
-    more j (Stops k) e ih = absurd (read_stops n (1 + k) z e)
-    more j (Read m y) e ih = ih m (ap (Read m) (read_same (j + m) n y z e))
+    more j (Err k) e ih = absurd (read_stops n (1 + k) z e)
+    more j (Ok p) e ih = ih p.units (ap (Read p.units) (read_same (j + p.units) n p.latin z e))
 
     go : (q r : Bool) → pick q (piece_after 1 1 (piece_in t s a)) (pick r (piece_after 1 0 (piece_in t (not s) a)) (Stops 0)) ≡ Read n z
         → ((m : ℕ) → piece_in t s a ≡ Read m z → spoken t s (a ++ b) ≡ spoken t s a ++ spoken t z b) → ((m : ℕ) → piece_in t (not s) a ≡ Read m z → spoken t (not s) (a ++ b) ≡ spoken t (not s) a ++ spoken t z b)
@@ -141,9 +144,12 @@ pub text_whole : (b d : List ℕ) → reads false b ≡ said d → piece_text ba
 text_whole b d e = go (piece_in back_table false b) refl (sym (reads_piece false b) ∙ e)
   where
     go : (p : Piece) → piece_in back_table false b ≡ p → whole (length b) (piece_in back_table false b) (spoken back_table false b) ≡ said d → piece_text back_table false b ≡ d
-    go (Stops k) q f = absurd (not_said k d (rw q at f))
-    go (Read n true) q f = absurd (not_said (length b) d (rw q at f))
-    go (Read n false) q f = let m : said (spoken back_table false b) ≡ said d = rw q at f in text_read back_table false b n false q ∙ cc
+    go (Err k) q f = absurd (not_said k d (rw q at f))
+    go (Ok p) q f = ended p.latin (rw q at f)
+      where
+        ended : (z : Bool) → pick z (stuck (length b)) (said (spoken back_table false b)) ≡ said d → piece_text back_table false b ≡ d
+        ended true g = absurd (not_said (length b) d g)
+        ended false g = text_read back_table false b p.units p.latin q ∙ cc
 
 -- the ways out of the call that reads one, its table lent
 module _ (t b : List ℕ) (w : t ≡ back_table) where

@@ -1,12 +1,13 @@
 -- Only the code's way needs this. Reading in pieces by the table backwards is reading; and the loops over a piece. Assumes nothing.
+use Rattle.std.specs.Prelude.{Ok, Err}
 use Prim.Native.Nat.{ℕ, zero, suc, ◌+◌, ◌-◌, ◌<◌, ◌≤◌}
-use mathlib.Core.Path.{◌≡◌, refl, sym, ap, ◌∙◌}
+use mathlib.Core.Path.{◌≡◌, refl, sym, ap, ◌∙◌, subst}
 use mathlib.Core.Bool.{Bool, true, false, not}
-use mathlib.Core.List.{List, [], ◌∷◌, ◌++◌, tail}
+use mathlib.Core.List.{List, [], ◌∷◌, ◌++◌, tail, append_assoc}
 use native.Mathlib.Omega.{arith}
 use native.Mathlib.Numerals.{add-one}
 use lib.Dec.{eqb, ltb}
-use lib.ListN.{length, get_or, drop, drop_of_length-le}
+use lib.ListN.{length, get_or, drop, set, drop_of_length-le, length-drop, length-append}
 use lib.Seq.{drop-cons, drop-drop}
 use borrow.Author.Tests.{lt-ltb, le-ltb, eq-eqb, ne_eqb, eqb-true, eqb-false, ltb-true, ltb-false}
 use Rattle.base.specs.Choice.{pick}
@@ -16,25 +17,28 @@ use Rattle.alphabets.specs.Grid.{character}
 use Rattle.alphabets.specs.Bank.{past, after, reads}
 use Rattle.alphabets.specs.Steps.{back_table}
 use Rattle.alphabets.specs.Runs.{floor_of, heard_of, run}
-use Rattle.alphabets.specs.Pieces.{piece_after, piece_in, piece_on, whole, character_after, character_in, character_from, characters_from}
+use Rattle.alphabets.specs.Pieces.{Piece, Read, Stops, piece_after, piece_in, piece_on, whole, Character, character_after, character_in, character_from, characters_from}
 use Rattle.alphabets.specs.Parts.{spoken}
-use Rattle.alphabets.specs.declared.pieces.Piece.{Piece}
-use Rattle.alphabets.specs.declared.pieces.Piece.TheVariants.{Read, Stops}
-use Rattle.alphabets.specs.declared.pieces.Character.{Character}
-use Rattle.alphabets.proofs.RunLaws.{Ended, ended}
+use Rattle.alphabets.proofs.RunLaws.{run_ended, run_stops}
 use Rattle.alphabets.proofs.BackTableLaws.{Heard, heard_above, heard_below}
 
 -- ---- pieces and whole texts
+open_character : (n y : ℕ) (u : List ℕ) (q : Bool) → after (suc y) (pick q (stuck n) (said u)) ≡ pick q (stuck (suc n)) (said (suc y ∷ u))
+open_character n y u true = refl
+open_character n y u false = refl
+
+open_mark : (n : ℕ) (u : List ℕ) (q : Bool) → past (pick q (stuck n) (said u)) ≡ pick q (stuck (suc n)) (said u)
+open_mark n u true = refl
+open_mark n u false = refl
+
 whole_character : (n y : ℕ) (p : Piece) (u : List ℕ) → (y ≡ 0 → ⊥) → after y (whole n p u) ≡ whole (suc n) (piece_after 1 1 p) (y ∷ u)
 whole_character n zero p u h = absurd (h refl)
-whole_character n (suc y) (Read m false) u h = refl
-whole_character n (suc y) (Read m true) u h = refl
-whole_character n (suc y) (Stops k) u h = let e : suc k ≡ 1 + k = omega arith in ap stuck e
+whole_character n (suc y) (Ok p) u h = open_character n y u p.latin
+whole_character n (suc y) (Err k) u h = let e : suc k ≡ 1 + k = omega arith in ap stuck e
 
 whole_mark : (n : ℕ) (p : Piece) (u : List ℕ) → past (whole n p u) ≡ whole (suc n) (piece_after 1 0 p) u
-whole_mark n (Read m false) u = refl
-whole_mark n (Read m true) u = refl
-whole_mark n (Stops k) u = let e : suc k ≡ 1 + k = omega arith in ap stuck e
+whole_mark n (Ok p) u = open_mark n u p.latin
+whole_mark n (Err k) u = let e : suc k ≡ 1 + k = omega arith in ap stuck e
 
 -- with the table backwards, a piece is what the alphabets read: a whole text is one that ends on the Russian side
 pub reads_piece : (s : Bool) (b : List ℕ) → reads s b ≡ whole (length b) (piece_in back_table s b) (spoken back_table s b)
@@ -58,12 +62,12 @@ reads_piece s (x ∷ xs) = go (ltb (floor_of s) (get_or back_table x 0)) refl (e
 
 -- ---- the loop over a piece, with any table
 after_after : (i n j m : ℕ) (p : Piece) → piece_after i n (piece_after j m p) ≡ piece_after (i + j) (n + m) p
-after_after i n j m (Read k s) = let e : n + (m + k) ≡ n + m + k = omega arith in ap (λ (u : ℕ). Read u s) e
-after_after i n j m (Stops k) = let e : i + (j + k) ≡ i + j + k = omega arith in ap Stops e
+after_after i n j m (Ok p) = let e : n + (m + p.units) ≡ n + m + p.units = omega arith in ap (λ (u : ℕ). Read u p.latin) e
+after_after i n j m (Err k) = let e : i + (j + k) ≡ i + j + k = omega arith in ap Stops e
 
 after_none : (p : Piece) → p ≡ piece_after 0 0 p
-after_none (Read k s) = let e : k ≡ 0 + k = omega arith in ap (λ (u : ℕ). Read u s) e
-after_none (Stops k) = let e : k ≡ 0 + k = omega arith in ap Stops e
+after_none (Ok p) = let e : p.units ≡ 0 + p.units = omega arith in ap (λ (u : ℕ). Read u p.latin) e
+after_none (Err k) = let e : k ≡ 0 + k = omega arith in ap Stops e
 
 piece_run : (t : List ℕ) (s : Bool) (b : List ℕ) → piece_in t s b ≡ piece_after (run t (floor_of s) b) (run t (floor_of s) b) (piece_in t s (drop (run t (floor_of s) b) b))
 unfolding piece_in run
@@ -83,92 +87,203 @@ piece_run t s (x ∷ xs) = go (ltb (floor_of s) (get_or t x 0)) refl (piece_run 
         ap (λ (q : Bool). pick q (piece_after 1 1 (piece_in t s xs)) (pick (eqb x 39) (piece_after 1 0 (piece_in t (not s) xs)) (Stops 0))) (sym e)
         ∙ after_none (piece_in t s (x ∷ xs))
 
--- i bytes are taken, marks of them apostrophes
-pub record Taking (t : List ℕ) (latin : Bool) (part : List ℕ) (side : Bool) (marks i : ℕ) : Type 0 where
-  pub long : i ≤ length part
-  pub few : marks ≤ i
-  pub is : piece_in t latin part ≡ piece_after i (i - marks) (piece_in t side (drop i part))
+-- all but the rest is taken
+pub record Taking (t : List ℕ) (latin : Bool) (part : List ℕ) (units : ℕ) (side : Bool) (rest : List ℕ) : Type 0 where
+  pub long : length rest ≤ length part
+  pub few : units + length rest ≤ length part
+  pub is : piece_in t latin part ≡ piece_after (length part - length rest) units (piece_in t side rest)
 
-pub taking_start : (t : List ℕ) (latin : Bool) (part : List ℕ) → Taking t latin part latin 0 0
-taking_start t latin part = record { long = omega arith; few = omega arith; is = after_none (piece_in t latin part) }
+pub taking_start : (t : List ℕ) (latin : Bool) (part : List ℕ) → Taking t latin part 0 latin part
+taking_start t latin part =
+    let z : 0 ≡ length part - length part = omega arith in
+    record { long = omega arith; few = omega arith; is = after_none (piece_in t latin part) ∙ ap (λ (i : ℕ). piece_after i 0 (piece_in t latin part)) z }
 
-pub taking_end : {t : List ℕ} {latin : Bool} {part : List ℕ} {side : Bool} {marks i : ℕ} → Taking t latin part side marks i → length part ≤ i → Read (i - marks) side ≡ piece_in t latin part
-unfolding piece_in
-taking_end {t} {latin} {part} {side} {marks} {i} v h =
-    let z : i - marks + 0 ≡ i - marks = omega arith in
-    sym (v.is ∙ ap (λ (b : List ℕ). piece_after i (i - marks) (piece_in t side b)) (drop_of_length-le part h) ∙ ap (λ (n : ℕ). Read n side) z)
-
-module _ {t : List ℕ} {latin : Bool} {part : List ℕ} {side : Bool} {marks i : ℕ} (v : Taking t latin part side marks i) (k : ℕ) (r : k ≡ i + run t (floor_of side) (drop i part)) where
-  taking_ended : Ended t (floor_of side) part k
-  taking_ended = ended t (floor_of side) part i k v.long r
-
-  -- over the run
-  pub taking_run : Taking t latin part side marks k
-  taking_run =
-      let n : ℕ = run t (floor_of side) (drop i part) in
-      let w = taking_ended in
-      let e : i + n ≡ k = sym r in
-      let f : i - marks + n ≡ k - marks = omega (arith, v.few) in
+module _ {t : List ℕ} {latin : Bool} {part : List ℕ} {units : ℕ} {side : Bool} {rest : List ℕ} (v : Taking t latin part units side rest) where
+  -- over a run
+  over_run : (r : ℕ) → r ≡ run t (floor_of side) rest → Taking t latin part (units + r) side (drop r rest)
+  over_run r e =
+      let n : ℕ = run t (floor_of side) rest in
+      let i : ℕ = length part - length rest in
+      let w : n ≤ length rest = (run_ended t (floor_of side) rest).within in
+      let l : length (drop r rest) ≡ length rest - r = length-drop r rest in
+      let f : i + n ≡ length part - length (drop r rest) = omega (arith, v.long) in
       record {
-        long = w.within;
+        long = omega (arith, v.long);
         few = omega (arith, v.few);
         is =
-            v.is ∙ ap (piece_after i (i - marks)) (piece_run t side (drop i part))
-            ∙ after_after i (i - marks) n n (piece_in t side (drop n (drop i part)))
-            ∙ ap (λ (b : List ℕ). piece_after (i + n) (i - marks + n) (piece_in t side b)) (drop-drop n i part)
-            ∙ ap (λ (j : ℕ). piece_after j (i - marks + n) (piece_in t side (drop j part))) e
-            ∙ ap (λ (j : ℕ). piece_after k j (piece_in t side (drop k part))) f;
+            v.is ∙ ap (piece_after i units) (piece_run t side rest)
+            ∙ after_after i units n n (piece_in t side (drop n rest))
+            ∙ ap (λ (j : ℕ). piece_after j (units + n) (piece_in t side (drop n rest))) f
+            ∙ ap (λ (j : ℕ). piece_after (length part - length (drop r rest)) (units + j) (piece_in t side (drop j rest))) (sym e);
       }
 
-  module _ (h : k < length part) where
-    pub taking_stops : (get_or part k 0 ≡ 39 → ⊥) → Stops k ≡ piece_in t latin part
-    unfolding piece_in
-    taking_stops m =
-        let g : piece_in t side (drop k part) ≡ Stops 0 = rw (drop-cons part k 0, le-ltb (floor_of side) (get_or t (get_or part k 0) 0) (taking_ended.stops h), ne_eqb (get_or part k 0) 39 m) in
-        let z : k + 0 ≡ k = omega arith in
-        sym (taking_run.is ∙ ap (piece_after k (k - marks)) g ∙ ap Stops z)
+  at_end : length rest < 1 → Read units side ≡ piece_in t latin part
+  unfolding piece_in
+  at_end h =
+      let z : units + 0 ≡ units = omega arith in
+      let g : length rest ≤ 0 = omega arith in let d : drop 0 rest ≡ [] = drop_of_length-le rest g in
+      sym (v.is ∙ ap (λ (b : List ℕ). piece_after (length part - length rest) units (piece_in t side b)) d ∙ ap (λ (n : ℕ). Read n side) z)
 
-    pub taking_on : get_or part k 0 ≡ 39 → Taking t latin part (not side) (marks + 1) (k + 1)
+  module _ (h : 0 < length rest) (g : get_or t (get_or rest 0 0) 0 ≤ floor_of side) where
+    at_stop : (get_or rest 0 0 ≡ 39 → ⊥) → Stops (length part - length rest) ≡ piece_in t latin part
     unfolding piece_in
-    taking_on m =
-        let w = taking_run in
-        let g : piece_in t side (drop k part) ≡ piece_after 1 0 (piece_in t (not side) (drop (k + 1) part)) = rw (add-one, drop-cons part k 0, le-ltb (floor_of side) (get_or t (get_or part k 0) 0) (taking_ended.stops h), eq-eqb (get_or part k 0) 39 m) in
-        let z : k - marks + 0 ≡ k + 1 - (marks + 1) = omega (arith, w.few) in
+    at_stop m =
+        let e : piece_in t side (drop 0 rest) ≡ Stops 0 = rw (drop-cons rest 0 0, le-ltb (floor_of side) (get_or t (get_or rest 0 0) 0) g, ne_eqb (get_or rest 0 0) 39 m) in
+        let z : length part - length rest + 0 ≡ length part - length rest = omega arith in
+        sym (v.is ∙ ap (piece_after (length part - length rest) units) e ∙ ap Stops z)
+
+    at_mark : get_or rest 0 0 ≡ 39 → Taking t latin part units (not side) (drop 1 rest)
+    unfolding piece_in
+    at_mark m =
+        let e : piece_in t side (drop 0 rest) ≡ piece_after 1 0 (piece_in t (not side) (drop 1 rest)) = rw (drop-cons rest 0 0, le-ltb (floor_of side) (get_or t (get_or rest 0 0) 0) g, eq-eqb (get_or rest 0 0) 39 m) in
+        let l : length (drop 1 rest) ≡ length rest - 1 = length-drop 1 rest in
+        let y : units + 0 ≡ units = omega arith in
+        let z : length part - length rest + 1 ≡ length part - length (drop 1 rest) = omega (arith, v.long) in
         record {
-          long = omega arith;
-          few = omega (arith, w.few);
-          is = w.is ∙ ap (piece_after k (k - marks)) g ∙ after_after k (k - marks) 1 0 (piece_in t (not side) (drop (k + 1) part)) ∙ ap (λ (n : ℕ). piece_after (k + 1) n (piece_in t (not side) (drop (k + 1) part))) z;
+          long = omega (arith, v.long);
+          few = omega (arith, v.few);
+          is =
+              v.is ∙ ap (piece_after (length part - length rest) units) e ∙ after_after (length part - length rest) units 1 0 (piece_in t (not side) (drop 1 rest))
+              ∙ ap (λ (n : ℕ). piece_after (length part - length rest + 1) n (piece_in t (not side) (drop 1 rest))) y
+              ∙ ap (λ (i : ℕ). piece_after i units (piece_in t (not side) (drop 1 rest))) z;
         }
 
--- ---- the loop to the first character
-module _ (t part : List ℕ) (i : ℕ) (s : Bool) (h : i < length part) where
-  pub character_here : floor_of s < get_or t (get_or part i 0) 0 → character_from t s part i ≡ record { value = heard_of s (get_or t (get_or part i 0) 0) (get_or part i 0); next = i + 1; latin = s }
-  unfolding character_from character_in
-  character_here g = rw (drop-cons part i 0, lt-ltb (floor_of s) (get_or t (get_or part i 0) 0) g)
+-- a turn: over a run of n bytes, and what is behind it
+module _ {t : List ℕ} {latin : Bool} {part : List ℕ} {units : ℕ} {side : Bool} {rest : List ℕ} (v : Taking t latin part units side rest)
+    {f r n : ℕ} {behind : List ℕ} (g : f ≡ floor_of side) (q : r ≡ run t f rest) (m : n ≡ r) (d : behind ≡ drop r rest) where
+  e : r ≡ run t (floor_of side) rest
+  e = q ∙ ap (λ (u : ℕ). run t u rest) g
 
-  pub character_stops : get_or t (get_or part i 0) 0 ≤ floor_of s → (get_or part i 0 ≡ 39 → ⊥) → character_from t s part i ≡ record { value = 0; next = i; latin = s }
-  unfolding character_from character_in
-  character_stops g m = let z : i + 0 ≡ i = omega arith in rw (drop-cons part i 0, le-ltb (floor_of s) (get_or t (get_or part i 0) 0) g, ne_eqb (get_or part i 0) 39 m, z)
+  ran : Taking t latin part (units + n) side behind
+  ran = rw (d, m) (over_run v r e)
 
-  pub character_on : get_or t (get_or part i 0) 0 ≤ floor_of s → get_or part i 0 ≡ 39 → character_from t s part i ≡ character_from t (not s) part (i + 1)
-  unfolding character_from character_in
-  character_on g m =
-      let r : Character = character_in t (not s) (drop (suc i) part) in
-      let z : i + (1 + r.next) ≡ suc i + r.next = omega arith in
-      rw (add-one, drop-cons part i 0, le-ltb (floor_of s) (get_or t (get_or part i 0) 0) g, eq-eqb (get_or part i 0) 39 m) (ap (λ (n : ℕ). record { value = r.value; next = n; latin = r.latin }) z)
+  stops : 0 < length behind → get_or t (get_or behind 0 0) 0 ≤ floor_of side
+  stops h = subst (λ (b : List ℕ). 0 < length b → get_or t (get_or b 0 0) 0 ≤ floor_of side) (sym d) (run_stops t (floor_of side) rest r e) h
 
-pub character_end : (t part : List ℕ) (i : ℕ) (s : Bool) → length part ≤ i → character_from t s part i ≡ record { value = 0; next = i; latin = s }
-unfolding character_from character_in
-character_end t part i s h = let z : i + 0 ≡ i = omega arith in rw (drop_of_length-le part h, z)
+  pub taking_few : units + n ≤ length part
+  taking_few = omega (arith, ran.few)
 
--- the character that a function of the table's value made
-pub character_made : (s : Bool) (v w x n h : ℕ) → w ≡ v → h ≡ heard_of s w x → ◌≡◌ {A = Character} (record { value = heard_of s v x; next = n; latin = s }) (record { value = h; next = n; latin = s })
-character_made s v w x n h e f = ap (λ (y : ℕ). record { value = y; next = n; latin = s }) (ap (λ (u : ℕ). heard_of s u x) (sym e) ∙ sym f)
+  pub taking_end : length behind < 1 → Read (units + n) side ≡ piece_in t latin part
+  taking_end h = at_end ran h
+
+  pub taking_stops : 0 < length behind → (get_or behind 0 0 ≡ 39 → ⊥) → Stops (length part - length behind) ≡ piece_in t latin part
+  taking_stops h x = at_stop ran h (stops h) x
+
+  pub taking_on : 0 < length behind → get_or behind 0 0 ≡ 39 → {more : List ℕ} → more ≡ drop 1 behind → Taking t latin part (units + n) (not side) more
+  taking_on h x f = rw f (at_mark ran h (stops h) x)
+
+-- ---- the loop to the first characters
+-- those from a place on are those of the text from there on
+characters_drop : (t : List ℕ) (n : ℕ) (s : Bool) (b : List ℕ) (i : ℕ) → characters_from t n s b i ≡ characters_from t n s (drop i b) 0
+unfolding characters_from character_from
+characters_drop t zero s b i = refl
+characters_drop t (suc n) s b i =
+    let q : Character = character_in t s (drop i b) in
+    let z : 0 + q.next ≡ q.next = omega arith in
+    let d : drop (i + q.next) b ≡ drop (0 + q.next) (drop i b) = sym (ap (λ (k : ℕ). drop k (drop i b)) z ∙ drop-drop q.next i b) in
+    ap (λ (l : List ℕ). q.value ∷ l) (characters_drop t n q.latin b (i + q.next) ∙ ap (λ (l : List ℕ). characters_from t n q.latin l 0) d ∙ sym (characters_drop t n q.latin (drop i b) (0 + q.next)))
+
+abbrev zeros : ℕ → List ℕ
+zeros zero = []
+zeros (suc n) = 0 ∷ zeros n
+
+-- where a text stops, all that follow are missing
+missing : (t : List ℕ) (s : Bool) (b : List ℕ) → character_in t s b ≡ record { value = 0; next = 0; latin = s } → (n : ℕ) → characters_from t n s b 0 ≡ zeros n
+unfolding characters_from character_from
+missing t s b e zero = refl
+missing t s b e (suc n) = ap (λ (q : Character). q.value ∷ characters_from t n q.latin b (0 + q.next)) e ∙ ap (λ (l : List ℕ). 0 ∷ l) (missing t s b e n)
+
+module _ (t : List ℕ) (s : Bool) (x : ℕ) (xs : List ℕ) where
+  heard_here : (n : ℕ) → floor_of s < get_or t x 0 → characters_from t (suc n) s (x ∷ xs) 0 ≡ heard_of s (get_or t x 0) x ∷ characters_from t n s xs 0
+  unfolding characters_from character_from character_in
+  heard_here n h = rw (lt-ltb (floor_of s) (get_or t x 0) h) (ap (λ (l : List ℕ). heard_of s (get_or t x 0) x ∷ l) (characters_drop t n s (x ∷ xs) 1))
+
+  module _ (h : get_or t x 0 ≤ floor_of s) where
+    mark_here : (n : ℕ) → x ≡ 39 → characters_from t n s (x ∷ xs) 0 ≡ characters_from t n (not s) xs 0
+    unfolding characters_from character_from character_in
+    mark_here zero e = refl
+    mark_here (suc n) e =
+        let q : Character = character_in t (not s) xs in
+        let z : 0 + (1 + q.next) ≡ suc (0 + q.next) = omega arith in
+        rw (le-ltb (floor_of s) (get_or t x 0) h, eq-eqb x 39 e)
+        (ap (λ (l : List ℕ). q.value ∷ l) (characters_drop t n q.latin (x ∷ xs) (0 + (1 + q.next)) ∙ ap (λ (k : ℕ). characters_from t n q.latin (drop k (x ∷ xs)) 0) z ∙ sym (characters_drop t n q.latin xs (0 + q.next))))
+
+    stop_here : (n : ℕ) → (x ≡ 39 → ⊥) → characters_from t n s (x ∷ xs) 0 ≡ zeros n
+    unfolding character_in
+    stop_here n e = missing t s (x ∷ xs) (rw (le-ltb (floor_of s) (get_or t x 0) h, ne_eqb x 39 e)) n
+
+-- one put behind others
+set_behind : (u v : List ℕ) (y h n : ℕ) → n ≡ length u → set (u ++ y ∷ v) n h ≡ (u ++ h ∷ []) ++ v
+set_behind [] v y h n e = rw e
+set_behind (x ∷ u) v y h n e = rw e (ap (λ (l : List ℕ). x ∷ l) (set_behind u v y h (length u) refl))
+
+-- n are put, zeros stand behind them, and they are those of the bytes before i
+pub record Listing (t part first : List ℕ) (n : ℕ) (latin : Bool) (i : ℕ) : Type 0 where
+  put : List ℕ
+  left : ℕ
+  count : n ≡ length put
+  four : n + left ≡ 4
+  is : first ≡ put ++ zeros left
+  whole : characters_from t 4 false part 0 ≡ put ++ characters_from t left latin (drop i part) 0
+
+pub listing_start : (t part : List ℕ) → Listing t part (0 ∷ 0 ∷ 0 ∷ 0 ∷ []) 0 false 0
+listing_start t part = record { put = []; left = 4; count = refl; four = refl; is = refl; whole = refl }
+
+module _ {t part first : List ℕ} {n : ℕ} {latin : Bool} {i : ℕ} (v : Listing t part first n latin i) where
+  listed : characters_from t v.left latin (drop i part) 0 ≡ zeros v.left → first ≡ characters_from t 4 false part 0
+  listed e = v.is ∙ sym (v.whole ∙ ap (λ (l : List ℕ). v.put ++ l) e)
+
+  pub listing_full : n ≡ 4 → first ≡ characters_from t 4 false part 0
+  unfolding characters_from
+  listing_full e = let z : v.left ≡ 0 = omega (arith, v.four) in listed (ap (λ (k : ℕ). characters_from t k latin (drop i part) 0) z ∙ ap zeros (sym z))
+
+  pub listing_end : length part ≤ i → first ≡ characters_from t 4 false part 0
+  unfolding character_in
+  listing_end h = listed (ap (λ (b : List ℕ). characters_from t v.left latin b 0) (drop_of_length-le part h) ∙ missing t latin [] refl v.left)
+
+  module _ (h : i < length part) where
+    here : drop i part ≡ get_or part i 0 ∷ drop (i + 1) part
+    here = rw (add-one, drop-cons part i 0)
+
+    pub listing_heard : n < 4 → floor_of latin < get_or t (get_or part i 0) 0 → (y : ℕ) → y ≡ heard_of latin (get_or t (get_or part i 0) 0) (get_or part i 0) → (n < length first) × Listing t part (set first n y) (n + 1) latin (i + 1)
+    listing_heard f g y e = go v.left v.four v.is v.whole
+      where
+        go : (m : ℕ) → n + m ≡ 4 → first ≡ v.put ++ zeros m → characters_from t 4 false part 0 ≡ v.put ++ characters_from t m latin (drop i part) 0 → (n < length first) × Listing t part (set first n y) (n + 1) latin (i + 1)
+        go zero p q r = absurd (omega arith)
+        go (suc m) p q r = (
+          omega (arith, ap length q, length-append v.put (zeros (suc m)), v.count),
+          record {
+            put = v.put ++ y ∷ [];
+            left = m;
+            count = omega (arith, v.count, length-append v.put (y ∷ []));
+            four = omega arith;
+            is = ap (λ (l : List ℕ). set l n y) q ∙ set_behind v.put (zeros m) 0 y n v.count;
+            whole =
+                r ∙ ap (λ (b : List ℕ). v.put ++ characters_from t (suc m) latin b 0) here
+                ∙ ap (λ (l : List ℕ). v.put ++ l) (heard_here t latin (get_or part i 0) (drop (i + 1) part) m g ∙ ap (λ (c : ℕ). c ∷ characters_from t m latin (drop (i + 1) part) 0) (sym e))
+                ∙ sym (append_assoc v.put (y ∷ []) (characters_from t m latin (drop (i + 1) part) 0));
+          },
+        )
+
+    module _ (g : get_or t (get_or part i 0) 0 ≤ floor_of latin) where
+      pub listing_mark : get_or part i 0 ≡ 39 → Listing t part first n (not latin) (i + 1)
+      listing_mark e =
+          record {
+            put = v.put;
+            left = v.left;
+            count = v.count;
+            four = v.four;
+            is = v.is;
+            whole = v.whole ∙ ap (λ (l : List ℕ). v.put ++ l) (ap (λ (b : List ℕ). characters_from t v.left latin b 0) here ∙ mark_here t latin (get_or part i 0) (drop (i + 1) part) g v.left e);
+          }
+
+      pub listing_stop : (get_or part i 0 ≡ 39 → ⊥) → first ≡ characters_from t 4 false part 0
+      listing_stop e = listed (ap (λ (b : List ℕ). characters_from t v.left latin b 0) here ∙ stop_here t latin (get_or part i 0) (drop (i + 1) part) g v.left e)
 
 -- ---- a piece goes on from the piece before it, with any table
 on_after : (n j m : ℕ) (p : Piece) (rest : Bool → Piece) → piece_after j m (piece_on n p rest) ≡ piece_on (j + n) (piece_after j m p) rest
-on_after n j m (Read k s) rest = after_after j m n k (rest s)
-on_after n j m (Stops k) rest = refl
+on_after n j m (Ok p) rest = after_after j m n p.units (rest p.latin)
+on_after n j m (Err k) rest = refl
 
 pub piece_append : (t : List ℕ) (s : Bool) (a b : List ℕ) → piece_in t s (a ++ b) ≡ piece_on (length a) (piece_in t s a) (λ z. piece_in t z b)
 unfolding piece_in
@@ -237,12 +352,3 @@ characters_said (suc n) s b i d e (suc j) h =
     let r : Character = character_in back_table s (drop i b) in
     characters_said n r.latin b (i + r.next) (tail d) (ap (reads r.latin) (sym (drop-drop r.next i b)) ∙ (next_character s (drop i b) d e).rest) j (omega arith)
     ∙ tail_at d j
-
--- one character more in front
-pub characters_more : (t : List ℕ) (n : ℕ) (s : Bool) (b : List ℕ) (i : ℕ) (r : Character) (xs : List ℕ) → r ≡ character_from t s b i → xs ≡ characters_from t n r.latin b r.next → r.value ∷ xs ≡ characters_from t (suc n) s b i
-unfolding characters_from
-characters_more t n s b i r xs e f = ap (λ (l : List ℕ). r.value ∷ l) f ∙ ap (λ (q : Character). q.value ∷ characters_from t n q.latin b q.next) e
-
-pub characters_none : (t : List ℕ) (s : Bool) (b : List ℕ) (i : ℕ) → [] ≡ characters_from t 0 s b i
-unfolding characters_from
-characters_none t s b i = refl

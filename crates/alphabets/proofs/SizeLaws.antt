@@ -9,7 +9,7 @@ use lib.ListN.{length}
 use Rattle.base.specs.Choice.{pick}
 use Rattle.base.specs.Bytes.{xset}
 use Rattle.base.specs.Calls.{Answer, said, stuck, text_of, Gives}
-use Rattle.base.specs.declared.Outcome.{Outcome}
+use Rattle.base.specs.Verdicts.{Outcome}
 use Rattle.base.proofs.CallLaws.{not_said}
 use Rattle.alphabets.specs.Grid.{kind, spell, character}
 use Rattle.alphabets.specs.Bank.{past, after, reads, plainly}

@@ -12,24 +12,18 @@ use Rattle.base.specs.Choice.{pick}
 use Rattle.base.specs.Bytes.{xset, classes, outside, lead}
 use Rattle.base.specs.Rules.{first}
 use Rattle.base.specs.Calls.{Answer, said, stuck, text_of, stopped, short, placed, Gives}
-use Rattle.base.specs.declared.Verdict.{Verdict}
-use Rattle.base.specs.declared.Outcome.{Outcome}
-use Rattle.base.specs.declared.Outcome.TheVariants.{Done, Refused}
+use Rattle.base.specs.Verdicts.{Verdict, Outcome, Done, Refused}
 use Rattle.base.proofs.ByteLaws.{Bytes, class_at}
 use Rattle.base.proofs.CallLaws.{gives_refused, gives_done, gives_past, is_long, not_long, is_short, not_short}
 use Rattle.base.proofs.Room.{over_sets, placed_fits, placed_not, placed_none}
 use Rattle.alphabets.specs.Bank.{after, plainly}
 use Rattle.alphabets.specs.Parts.{extent_of}
 use Rattle.alphabets.specs.Text.{text_rules, ending_of}
-use Rattle.alphabets.specs.declared.parts.Extent.{Extent}
-use Rattle.alphabets.specs.declared.parts.Extent.TheVariants.{Takes, Halts}
+use Rattle.alphabets.specs.Extent.{Extent, Takes}
 use Rattle.alphabets.proofs.Theorems.{no_xset_zero}
 
 -- ---- the answer of a call, by the size of its text and the room
 module _ (number room : ℕ) (z : Extent) where
-  pub ending_halts : (k : ℕ) → z ≡ Halts k → Refused number k ≡ ending_of number z room
-  ending_halts k e = rw e
-
   module _ (n : ℕ) (e : z ≡ Takes n) where
     pub ending_short : room < n → Refused 17 n ≡ ending_of number z room
     ending_short h = rw (e, lt-ltb room n h)

@@ -1,6 +1,6 @@
 -- Only the code's way needs this. How a desk text is written: the size and the text of what is left, over a Russian run and a Latin group, and the loops along them. Assumes nothing.
 use Prim.Native.Nat.{ℕ, zero, suc, ◌+◌, ◌-◌, ◌*◌, ◌<◌, ◌≤◌}
-use mathlib.Core.Path.{◌≡◌, refl, sym, ap, ◌∙◌}
+use mathlib.Core.Path.{◌≡◌, refl, sym, ap, ◌∙◌, subst}
 use mathlib.Core.Bool.{Bool, true, false, ◌&&◌}
 use mathlib.Core.List.{List, [], ◌∷◌, ◌++◌, append_assoc}
 use native.Mathlib.Omega.{arith}
@@ -8,11 +8,11 @@ use native.Mathlib.Decide.{dec_lt}
 use native.Mathlib.Numerals.{add-one}
 use lib.Dec.{T, eqb, ltb, eqb→eq}
 use lib.ListN.{length, get_or, drop, take, set, length-set, get_or-eq_default, drop_of_length-le, length-drop, length-append}
-use lib.Seq.{drop-cons, drop-drop, sets, length-sets, length-take-le}
+use lib.Seq.{drop-cons, sets, length-sets, length-take-le}
 use borrow.Author.Tests.{lt-ltb, eq-eqb, ne_eqb, eqb-true, eqb-false, ltb-true}
 use Rattle.base.specs.Choice.{pick}
 use Rattle.base.specs.Bytes.{is_in, digit, capital, letter, marks, shared}
-use Rattle.base.specs.Calls.{said, placed}
+use Rattle.base.specs.Calls.{Answer, said, stuck, text_of, placed}
 use Rattle.base.proofs.Room.{put_one, sets_append, placed_fits}
 use Rattle.base.proofs.Table.{every, and_left, and_right}
 use Rattle.base.proofs.Table as table
@@ -21,14 +21,15 @@ use Rattle.alphabets.specs.Best.{latin_first, latin_next, best, Spot, nowhere, a
 use Rattle.alphabets.specs.Runs.{run, through}
 use Rattle.alphabets.specs.Parts.{extent_of}
 use Rattle.alphabets.specs.Steps.{sized, extent_on, grid_value, grid_table, group, LatinRun}
-use Rattle.alphabets.specs.declared.parts.Extent.{Extent}
-use Rattle.alphabets.specs.declared.parts.Extent.TheVariants.{Takes, Halts, Long}
+use Rattle.alphabets.specs.Extent.{Extent, Takes, Halts, Long}
+use Rattle.alphabets.specs.declared.parts.Stop.{Stop}
+use Rattle.std.specs.Prelude.{Err}
 use Rattle.alphabets.proofs.GridLaws.{big_kind}
 use Rattle.alphabets.proofs.Back.{never, rest_good}
 use Rattle.alphabets.proofs.Shortest.{leave}
 use Rattle.alphabets.proofs.GroupLaws.{group_text, group_le, group_latin, group_none}
 use Rattle.alphabets.proofs.PartLaws.{takes_halts}
-use Rattle.alphabets.proofs.RunLaws.{through_length, Ended, ended, Putting, putting_start, putting_end, putting_room, putting_by}
+use Rattle.alphabets.proofs.RunLaws.{through_length, run_ended, run_stops, Putting, putting_start, putting_end, putting_room, putting_by}
 
 -- ---- the table of shapes
 abbrev number : Kind → ℕ
@@ -231,19 +232,19 @@ unfolding latin_next
 next_none d i h = rw (drop_of_length-le d h)
 
 -- ---- the loop that finds a group's end: behind `last` all characters are shared, up to i
-pub record Grouping (d : List ℕ) (from last i : ℕ) : Type 0 where
+pub record Grouping (d : List ℕ) (last i : ℕ) : Type 0 where
   pub low : last ≤ i
   pub high : i ≤ length d
-  pub whole : from + group (drop from d) ≡ last + group (drop last d)
+  pub whole : group d ≡ last + group (drop last d)
   pub same : (j : ℕ) → last ≤ j → j ≤ i → latin_next (drop j d) ≡ latin_next (drop i d)
 
-pub grouping_start : (d : List ℕ) (from : ℕ) → from ≤ length d → Grouping d from from from
-grouping_start d from h =
+pub grouping_start : (d : List ℕ) → Grouping d 0 0
+grouping_start d =
     record {
       low = omega arith;
-      high = h;
-      whole = refl;
-      same = λ j a b. let e : j ≡ from = omega arith in ap (λ (k : ℕ). latin_next (drop k d)) e;
+      high = omega arith;
+      whole = omega arith;
+      same = λ j a b. let e : j ≡ 0 = omega arith in ap (λ (k : ℕ). latin_next (drop k d)) e;
     }
 
 group_more : (d : List ℕ) (i : ℕ) → i < length d → latin_next (drop i d) ≡ true → group (drop i d) ≡ suc (group (drop (i + 1) d))
@@ -259,8 +260,8 @@ stretch d (suc n) a h q =
     let f : group (drop (a + 1) d) ≡ n + group (drop (a + 1 + n) d) = stretch d n (a + 1) (omega arith) (λ j b c. q j (omega arith) (omega arith)) in
     omega (arith, ap (λ (k : ℕ). group (drop k d)) z)
 
-module _ (d : List ℕ) (from last i : ℕ) (v : Grouping d from last i) where
-  pub grouping_latin : i < length d → kind (get_or d i 0) ≡ latin → Grouping d from (i + 1) (i + 1)
+module _ (d : List ℕ) (last i : ℕ) (v : Grouping d last i) where
+  pub grouping_latin : i < length d → kind (get_or d i 0) ≡ latin → Grouping d (i + 1) (i + 1)
   grouping_latin h k =
       let n : latin_next (drop i d) ≡ true = next_latin d i h k in
       let z : last + (i + 1 - last) ≡ i + 1 = omega (arith, v.low) in
@@ -272,7 +273,7 @@ module _ (d : List ℕ) (from last i : ℕ) (v : Grouping d from last i) where
         same = λ j a b. let f : j ≡ i + 1 = omega arith in ap (λ (l : ℕ). latin_next (drop l d)) f;
       }
 
-  pub grouping_common : i < length d → kind (get_or d i 0) ≡ common → Grouping d from last (i + 1)
+  pub grouping_common : i < length d → kind (get_or d i 0) ≡ common → Grouping d last (i + 1)
   grouping_common h k =
       record {
         low = omega (arith, v.low);
@@ -285,99 +286,142 @@ module _ (d : List ℕ) (from last i : ℕ) (v : Grouping d from last i) where
       go j a (yes q) b = v.same j a (omega arith) ∙ next_common d i h k
       go j a (no q) b = let f : j ≡ i + 1 = omega arith in ap (λ (l : ℕ). latin_next (drop l d)) f
 
-  pub grouping_end : latin_next (drop i d) ≡ false → last ≡ from + group (drop from d)
+  pub grouping_end : latin_next (drop i d) ≡ false → last ≡ group d
   grouping_end n =
       let z : group (drop last d) ≡ 0 = group_none (drop last d) (v.same last (omega arith) v.low ∙ n) in
       omega (arith, v.whole)
 
 -- ---- the loop along the characters that the Latin side takes
-pub latin_run_start : (d : List ℕ) (from : ℕ) → sized true (drop from d) ≡ extent_on (from - from) (from - from) (sized true (drop from d))
-latin_run_start d from = let z : from - from ≡ 0 = omega arith in rw z (onward_none (sized true (drop from d)))
+abbrev pub Along : List ℕ → ℕ → Type 0
+Along d i = sized true d ≡ extent_on i i (sized true (drop i d))
 
-module _ (d : List ℕ) (from i : ℕ) (low : from ≤ i) (h : i < length d) (v : sized true (drop from d) ≡ extent_on (i - from) (i - from) (sized true (drop i d))) where
-  one_more : sized true (get_or d i 0 ∷ drop (i + 1) d) ≡ extent_on 1 1 (sized true (drop (i + 1) d)) → sized true (drop from d) ≡ extent_on (i + 1 - from) (i + 1 - from) (sized true (drop (i + 1) d))
+pub along_start : (d : List ℕ) → Along d 0
+along_start d = onward_none (sized true d)
+
+module _ (d : List ℕ) (i : ℕ) (h : i < length d) (v : Along d i) where
+  one_more : sized true (get_or d i 0 ∷ drop (i + 1) d) ≡ extent_on 1 1 (sized true (drop (i + 1) d)) → Along d (i + 1)
   one_more e =
-      let z : i - from + 1 ≡ i + 1 - from = omega arith in
       v
-      ∙ ap (λ (b : List ℕ). extent_on (i - from) (i - from) (sized true b)) (cut d i h)
-      ∙ ap (extent_on (i - from) (i - from)) e
-      ∙ onward_onward (i - from) (i - from) 1 1 (sized true (drop (i + 1) d))
-      ∙ ap (λ (k : ℕ). extent_on k k (sized true (drop (i + 1) d))) z
+      ∙ ap (λ (b : List ℕ). extent_on i i (sized true b)) (cut d i h)
+      ∙ ap (extent_on i i) e
+      ∙ onward_onward i i 1 1 (sized true (drop (i + 1) d))
 
-  pub latin_run_latin : kind (get_or d i 0) ≡ latin → sized true (drop from d) ≡ extent_on (i + 1 - from) (i + 1 - from) (sized true (drop (i + 1) d))
-  latin_run_latin k = one_more (size_latin (get_or d i 0) (drop (i + 1) d) k)
+  pub along_latin : kind (get_or d i 0) ≡ latin → Along d (i + 1)
+  along_latin k = one_more (size_latin (get_or d i 0) (drop (i + 1) d) k)
 
-  pub latin_run_common : kind (get_or d i 0) ≡ common → sized true (drop from d) ≡ extent_on (i + 1 - from) (i + 1 - from) (sized true (drop (i + 1) d))
-  latin_run_common k = one_more (size_common (get_or d i 0) (drop (i + 1) d) k)
+  pub along_common : kind (get_or d i 0) ≡ common → Along d (i + 1)
+  along_common k = one_more (size_common (get_or d i 0) (drop (i + 1) d) k)
 
--- ---- the loop that measures: i characters are taken, marks apostrophes written, and the Russian side is next
-pub record Weighing (desk : List ℕ) (marks i : ℕ) : Type 0 where
-  pub long : i ≤ length desk
-  pub few : marks ≤ 2 * i
-  pub whole : extent_of (writes desk) ≡ extent_on i (i + marks) (sized false (drop i desk))
+-- ---- the loop that measures: all but the rest is taken, marks apostrophes written, and the Russian side is next
+pub record Weighing (desk rest : List ℕ) (marks : ℕ) : Type 0 where
+  pub long : length rest ≤ length desk
+  pub few : marks + 2 * length rest ≤ 2 * length desk
+  pub whole : extent_of (writes desk) ≡ extent_on (length desk - length rest) (length desk - length rest + marks) (sized false rest)
 
-pub weighing_start : (desk : List ℕ) → Weighing desk 0 0
+pub weighing_start : (desk : List ℕ) → Weighing desk desk 0
 unfolding writes
-weighing_start desk = record { long = omega arith; few = omega arith; whole = onward_none (sized false desk) }
+weighing_start desk =
+    let z : 0 ≡ length desk - length desk = omega arith in
+    let y : 0 ≡ length desk - length desk + 0 = omega arith in
+    record { long = omega arith; few = omega arith; whole = onward_none (sized false desk) ∙ ap (λ (i : ℕ). extent_on i 0 (sized false desk)) z ∙ ap (λ (n : ℕ). extent_on (length desk - length desk) n (sized false desk)) y }
 
-pub weighing_end : (desk : List ℕ) (marks i : ℕ) → Weighing desk marks i → length desk ≤ i → Takes (i + marks) ≡ extent_of (writes desk)
-unfolding best bad
-weighing_end desk marks i v h =
-    let z : i + marks + 0 ≡ i + marks = omega arith in
-    sym (v.whole ∙ ap (λ (b : List ℕ). extent_on i (i + marks) (sized false b)) (drop_of_length-le desk h) ∙ ap Takes z)
-
-module _ (desk : List ℕ) (marks i k : ℕ) (v : Weighing desk marks i) (r : k ≡ i + run grid_table 1 (drop i desk)) (w : Ended grid_table 1 desk k) where
-  -- the Russian run
-  pub weighing_run : Weighing desk marks k
-  weighing_run =
-      let n : ℕ = run grid_table 1 (drop i desk) in
-      let z : Extent = sized false (drop k desk) in
-      let a : i + n ≡ k = sym r in
-      let b : i + marks + n ≡ k + marks = omega arith in
+module _ {desk rest : List ℕ} {marks : ℕ} (v : Weighing desk rest marks) where
+  over_run : (r : ℕ) → r ≡ run grid_table 1 rest → Weighing desk (drop r rest) marks
+  over_run r e =
+      let n : ℕ = run grid_table 1 rest in
+      let i : ℕ = length desk - length rest in
+      let w : n ≤ length rest = (run_ended grid_table 1 rest).within in
+      let l : length (drop r rest) ≡ length rest - r = length-drop r rest in
+      let a : i + n ≡ length desk - length (drop r rest) = omega (arith, v.long) in
+      let b : i + marks + n ≡ length desk - length (drop r rest) + marks = omega (arith, v.long) in
       record {
-        long = w.within;
+        long = omega (arith, v.long);
         few = omega (arith, v.few);
         whole =
             v.whole
-            ∙ ap (extent_on i (i + marks)) (run_size (drop i desk))
-            ∙ ap (λ (b : List ℕ). extent_on i (i + marks) (extent_on n n (sized false b))) (drop-drop n i desk ∙ ap (λ (m : ℕ). drop m desk) a)
-            ∙ onward_onward i (i + marks) n n z
-            ∙ ap (λ (m : ℕ). extent_on m (i + marks + n) z) a
-            ∙ ap (λ (m : ℕ). extent_on k m z) b;
+            ∙ ap (extent_on i (i + marks)) (run_size rest)
+            ∙ onward_onward i (i + marks) n n (sized false (drop n rest))
+            ∙ ap (λ (m : ℕ). extent_on m (i + marks + n) (sized false (drop n rest))) a
+            ∙ ap (λ (m : ℕ). extent_on (length desk - length (drop r rest)) m (sized false (drop n rest))) b
+            ∙ ap (λ (m : ℕ). extent_on (length desk - length (drop r rest)) (length desk - length (drop r rest) + marks) (sized false (drop m rest))) (sym e);
       }
 
-module _ (desk : List ℕ) (marks k : ℕ) (v : Weighing desk marks k) (h : k < length desk) where
-  pub weighed_bad : kind (get_or desk k 0) ≡ unwritable → Halts k ≡ extent_of (writes desk)
-  weighed_bad e =
-      let z : k + 0 ≡ k = omega arith in
-      sym (v.whole ∙ ap (λ (b : List ℕ). extent_on k (k + marks) (sized false b)) (cut desk k h) ∙ ap (extent_on k (k + marks)) (size_unwritable false (get_or desk k 0) (drop (k + 1) desk) e) ∙ ap Halts z)
+  at_end : length rest < 1 → Takes (length desk + marks) ≡ extent_of (writes desk)
+  unfolding best bad
+  at_end h =
+      let z : length desk - length rest + marks + 0 ≡ length desk + marks = omega (arith, v.long) in
+      let g : length rest ≤ 0 = omega arith in let d : drop 0 rest ≡ [] = drop_of_length-le rest g in
+      sym (v.whole ∙ ap (λ (b : List ℕ). extent_on (length desk - length rest) (length desk - length rest + marks) (sized false b)) d ∙ ap Takes z)
 
-  -- a Latin letter, and the characters that the Latin side takes behind it: two apostrophes
-  pub weighing_latin : (r : ℕ) → kind (get_or desk k 0) ≡ latin → LatinRun desk (k + 1) r → Weighing desk (marks + 2) r
-  weighing_latin r e w =
-      let x : ℕ = get_or desk k 0 in
-      let xs : List ℕ = drop (k + 1) desk in
-      let z : Extent = sized false (drop r desk) in
-      let n : ℕ = r - (k + 1) in
-      let a : k + 0 + 1 + n + 0 ≡ r = omega (arith, w.low) in
-      let b : k + marks + 1 + 1 + n + 1 ≡ r + (marks + 2) = omega (arith, w.low) in
-      record {
-        long = w.high;
-        few = omega (arith, v.few, w.low);
-        whole =
-            v.whole
-            ∙ ap (λ (b : List ℕ). extent_on k (k + marks) (sized false b)) (cut desk k h)
-            ∙ ap (extent_on k (k + marks)) (size_opened x xs e)
-            ∙ onward_onward k (k + marks) 0 1 (sized true (x ∷ xs))
-            ∙ ap (extent_on (k + 0) (k + marks + 1)) (size_latin x xs e)
-            ∙ onward_onward (k + 0) (k + marks + 1) 1 1 (sized true xs)
-            ∙ ap (extent_on (k + 0 + 1) (k + marks + 1 + 1)) w.sizes
-            ∙ onward_onward (k + 0 + 1) (k + marks + 1 + 1) n n (sized true (drop r desk))
-            ∙ ap (extent_on (k + 0 + 1 + n) (k + marks + 1 + 1 + n)) (size_leave (drop r desk) w.ends)
-            ∙ onward_onward (k + 0 + 1 + n) (k + marks + 1 + 1 + n) 0 1 z
-            ∙ ap (λ (m : ℕ). extent_on m (k + marks + 1 + 1 + n + 1) z) a
-            ∙ ap (λ (m : ℕ). extent_on r m z) b;
-      }
+  module _ (h : 0 < length rest) where
+    here : drop 0 rest ≡ get_or rest 0 0 ∷ drop 1 rest
+    here = cut rest 0 h
+
+    at_bad : kind (get_or rest 0 0) ≡ unwritable → Halts (length desk - length (drop 1 rest) - 1) ≡ extent_of (writes desk)
+    at_bad e =
+        let l : length (drop 1 rest) ≡ length rest - 1 = length-drop 1 rest in
+        let z : length desk - length rest + 0 ≡ length desk - length (drop 1 rest) - 1 = omega (arith, v.long) in
+        sym
+        (v.whole ∙ ap (λ (b : List ℕ). extent_on (length desk - length rest) (length desk - length rest + marks) (sized false b)) here
+        ∙ ap (extent_on (length desk - length rest) (length desk - length rest + marks)) (size_unwritable false (get_or rest 0 0) (drop 1 rest) e) ∙ ap Halts z)
+
+    -- a Latin letter, and the characters that the Latin side takes behind it: two apostrophes
+    at_latin : (r : ℕ) → kind (get_or rest 0 0) ≡ latin → LatinRun (drop 1 rest) r → Weighing desk (drop r (drop 1 rest)) (marks + 2)
+    at_latin r e w =
+        let x : ℕ = get_or rest 0 0 in
+        let xs : List ℕ = drop 1 rest in
+        let i : ℕ = length desk - length rest in
+        let z : Extent = sized false (drop r xs) in
+        let l : length (drop 1 rest) ≡ length rest - 1 = length-drop 1 rest in
+        let m : length (drop r (drop 1 rest)) ≡ length (drop 1 rest) - r = length-drop r (drop 1 rest) in
+        let a : i + 0 + 1 + r + 0 ≡ length desk - length (drop r (drop 1 rest)) = omega (arith, v.long, w.high) in
+        let b : i + marks + 1 + 1 + r + 1 ≡ length desk - length (drop r (drop 1 rest)) + (marks + 2) = omega (arith, v.long, w.high) in
+        record {
+          long = omega (arith, v.long, w.high);
+          few = omega (arith, v.few, w.high);
+          whole =
+              v.whole
+              ∙ ap (λ (b : List ℕ). extent_on i (i + marks) (sized false b)) here
+              ∙ ap (extent_on i (i + marks)) (size_opened x xs e)
+              ∙ onward_onward i (i + marks) 0 1 (sized true (x ∷ xs))
+              ∙ ap (extent_on (i + 0) (i + marks + 1)) (size_latin x xs e)
+              ∙ onward_onward (i + 0) (i + marks + 1) 1 1 (sized true xs)
+              ∙ ap (extent_on (i + 0 + 1) (i + marks + 1 + 1)) w.sizes
+              ∙ onward_onward (i + 0 + 1) (i + marks + 1 + 1) r r (sized true (drop r xs))
+              ∙ ap (extent_on (i + 0 + 1 + r) (i + marks + 1 + 1 + r)) (size_leave (drop r xs) w.ends)
+              ∙ onward_onward (i + 0 + 1 + r) (i + marks + 1 + 1 + r) 0 1 z
+              ∙ ap (λ (j : ℕ). extent_on j (i + marks + 1 + 1 + r + 1) z) a
+              ∙ ap (λ (j : ℕ). extent_on (length desk - length (drop r (drop 1 rest))) j z) b;
+        }
+
+-- a turn, by the table lent: over the Russian run, and what is behind it
+module _ {desk rest : List ℕ} {marks : ℕ} (v : Weighing desk rest marks) {t : List ℕ} {r : ℕ} {behind : List ℕ} (m : t ≡ grid_table) (e : r ≡ run t 1 rest) (d : behind ≡ drop r rest) where
+  far : r ≡ run grid_table 1 rest
+  far = e ∙ ap (λ (u : List ℕ). run u 1 rest) m
+
+  ran : Weighing desk behind marks
+  ran = rw d (over_run v r far)
+
+  pub weighing_end : length behind < 1 → Takes (length desk + marks) ≡ extent_of (writes desk)
+  weighing_end h = at_end ran h
+
+  -- by the value of the byte behind it
+  module _ (h : 0 < length behind) {more : List ℕ} (f : more ≡ drop 1 behind) {y : ℕ} (g : y ≡ get_or t (get_or behind 0 0) 0) where
+    value_is : y ≡ get_or grid_table (get_or behind 0 0) 0
+    value_is = g ∙ ap (λ (u : List ℕ). get_or u (get_or behind 0 0) 0) m
+
+    pub weighed_bad : y ≡ 0 → Halts (length desk - length more - 1) ≡ extent_of (writes desk)
+    weighed_bad z = rw f (at_bad ran h (is_unwritable (get_or behind 0 0) (sym value_is ∙ z)))
+
+    pub weighing_latin : (y ≡ 0 → ⊥) → (k : ℕ) {left : List ℕ} → LatinRun more k → left ≡ drop k more → Weighing desk left (marks + 2)
+    weighing_latin z k w q =
+        let s : get_or grid_table (get_or behind 0 0) 0 ≤ 1 = subst (λ (b : List ℕ). 0 < length b → get_or grid_table (get_or b 0 0) 0 ≤ 1) (sym d) (run_stops grid_table 1 rest r far) h in
+        let l : get_or grid_table (get_or behind 0 0) 0 ≡ 1 = go (get_or grid_table (get_or behind 0 0) 0) s (λ x. z (value_is ∙ x)) in
+        rw (q, f) (at_latin ran h k (is_latin (get_or behind 0 0) l) (subst (λ (b : List ℕ). LatinRun b k) f w))
+      where
+        go : (x : ℕ) → x ≤ 1 → (x ≡ 0 → ⊥) → x ≡ 1
+        go zero h n = absurd (n refl)
+        go (suc x) h n = omega arith
 
 -- what was measured
 pub record Measured (desk : List ℕ) (n : ℕ) : Type 0 where
@@ -393,78 +437,114 @@ measured desk n e = go (bad desk) refl e
     go nowhere b e = record { fine = b; is = rw b; count = cc }
     go (at k) b e = absurd (takes_halts n k e)
 
--- ---- the loop that writes: i characters are taken, and what is written for them is put
-pub record Writing (desk out₀ out : List ℕ) (from n i : ℕ) : Type 0 where
-  pub long : i ≤ length desk
-  pub is : Putting out₀ out from n (best false desk) (best false (drop i desk))
+-- nothing is put where it stops
+pub unmeasured : (a : Answer) (e : Stop) → Err e ≡ extent_of a → text_of a ≡ []
+unmeasured (said t) e h = absurd cc
+unmeasured (stuck k) e h = refl
 
-pub writing_start : (desk out : List ℕ) (from : ℕ) → from + length (best false desk) ≤ length out → Writing desk out out from from 0
-writing_start desk out from h = record { long = omega arith; is = putting_start out from (best false desk) h }
+-- ---- the loop that writes: what stands before the rest is put, and the rest can be written
+pub record Writing (desk out₀ out : List ℕ) (from n : ℕ) (rest : List ℕ) : Type 0 where
+  pub fine : bad rest ≡ nowhere
+  pub is : Putting out₀ out from n (best false desk) (best false rest)
 
--- in a text that can be written every character can be
-all_fine : (d : List ℕ) (i : ℕ) → bad d ≡ nowhere → i < length d → kind (get_or d i 0) ≡ unwritable → ⊥
+pub writing_start : (desk out : List ℕ) (from : ℕ) → (bad desk ≡ nowhere) × (from + length (best false desk) ≤ length out) → Writing desk out out from from desk
+writing_start desk out from h = record { fine = h.0; is = putting_start out from (best false desk) h.1 }
+
+-- in a text that can be written every character can be, and what is left of it can be written
+all_fine : (d : List ℕ) → bad d ≡ nowhere → 0 < length d → kind (get_or d 0 0) ≡ unwritable → ⊥
 unfolding bad
-all_fine [] i b h e = omega arith
-all_fine (x ∷ xs) zero b h e = never 0 (rw e at b)
-all_fine (x ∷ xs) (suc i) b h e = all_fine xs i (rest_good (kind x) (bad xs) b) (omega arith) e
+all_fine [] b h e = omega arith
+all_fine (x ∷ xs) b h e = never 0 (rw e at b)
 
-module _ {desk out₀ out : List ℕ} {from n i : ℕ} (v : Writing desk out₀ out from n i) where
-  pub writing_end : length desk ≤ i → out ≡ sets out₀ from (best false desk)
+left_fine : (d : List ℕ) (k : ℕ) → bad d ≡ nowhere → bad (drop k d) ≡ nowhere
+unfolding bad
+left_fine d zero b = b
+left_fine [] (suc k) b = b
+left_fine (x ∷ xs) (suc k) b = left_fine xs k (rest_good (kind x) (bad xs) b)
+
+module _ {desk out₀ out : List ℕ} {from n : ℕ} {rest : List ℕ} (v : Writing desk out₀ out from n rest) where
+  pub writing_end : length rest ≡ 0 → out ≡ sets out₀ from (best false desk)
   unfolding best
-  writing_end h = putting_end v.is (ap (best false) (drop_of_length-le desk h))
+  writing_end h = putting_end v.is (let g : length rest ≤ 0 = omega arith in let d : drop 0 rest ≡ [] = drop_of_length-le rest g in ap (best false) d)
 
-  -- the Russian run
-  module _ (k : ℕ) (e : k ≡ i + run grid_table 1 (drop i desk)) where
-    over_run : best false (drop i desk) ≡ through grid_table false (drop i desk) ++ best false (drop k desk)
-    over_run = run_text (drop i desk) ∙ ap (λ (b : List ℕ). through grid_table false (drop i desk) ++ best false b) (drop-drop (run grid_table 1 (drop i desk)) i desk ∙ ap (λ (j : ℕ). drop j desk) (sym e))
+  pub run_room : {t : List ℕ} → t ≡ grid_table → n + length (through t false rest) ≤ length out
+  run_room m = rw m (putting_room v.is (through grid_table false rest) _ (run_text rest))
 
-    pub run_step : Writing desk out₀ (sets out n (through grid_table false (drop i desk))) from (n + (k - i)) k
-    run_step =
-        record {
-          long = (ended grid_table 1 desk i k v.long e).within;
-          is = putting_by v.is (through grid_table false (drop i desk)) (best false (drop k desk)) over_run (n + (k - i)) (omega (arith, through_length grid_table false (drop i desk)));
-        }
+-- a turn, by the table lent: the Russian run is put, and the Latin group behind it
+module _ {desk out₀ out : List ℕ} {from n : ℕ} {rest : List ℕ} (v : Writing desk out₀ out from n rest) {t : List ℕ} (m : t ≡ grid_table)
+    {r : ℕ} {after : List ℕ} (g : (r ≡ run t 1 rest) × (after ≡ sets out n (through t false rest))) where
+  e : (r ≡ run grid_table 1 rest) × (after ≡ sets out n (through grid_table false rest))
+  e = subst (λ (u : List ℕ). (r ≡ run u 1 rest) × (after ≡ sets out n (through u false rest))) m g
 
-  pub run_room : n + length (through grid_table false (drop i desk)) ≤ length out
-  run_room = putting_room v.is (through grid_table false (drop i desk)) _ (over_run (i + run grid_table 1 (drop i desk)) refl)
+  over_text : Writing desk out₀ after from (n + r) (drop r rest)
+  over_text =
+      record {
+        fine = left_fine rest r v.fine;
+        is = rw (e.1, e.0) (putting_by v.is (through grid_table false rest) _ (run_text rest) (n + run grid_table 1 rest) (omega (arith, through_length grid_table false rest)));
+      }
 
-  -- the Latin group behind it
-  module _ (b : bad desk ≡ nowhere) (h : i < length desk) (c : get_or grid_table (get_or desk i 0) 0 ≤ 1) where
-    is_here : kind (get_or desk i 0) ≡ latin
-    is_here = go (dec_lt (get_or grid_table (get_or desk i 0) 0) 1)
-      where
-        go : Dec (get_or grid_table (get_or desk i 0) 0 < 1) → kind (get_or desk i 0) ≡ latin
-        go (yes z) = absurd (all_fine desk i b h (is_unwritable (get_or desk i 0) (omega arith)))
-        go (no z) = is_latin (get_or desk i 0) (omega arith)
+  pub run_fits : (n + r ≤ length out₀) × (r ≤ length rest)
+  run_fits = (omega (arith, over_text.is.room, over_text.is.kept), omega (arith, e.0, (run_ended grid_table 1 rest).within))
 
-    module _ (e : ℕ) (q : e ≡ i + group (drop i desk)) where
-      pub group_within : e ≤ length desk
-      group_within = omega (arith, group_le (drop i desk), length-drop i desk)
+  module _ {behind : List ℕ} (d : behind ≡ drop r rest) where
+    put : Writing desk out₀ after from (n + r) behind
+    put = rw d over_text
 
-      pub group_behind : i < e
-      group_behind = omega (arith, ap group (cut desk i h), group_latin (get_or desk i 0) (drop (i + 1) desk) is_here)
+    pub run_end : {x : Bool} → x ≡ eqb (length behind) 0 → x ≡ true → after ≡ sets out₀ from (best false desk)
+    run_end w z = writing_end put (eqb-true (length behind) 0 (sym w ∙ z))
 
-      abbrev quoted : List ℕ
-      quoted = 39 ∷ (take (e - i) (drop i desk) ++ 39 ∷ [])
+    module _ {x : Bool} (w : x ≡ eqb (length behind) 0) (z : x ≡ false) where
+      h : 0 < length behind
+      h = omega (arith, eqb-false (length behind) 0 (sym w ∙ z))
 
-      quoted_length : length quoted ≡ e - i + 2
-      quoted_length = omega (arith, length-take-le (e - i) (drop i desk) (omega (arith, group_le (drop i desk))), length-append (take (e - i) (drop i desk)) (39 ∷ []))
+      low : get_or grid_table (get_or behind 0 0) 0 ≤ 1
+      low = subst (λ (b : List ℕ). 0 < length b → get_or grid_table (get_or b 0 0) 0 ≤ 1) (sym d) (run_stops grid_table 1 rest r e.0) h
 
-      over_group : best false (drop i desk) ≡ quoted ++ best false (drop e desk)
-      over_group =
-          let g : ℕ = group (drop i desk) in
-          let f : g ≡ e - i = omega arith in
-          ap (best false) (cut desk i h) ∙ opened (get_or desk i 0) (drop (i + 1) desk) is_here
-          ∙ ap (λ (d : List ℕ). 39 ∷ best true d) (sym (cut desk i h))
-          ∙ ap (λ (u : List ℕ). 39 ∷ u) (group_text (drop i desk) ∙ sym (append_assoc (take g (drop i desk)) (39 ∷ []) (best false (drop g (drop i desk)))))
-          ∙ ap (λ (d : List ℕ). (39 ∷ (take g (drop i desk) ++ 39 ∷ [])) ++ best false d) (drop-drop g i desk ∙ ap (λ (j : ℕ). drop j desk) (sym q))
-          ∙ ap (λ (j : ℕ). (39 ∷ (take j (drop i desk) ++ 39 ∷ [])) ++ best false (drop e desk)) f
+      is_here : kind (get_or behind 0 0) ≡ latin
+      is_here = go (dec_lt (get_or grid_table (get_or behind 0 0) 0) 1)
+        where
+          go : Dec (get_or grid_table (get_or behind 0 0) 0 < 1) → kind (get_or behind 0 0) ≡ latin
+          go (yes z) = absurd (all_fine behind put.fine h (is_unwritable (get_or behind 0 0) (omega arith)))
+          go (no z) = is_latin (get_or behind 0 0) (omega (arith, low))
 
-      pub group_room : n + (e - i + 2) ≤ length out
-      group_room = omega (arith, quoted_length, putting_room v.is quoted (best false (drop e desk)) over_group)
+      module _ {k : ℕ} (q : k ≡ group behind) where
+        pub group_within : k ≤ length behind
+        group_within = omega (arith, group_le behind)
 
-      pub group_step : Writing desk out₀ (sets out n (39 ∷ (take (e - i) (drop i desk) ++ 39 ∷ []))) from (n + (e - i + 2)) e
-      group_step = record { long = group_within; is = putting_by v.is quoted (best false (drop e desk)) over_group (n + (e - i + 2)) (omega (arith, quoted_length)) }
+        pub group_behind : 0 < k
+        group_behind = let z : group (drop 0 behind) ≡ group (get_or behind 0 0 ∷ drop 1 behind) = ap group (cut behind 0 h) in omega (arith, group_latin (get_or behind 0 0) (drop 1 behind) is_here)
+
+        abbrev quoted : List ℕ
+        quoted = 39 ∷ (take k behind ++ 39 ∷ [])
+
+        quoted_length : length quoted ≡ k + 2
+        quoted_length = omega (arith, length-take-le k behind (omega (arith, group_le behind)), length-append (take k behind) (39 ∷ []))
+
+        over_group : best false behind ≡ quoted ++ best false (drop k behind)
+        over_group =
+            let g : ℕ = group behind in
+            let o : best false (drop 0 behind) ≡ 39 ∷ best true (get_or behind 0 0 ∷ drop 1 behind) = ap (best false) (cut behind 0 h) ∙ opened (get_or behind 0 0) (drop 1 behind) is_here in
+            let t : best true (get_or behind 0 0 ∷ drop 1 behind) ≡ best true (drop 0 behind) = ap (best true) (sym (cut behind 0 h)) in
+            o ∙ ap (λ (u : List ℕ). 39 ∷ u) t
+            ∙ ap (λ (u : List ℕ). 39 ∷ u) (group_text behind ∙ sym (append_assoc (take g behind) (39 ∷ []) (best false (drop g behind))))
+            ∙ ap (λ (j : ℕ). (39 ∷ (take j behind ++ 39 ∷ [])) ++ best false (drop j behind)) (sym q)
+
+        module _ {part : List ℕ} (f : part ≡ take k behind) where
+          part_length : length part ≡ k
+          part_length = ap length f ∙ length-take-le k behind group_within
+
+          pub group_room : n + r + (length part + 2) ≤ length after
+          group_room = omega (arith, part_length, quoted_length, putting_room put.is quoted (best false (drop k behind)) over_group)
+
+          pub group_fits : n + r + (length part + 2) ≤ length out₀
+          group_fits = omega (arith, group_room, put.is.kept)
+
+          pub group_step : {left last : List ℕ} → left ≡ drop k behind → last ≡ sets after (n + r) (39 ∷ (part ++ 39 ∷ [])) → Writing desk out₀ last from (n + r + (length part + 2)) left
+          group_step g l =
+              record {
+                fine = rw g (left_fine behind k put.fine);
+                is = rw (l, g, f) (putting_by put.is quoted (best false (drop k behind)) over_group (n + r + (length (take k behind) + 2)) (omega (arith, quoted_length, length-take-le k behind group_within)));
+              }
 
 -- ---- a part between two apostrophes
 module _ (out part put : List ℕ) (n : ℕ) (h : n + (length part + 2) ≤ length out) (e : put ≡ placed (set out n 39) (n + 1) part) where

@@ -1,6 +1,7 @@
 pub mod Grid
 pub mod Bank
 pub mod Best
+pub mod Extent
 pub mod Runs
 pub mod Pieces
 pub mod Parts

@@ -1,15 +1,12 @@
 -- A text inside larger room: how long the bank text for a desk text is, and what is put from a place on for it and for a piece of a bank text (T4-T7, T10, T11, K6). Assumes nothing.
-use Rattle.std.specs.Prelude.{ℕ, ◌≤◌, ◌≡◌, List, [], ◌∷◌, Bool, not, eqb, ltb, length, get_or}
+use Rattle.std.specs.Prelude.{ℕ, ◌≤◌, ◌≡◌, List, [], ◌∷◌, Bool, not, eqb, ltb, length, get_or, Ok}
 use Rattle.base.specs.Choice.{pick}
 use Rattle.base.specs.Calls.{Answer, said, stuck, text_of}
 use Rattle.alphabets.specs.Best.{writing}
 use Rattle.alphabets.specs.Sentences.{Shortest, Unwritable, can_say, FirstFails}
 use Rattle.alphabets.specs.Runs.{floor_of, heard_of}
-use Rattle.alphabets.specs.Pieces.{piece_in}
-use Rattle.alphabets.specs.declared.pieces.Piece.{Piece}
-use Rattle.alphabets.specs.declared.pieces.Piece.TheVariants.{Read, Stops}
-use Rattle.alphabets.specs.declared.parts.Extent.{Extent}
-use Rattle.alphabets.specs.declared.parts.Extent.TheVariants.{Takes, Halts, Long}
+use Rattle.alphabets.specs.Pieces.{Piece, Stops, piece_in}
+use Rattle.alphabets.specs.Extent.{Extent, Takes, Halts, Long}
 use Rattle.base.specs.Quoted.{ascii}
 
 -- how long a text is, or where it stops
@@ -50,7 +47,7 @@ spoken t s (x ∷ xs) =
 
 -- what is put for a piece: none where it stops
 abbrev pub unless_stops : Piece → List ℕ → List ℕ
-unless_stops (Read n s) u = u
+unless_stops (Ok p) u = u
 unless_stops (Stops k) u = []
 
 unfoldable pub piece_text : List ℕ → Bool → List ℕ → List ℕ

@@ -1,16 +1,24 @@
 -- Only the code's way needs this. A bank text read in pieces by a lent table, and its first characters (T4-T7). Assumes nothing.
-use Rattle.std.specs.Prelude.{ℕ, zero, suc, ◌+◌, List, [], ◌∷◌, Bool, true, false, not, eqb, ltb, get_or, drop}
+use Rattle.std.specs.Prelude.{ℕ, zero, suc, ◌+◌, List, [], ◌∷◌, Bool, not, eqb, ltb, get_or, drop, Result, Ok, Err}
 use Rattle.base.specs.Choice.{pick}
 use Rattle.base.specs.Calls.{Answer, said, stuck}
 use Rattle.alphabets.specs.Runs.{floor_of, heard_of}
-use Rattle.alphabets.specs.declared.pieces.Piece.{Piece}
-use Rattle.alphabets.specs.declared.pieces.Piece.TheVariants.{Read, Stops}
-use Rattle.alphabets.specs.declared.pieces.Character.{Character}
+use Rattle.alphabets.specs.declared.pieces.Heard.{Heard}
 use Rattle.base.specs.Quoted.{ascii}
+
+-- what a piece comes to: how many characters it has and the side behind it, or the place where it stops
+abbrev pub Piece : Type 0
+Piece = Result Heard ℕ
+
+abbrev pub Read : ℕ → Bool → Piece
+Read n s = Ok (record { units = n; latin = s })
+
+pattern abbrev pub Stops : ℕ → Piece
+Stops k = Err k
 
 -- a piece behind i bytes with n characters
 abbrev pub piece_after : ℕ → ℕ → Piece → Piece
-piece_after i n (Read m s) = Read (n + m) s
+piece_after i n (Ok p) = Read (n + p.units) p.latin
 piece_after i n (Stops k) = Stops (i + k)
 
 unfoldable pub piece_in : List ℕ → Bool → List ℕ → Piece
@@ -21,16 +29,20 @@ piece_in t s (x ∷ xs) =
 
 -- a piece behind any piece of n bytes
 abbrev pub piece_on : ℕ → Piece → (Bool → Piece) → Piece
-piece_on n (Read m s) rest = piece_after n m (rest s)
+piece_on n (Ok p) rest = piece_after n p.units (rest p.latin)
 piece_on n (Stops k) rest = Stops k
 
 -- the answer, where the piece is the whole text of n bytes and stands for u: it must end on the Russian side
 abbrev pub whole : ℕ → Piece → List ℕ → Answer
-whole n (Read m false) u = said u
-whole n (Read m true) u = stuck n
+whole n (Ok p) u = pick p.latin (stuck n) (said u)
 whole n (Stops k) u = stuck k
 
 -- the first character: what it stands for, the place behind it and the side there; 0 where there is none, the place where the text stops, the side there
+pub record Character : Type 0 where
+  pub value : ℕ
+  pub next : ℕ
+  pub latin : Bool
+
 abbrev pub character_after : ℕ → Character → Character
 character_after i r = record { value = r.value; next = i + r.next; latin = r.latin }
 

@@ -4,8 +4,7 @@ use Rattle.std.specs.Prelude.{ℕ, ◌≤◌, ◌<◌, ◌≡◌, Bool, true, fa
 use Rattle.base.specs.Choice.{pick, all}
 use Rattle.base.specs.Bytes.{byte, xset}
 use Rattle.base.specs.Calls.{said}
-use Rattle.base.specs.declared.Outcome.{Outcome}
-use Rattle.base.specs.declared.Outcome.TheVariants.{Done, Refused}
+use Rattle.base.specs.Verdicts.{Outcome, Done, Refused}
 use Rattle.alphabets.specs.Grid.{Kind, unwritable, russian, latin, common, kind, character}
 use Rattle.alphabets.specs.Bank.{reading, quoted}
 use Rattle.alphabets.specs.Text.{bank_limit, desk_limit}

@@ -1,12 +1,11 @@
 -- Only the code's way needs this. Words of the contracts of private functions, and the tables by which a bank text is read and a desk text written. Assumes nothing.
-use Rattle.std.specs.Prelude.{ℕ, suc, ◌+◌, ◌-◌, ◌≤◌, ◌≡◌, List, [], ◌∷◌, Bool, true, false, ◌&&◌, eqb, length, get_or, drop}
+use Rattle.std.specs.Prelude.{ℕ, suc, ◌+◌, ◌≤◌, ◌≡◌, List, [], ◌∷◌, Bool, true, false, ◌&&◌, eqb, length, get_or, drop}
 use Rattle.base.specs.Choice.{pick}
 use Rattle.base.specs.Bytes.{letter, values}
 use Rattle.alphabets.specs.Grid.{Kind, unwritable, russian, latin, common, grid, kind, character}
 use Rattle.alphabets.specs.Best.{latin_next, best, bad, or_stuck}
 use Rattle.alphabets.specs.Parts.{extent_of}
-use Rattle.alphabets.specs.declared.parts.Extent.{Extent}
-use Rattle.alphabets.specs.declared.parts.Extent.TheVariants.{Takes, Halts, Long}
+use Rattle.alphabets.specs.Extent.{Extent, Takes, Halts, Long}
 use Rattle.base.specs.Quoted.{ascii}
 
 -- ---- a bank text: 0 for the apostrophe and outside the x set, 1 for a letter that only the Latin side reads, else what the Russian side reads
@@ -43,9 +42,8 @@ unfoldable pub group : List ℕ → ℕ
 group [] = 0
 group (x ∷ xs) = pick (latin_next (x ∷ xs)) (suc (group xs)) 0
 
--- from one place to another, characters that the Latin side takes, and no Latin character next behind them
-pub record LatinRun (d : List ℕ) (from r : ℕ) : Type 0 where
-  pub low : from ≤ r
+-- characters at the front that the Latin side takes, and no Latin character next behind them
+pub record LatinRun (d : List ℕ) (r : ℕ) : Type 0 where
   pub high : r ≤ length d
-  pub sizes : sized true (drop from d) ≡ extent_on (r - from) (r - from) (sized true (drop r d))
+  pub sizes : sized true d ≡ extent_on r r (sized true (drop r d))
   pub ends : latin_next (drop r d) ≡ false

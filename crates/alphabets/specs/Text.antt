@@ -1,14 +1,11 @@
 -- What the calls for a text alone come to (T13, O3): 1 over the limit, 14 or 15 where the text stops, 17 without room, else the text. Assumes nothing.
-use Rattle.std.specs.Prelude.{ℕ, ◌≤◌, List, [], ◌∷◌, Bool, ltb}
+use Rattle.std.specs.Prelude.{ℕ, ◌≤◌, List, [], ◌∷◌, Bool, ltb, Err}
 use Rattle.base.specs.Choice.{pick}
 use Rattle.base.specs.Calls.{Answer, text_of, long, stopped, short, Gives}
-use Rattle.base.specs.declared.Verdict.{Verdict}
-use Rattle.base.specs.declared.Outcome.{Outcome}
-use Rattle.base.specs.declared.Outcome.TheVariants.{Done, Refused}
+use Rattle.base.specs.Verdicts.{Verdict, Outcome, Done, Refused}
 use Rattle.alphabets.specs.Bank.{reading}
 use Rattle.alphabets.specs.Best.{writing}
-use Rattle.alphabets.specs.declared.parts.Extent.{Extent}
-use Rattle.alphabets.specs.declared.parts.Extent.TheVariants.{Takes, Halts, Long}
+use Rattle.alphabets.specs.Extent.{Extent, Takes, Halts, Long}
 
 -- the longest desk text and the longest bank text that a call for a text alone takes
 abbrev pub desk_limit : ℕ
@@ -30,7 +27,7 @@ WrittenTo sign desk out r after = Gives (text_rules desk_limit 15 desk (writing 
 -- its numbers are small: an answer fits one word (K8)
 abbrev pub Small : Outcome → Type 0
 Small (Done n) = n ≤ 10000
-Small (Refused k p) = (k ≤ 17) × (p ≤ 10000)
+Small (Err r) = (r.number ≤ 17) × (r.place ≤ 10000)
 
 -- a call's answer, by how long its text is, or where it stops, and the room
 abbrev pub ending_of : ℕ → Extent → ℕ → Outcome

@@ -15,29 +15,29 @@ ghost use Rattle.alphabets.specs.Best.{writes};
 ghost use Rattle.alphabets.specs.Parts.{extent_of, extent, written};
 ghost use Rattle.alphabets.specs.Text.{ReadTo, WrittenTo, ending_of};
 
-use base::Outcome;
-use parts::{Extent, fill_piece, fits, put_plain};
-use pieces::{Piece, back_table, read_piece};
-use writing::{fill_desk, grid_table, measure_desk};
+use base::{Outcome, Refusal};
+use parts::{Extent, Stop, fill_piece, fits, put_plain};
+use pieces::{back_table, read_piece};
+use writing::Grid;
 
 // A call's answer, by how long its text is, or where it stops, and the room.
 fn ending(number: u32, size: Extent, room: usize) -> Outcome
     ensures { result ≡ ending_of number size room }
 {
     match size {
-        Extent::Halts(k) => Outcome::Refused { number, place: k },
-        Extent::Long => Outcome::Refused {
+        Err(Stop::At(k)) => Err(Refusal { number, place: k }),
+        Err(Stop::Long) => Err(Refusal {
             number: 1,
             place: 10000,
-        },
-        Extent::Takes(n) => {
+        }),
+        Ok(n) => {
             if room < n {
-                return Outcome::Refused {
+                return Err(Refusal {
                     number: 17,
                     place: n,
-                };
+                });
             }
-            Outcome::Done(n)
+            Ok(n)
         }
     }
 }
@@ -47,19 +47,14 @@ fn put_whole(bank: &[u8], out: &mut [u8]) -> Extent
     ensures { (result ≡ extent_of (reads false bank.now)) × (out.new ≡ placed out.old 0 (text_of (reads false bank.now))) }
 {
     let back = back_table();
-    match read_piece(&back, false, bank) {
-        Piece::Stops(k) => Extent::Halts(k),
-        Piece::Read { units, latin } => {
-            if latin {
-                return Extent::Halts(bank.len());
-            }
-            if !fits(out.len(), 0, units) {
-                return Extent::Takes(units);
-            }
-            fill_piece(&back, false, bank, out, 0);
-            Extent::Takes(units)
-        }
+    let heard = read_piece(&back, false, bank).map_err(Stop::At)?;
+    if heard.latin {
+        return Err(Stop::At(bank.len()));
     }
+    if fits(out.len(), 0, heard.units) {
+        fill_piece(&back, false, bank, out, 0);
+    }
+    Ok(heard.units)
 }
 
 // What a bank text says.
@@ -67,18 +62,16 @@ pub fn read_text(sign: bool, bank: &[u8], out: &mut [u8]) -> Outcome
     ensures { ReadTo sign bank.now out.old result out.new }
 {
     if bank.len() > 10000 {
-        return Outcome::Refused {
+        return Err(Refusal {
             number: 1,
             place: 10000,
-        };
+        });
     }
     let room = out.len();
     if sign {
-        let said = put_whole(bank, out);
-        return ending(14, said, room);
+        return ending(14, put_whole(bank, out), room);
     }
-    let plain = put_plain(bank, out, 0);
-    ending(14, plain, room)
+    ending(14, put_plain(bank, out, 0), room)
 }
 
 // The shortest bank text, measured first.
@@ -86,16 +79,12 @@ fn put_best(desk: &[u8], out: &mut [u8], at: usize) -> Extent
     requires { length desk.now ≤ 10000 }
     ensures { (result ≡ extent_of (writes desk.now)) × (out.new ≡ placed out.old at (text_of (writes desk.now))) }
 {
-    let grid = grid_table();
-    let size = measure_desk(&grid, desk);
-    let Extent::Takes(n) = size else {
-        return size;
-    };
-    if !fits(out.len(), at, n) {
-        return size;
+    let grid = Grid::new();
+    let n = grid.measure(desk)?;
+    if fits(out.len(), at, n) {
+        grid.fill(desk, out, at);
     }
-    fill_desk(&grid, desk, out, at);
-    size
+    Ok(n)
 }
 
 // The bank text for a desk text put into the room from a place on, where there is one and it fits; answers how long it is.
@@ -103,7 +92,7 @@ pub fn put_written(sign: bool, desk: &[u8], out: &mut [u8], at: usize) -> Extent
     ensures { (result ≡ extent sign desk.now) × (out.new ≡ placed out.old at (written sign desk.now)) }
 {
     if desk.len() > 10000 {
-        return Extent::Long;
+        return Err(Stop::Long);
     }
     if sign {
         return put_best(desk, out, at);
@@ -116,12 +105,11 @@ pub fn write_text(sign: bool, desk: &[u8], out: &mut [u8]) -> Outcome
     ensures { WrittenTo sign desk.now out.old result out.new }
 {
     if desk.len() > 5000 {
-        return Outcome::Refused {
+        return Err(Refusal {
             number: 1,
             place: 5000,
-        };
+        });
     }
     let room = out.len();
-    let size = put_written(sign, desk, out, 0);
-    ending(15, size, room)
+    ending(15, put_written(sign, desk, out, 0), room)
 }

@@ -9,22 +9,21 @@ ghost use Rattle.alphabets.specs.Parts.{extent_of, piece_text, spoken};
 use super::pieces::{Piece, read_piece};
 use super::runs::put_run;
 
-// How many bytes a text takes, or the first byte that has no reading or can't be written, or that a desk text has more than 10,000 bytes.
-#[derive(Clone, Copy)]
-pub enum Extent {
-    Takes(usize),
-    Halts(usize),
+// Why there is no text: the first byte that has no reading or can't be written, or that a desk text has more than 10,000 bytes.
+#[derive(Clone, Copy, PartialEq, Eq)]
+pub enum Stop {
+    At(usize),
     Long,
 }
+
+// How many bytes a text takes, or why there is none.
+pub type Extent = Result<usize, Stop>;
 
 // There is room for n units from a place on.
 pub(crate) fn fits(room: usize, at: usize, n: usize) -> bool
     ensures { result ≡ leb (at + n) room }
 {
-    if room < n {
-        return false;
-    }
-    at <= room - n
+    n <= room && at <= room - n
 }
 
 // Without the character a text is its own bytes of the x set: put into the room from a place on, where it is one and fits.
@@ -34,10 +33,10 @@ pub(crate) fn put_plain(text: &[u8], out: &mut [u8], at: usize) -> Extent
     let t = base::xset::x_classes();
     let k = base::bytes::lead_of(&t, text);
     if k < text.len() {
-        return Extent::Halts(k);
+        return Err(Stop::At(k));
     }
     base::bytes::put(out, at, text);
-    Extent::Takes(text.len())
+    Ok(text.len())
 }
 
 // A turn takes a run and the apostrophe behind it.
@@ -46,19 +45,17 @@ pub(crate) fn fill_piece(back: &[u8; 256], latin: bool, part: &[u8], out: &mut [
     ensures { out.new ≡ sets out.old at (spoken back.now latin part.now) }
 {
     let mut side = latin;
+    let mut rest = part;
     let mut n = at;
-    let mut i: usize = 0;
-    while i < part.len() {
-        let k = put_run(back, side, part, i, out, n);
-        n += k - i;
-        if k == part.len() {
+    loop {
+        let run = put_run(back, side, rest, out, n);
+        let (_, behind) = rest.split_at(run);
+        n += run;
+        let [b'\'', more @ ..] = behind else {
             return;
-        }
-        if part[k] != b'\'' {
-            return;
-        }
+        };
         side = !side;
-        i = k + 1;
+        rest = more;
     }
 }
 
@@ -66,13 +63,9 @@ pub(crate) fn fill_piece(back: &[u8; 256], latin: bool, part: &[u8], out: &mut [
 pub fn put_piece(back: &[u8; 256], latin: bool, part: &[u8], out: &mut [u8], at: usize) -> Piece
     ensures { (result ≡ piece_in back.now latin part.now) × (out.new ≡ placed out.old at (piece_text back.now latin part.now)) }
 {
-    let piece = read_piece(back, latin, part);
-    let Piece::Read { units, latin: _ } = piece else {
-        return piece;
-    };
-    if !fits(out.len(), at, units) {
-        return piece;
+    let heard = read_piece(back, latin, part)?;
+    if fits(out.len(), at, heard.units) {
+        fill_piece(back, latin, part, out, at);
     }
-    fill_piece(back, latin, part, out, at);
-    piece
+    Ok(heard)
 }

@@ -5,11 +5,11 @@ use mathlib.Core.Bool.{Bool, true, false}
 use mathlib.Core.List.{List}
 use lib.ListN.{length}
 use Rattle.base.specs.Calls.{text_of, placed, Gives}
-use Rattle.base.specs.declared.Outcome.{Outcome}
+use Rattle.base.specs.Verdicts.{Outcome}
 use Rattle.alphabets.specs.Bank.{reading}
 use Rattle.alphabets.specs.Parts.{extent_of}
 use Rattle.alphabets.specs.Text.{ReadTo, text_rules, ending_of}
-use Rattle.alphabets.specs.declared.parts.Extent.{Extent}
+use Rattle.alphabets.specs.Extent.{Extent}
 use Rattle.alphabets.proofs.TextLaws.{too_long, answered}
 use Rattle.alphabets.proofs.read_text.Goals as goal
 
@@ -22,7 +22,7 @@ unfolding ReadTo
 returns-then-bank-gt10000 c = let a = c.args in too_long 10000 14 a.bank.now (reading a.sign a.bank.now) a.out.now c.if-bank-gt10000.true
 
 pub returns-then-sign : goal.returns-then-sign
-returns-then-sign c = let a = c.args in settled a.sign true a.bank.now a.out.now _ _ _ c.if-sign.true c.if-bank-gt10000.false c.put_whole-said.ensures c.ending.ensures
+returns-then-sign c = let a = c.args in settled a.sign true a.bank.now a.out.now _ _ _ c.if-sign.true c.if-bank-gt10000.false c.put_whole.ensures c.ending.ensures
 
 pub returns : goal.returns
-returns c = let a = c.args in settled a.sign false a.bank.now a.out.now _ _ _ c.if-sign.false c.if-bank-gt10000.false c.put_plain-plain.ensures c.ending-2.ensures
+returns c = let a = c.args in settled a.sign false a.bank.now a.out.now _ _ _ c.if-sign.false c.if-bank-gt10000.false c.put_plain.ensures c.ending-2.ensures

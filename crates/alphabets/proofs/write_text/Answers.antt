@@ -13,5 +13,5 @@ returns-then-desk-gt5000 c = let a = c.args in too_long 5000 15 a.desk.now (writ
 pub returns : goal.returns
 unfolding WrittenTo
 returns c = let a = c.args in
-    answered 5000 15 a.desk.now (writing a.sign a.desk.now) a.out.now _ c.put_written-size.result _ c.if-desk-gt5000.false
-    (put_alone a.sign a.desk.now (omega (arith, c.if-desk-gt5000.false)) a.out.now _ _ c.put_written-size.ensures) c.ending.ensures
+    answered 5000 15 a.desk.now (writing a.sign a.desk.now) a.out.now _ c.put_written.result _ c.if-desk-gt5000.false
+    (put_alone a.sign a.desk.now (omega (arith, c.if-desk-gt5000.false)) a.out.now _ _ c.put_written.ensures) c.ending.ensures

@@ -1,76 +1,23 @@
 -- `alphabets::pieces::read_piece` meets its contract: each turn takes a run and an apostrophe (`taking_on`). Assumes nothing.
-use Prim.Native.Nat.{ℕ, ◌+◌}
-use mathlib.Core.Path.{◌≡◌, ◌∙◌, ap}
 use native.Mathlib.Omega.{arith}
-use lib.ListN.{drop}
-use Rattle.alphabets.specs.Runs.{floor_of, run}
-use Rattle.alphabets.proofs.PieceLaws.{Taking, taking_start, taking_end, taking_run, taking_stops, taking_on}
+use Rattle.alphabets.proofs.RunLaws.{run_ended, to_end}
+use Rattle.alphabets.proofs.PieceLaws.{taking_start, taking_few, taking_end, taking_stops, taking_on}
 use Rattle.alphabets.proofs.pieces.read_piece.Goals as goal
 
-pub loop-i-init : goal.loop-i-init
-loop-i-init c = taking_start _ _ _
+pub loop-behind-init : goal.loop-behind-init
+loop-behind-init c = taking_start _ _ _
 
-pub run_of-k-requires : goal.run_of-k-requires
-run_of-k-requires c = c.loop-i.invariant.long
+pub split_at-requires : goal.split_at-requires
+split_at-requires c = let a = c.args in omega (arith, c.run_of.ensures, (run_ended a.back.now c.floor_of.result c.loop-behind.rest.now).within)
 
-pub overflow_sub-result : goal.overflow_sub-result
-overflow_sub-result c =
-    let ran : let a = c.args in c.run_of-k.result ≡ c.loop-i.i + run a.back.now (floor_of c.loop-i.side) (drop c.loop-i.i a.part.now) = let a = c.args in
-    c.run_of-k.ensures ∙ ap (λ (f : ℕ). c.loop-i.i + run a.back.now f (drop c.loop-i.i a.part.now)) c.floor_of.ensures in
-    let far : let a = c.args in Taking a.back.now a.latin a.part.now c.loop-i.side c.loop-i.marks c.run_of-k.result = taking_run c.loop-i.invariant c.run_of-k.result ran in
-    omega (arith, far.few)
+pub overflow_add-heard : goal.overflow_add-heard
+overflow_add-heard c = omega (arith, taking_few c.loop-behind.invariant c.floor_of.ensures c.run_of.ensures c.split_at.ensures.front_len c.split_at.ensures.back)
 
-pub returns-then-k-part : goal.returns-then-k-part
-returns-then-k-part c =
-    let ran : let a = c.args in c.run_of-k.result ≡ c.loop-i.i + run a.back.now (floor_of c.loop-i.side) (drop c.loop-i.i a.part.now) = let a = c.args in
-    c.run_of-k.ensures ∙ ap (λ (f : ℕ). c.loop-i.i + run a.back.now f (drop c.loop-i.i a.part.now)) c.floor_of.ensures in
-    let far : let a = c.args in Taking a.back.now a.latin a.part.now c.loop-i.side c.loop-i.marks c.run_of-k.result = taking_run c.loop-i.invariant c.run_of-k.result ran in
-    taking_end far (omega arith)
+pub returns-in-empty : goal.returns-in-empty
+returns-in-empty c = taking_end c.loop-behind.invariant c.floor_of.ensures c.run_of.ensures c.split_at.ensures.front_len c.split_at.ensures.back c.in-empty.len_below
 
-pub bounds-part-k : goal.bounds-part-k
-bounds-part-k c =
-    let ran : let a = c.args in c.run_of-k.result ≡ c.loop-i.i + run a.back.now (floor_of c.loop-i.side) (drop c.loop-i.i a.part.now) = let a = c.args in
-    c.run_of-k.ensures ∙ ap (λ (f : ℕ). c.loop-i.i + run a.back.now f (drop c.loop-i.i a.part.now)) c.floor_of.ensures in
-    let far : let a = c.args in Taking a.back.now a.latin a.part.now c.loop-i.side c.loop-i.marks c.run_of-k.result = taking_run c.loop-i.invariant c.run_of-k.result ran in
-    omega (arith, far.long)
+pub loop-behind-preserved : goal.loop-behind-preserved
+loop-behind-preserved c = taking_on c.loop-behind.invariant c.floor_of.ensures c.run_of.ensures c.split_at.ensures.front_len c.split_at.ensures.back c.in-39.len_at_least (omega arith) (to_end 1 _)
 
-pub returns-then-part-k-ne39 : goal.returns-then-part-k-ne39
-returns-then-part-k-ne39 c =
-    let ran : let a = c.args in c.run_of-k.result ≡ c.loop-i.i + run a.back.now (floor_of c.loop-i.side) (drop c.loop-i.i a.part.now) = let a = c.args in
-    c.run_of-k.ensures ∙ ap (λ (f : ℕ). c.loop-i.i + run a.back.now f (drop c.loop-i.i a.part.now)) c.floor_of.ensures in
-    let far : let a = c.args in Taking a.back.now a.latin a.part.now c.loop-i.side c.loop-i.marks c.run_of-k.result = taking_run c.loop-i.invariant c.run_of-k.result ran in
-    let w = far in taking_stops c.loop-i.invariant c.run_of-k.result ran (omega (arith, w.long)) c.if-part-k-ne39.true
-
-pub overflow_add-marks : goal.overflow_add-marks
-overflow_add-marks c =
-    let ran : let a = c.args in c.run_of-k.result ≡ c.loop-i.i + run a.back.now (floor_of c.loop-i.side) (drop c.loop-i.i a.part.now) = let a = c.args in
-    c.run_of-k.ensures ∙ ap (λ (f : ℕ). c.loop-i.i + run a.back.now f (drop c.loop-i.i a.part.now)) c.floor_of.ensures in
-    let far : let a = c.args in Taking a.back.now a.latin a.part.now c.loop-i.side c.loop-i.marks c.run_of-k.result = taking_run c.loop-i.invariant c.run_of-k.result ran in
-    omega (arith, far.few, far.long)
-
-pub overflow_add-i : goal.overflow_add-i
-overflow_add-i c =
-    let ran : let a = c.args in c.run_of-k.result ≡ c.loop-i.i + run a.back.now (floor_of c.loop-i.side) (drop c.loop-i.i a.part.now) = let a = c.args in
-    c.run_of-k.ensures ∙ ap (λ (f : ℕ). c.loop-i.i + run a.back.now f (drop c.loop-i.i a.part.now)) c.floor_of.ensures in
-    let far : let a = c.args in Taking a.back.now a.latin a.part.now c.loop-i.side c.loop-i.marks c.run_of-k.result = taking_run c.loop-i.invariant c.run_of-k.result ran in
-    omega (arith, far.long)
-
-pub loop-i-smaller : goal.loop-i-smaller
-loop-i-smaller c =
-    let ran : let a = c.args in c.run_of-k.result ≡ c.loop-i.i + run a.back.now (floor_of c.loop-i.side) (drop c.loop-i.i a.part.now) = let a = c.args in
-    c.run_of-k.ensures ∙ ap (λ (f : ℕ). c.loop-i.i + run a.back.now f (drop c.loop-i.i a.part.now)) c.floor_of.ensures in
-    let far : let a = c.args in Taking a.back.now a.latin a.part.now c.loop-i.side c.loop-i.marks c.run_of-k.result = taking_run c.loop-i.invariant c.run_of-k.result ran in
-    omega (arith, ran, far.long)
-
-pub loop-i-preserved : goal.loop-i-preserved
-loop-i-preserved c =
-    let ran : let a = c.args in c.run_of-k.result ≡ c.loop-i.i + run a.back.now (floor_of c.loop-i.side) (drop c.loop-i.i a.part.now) = let a = c.args in
-    c.run_of-k.ensures ∙ ap (λ (f : ℕ). c.loop-i.i + run a.back.now f (drop c.loop-i.i a.part.now)) c.floor_of.ensures in
-    let far : let a = c.args in Taking a.back.now a.latin a.part.now c.loop-i.side c.loop-i.marks c.run_of-k.result = taking_run c.loop-i.invariant c.run_of-k.result ran in
-    let w = far in taking_on c.loop-i.invariant c.run_of-k.result ran (omega (arith, w.long)) c.if-part-k-ne39.false
-
-pub overflow_sub-result-2 : goal.overflow_sub-result-2
-overflow_sub-result-2 c = omega (arith, c.loop-i.invariant.few)
-
-pub returns : goal.returns
-returns c = taking_end c.loop-i.invariant c.loop-i-test.false
+pub returns-in_default : goal.returns-in_default
+returns-in_default c = taking_stops c.loop-behind.invariant c.floor_of.ensures c.run_of.ensures c.split_at.ensures.front_len c.split_at.ensures.back c.in_default.len_at_least (λ e. omega arith)
