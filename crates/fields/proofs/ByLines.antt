@@ -7,7 +7,7 @@ use native.Mathlib.Omega.{arith}
 use lib.ListN.{length}
 use Rattle.base.specs.Choice.{pick}
 use Rattle.base.specs.Bytes.{begins}
-use Rattle.base.specs.declared.Verdict.TheVariants.{Fine}
+use Rattle.base.specs.Verdicts.{Fine}
 use Rattle.fields.specs.Field.{Field, field, body, lines, upto, past, Group, group, add, grouped, fields}
 use Rattle.fields.specs.Frame.{rule_4}
 use Rattle.fields.specs.Places.{lines_size, next_of, colons_of}

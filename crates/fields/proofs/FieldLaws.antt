@@ -8,7 +8,7 @@ use lib.ListN.{length, take, length-append}
 use lib.Seq.{take_at}
 use Rattle.base.specs.Choice.{pick, all}
 use Rattle.base.specs.Bytes.{xset, begins, empty, other, without}
-use Rattle.base.specs.declared.Verdict.TheVariants.{Fine}
+use Rattle.base.specs.Verdicts.{Fine}
 use Rattle.fields.specs.Field.{Field, field, opening, closing, with_cr_lf, lines_of, message, body, lines, Group, group, opened, add, grouped, fields}
 use Rattle.fields.specs.Frame.{tagged, line_bad, rule_2, rule_3, rule_4}
 use Rattle.fields.specs.Places.{lines_size}

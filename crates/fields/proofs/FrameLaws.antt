@@ -1,6 +1,6 @@
 -- 2 and 4, exactly where their sentences say, and the body of a framed message. Assumes nothing.
 use Prim.Native.Nat.{ℕ, suc, ◌+◌, ◌-◌, ◌≤◌, ◌<◌}
-use mathlib.Core.Path.{◌≡◌, refl, sym, ap, ◌∙◌}
+use mathlib.Core.Path.{◌≡◌, refl, sym, ap, ap₂, ◌∙◌}
 use mathlib.Core.Bool.{Bool, true, false, ◌&&◌, and-true, and-false}
 use mathlib.Core.List.{List, [], ◌∷◌, ◌++◌}
 use mathlib.Core.Logic.{◌↔◌}
@@ -8,13 +8,15 @@ use native.Mathlib.Omega.{arith}
 use lib.Dec.{eqb}
 use lib.ListN.{length, take, drop, get_or, length-append, length-take, length-drop, take-append-drop}
 use lib.Seq.{drop_at, drop-drop, get_or-take, get_or-drop}
-use borrow.Author.Tests.{eq-eqb}
+use borrow.Author.Tests.{eq-eqb, ne_eqb, eqb-true, eqb-false}
+use lib.Pointwise.{pointwise}
+use Rattle.std.specs.List.{starts_with, ends_with}
 use Rattle.base.specs.Choice.{pick}
 use Rattle.base.specs.Bytes.{empty, same}
-use Rattle.base.specs.declared.Verdict.TheVariants.{Fine, Broken}
+use Rattle.base.specs.Verdicts.{Fine, Broken}
 use Rattle.base.proofs.Bools.{left, right, both}
 use Rattle.base.proofs.ByteLaws.{same_is, same_refl}
-use Rattle.base.proofs.RuleLaws.{fine_broken}
+use Rattle.base.proofs.RuleLaws.{fine_broken, same_broken}
 use Rattle.fields.specs.Field.{opening, closing, body, lines}
 use Rattle.fields.specs.Frame.{framed, rule_2, line_bad, bad_line, rule_4}
 use Rattle.fields.specs.Places.{lines_size}
@@ -61,14 +63,6 @@ module _ (m : List ℕ) where
       both (ap (λ (k : List ℕ). same k opening) (ap (take 5) w.starts) ∙ same_refl opening)
       (ap (λ (k : List ℕ). same k (13 ∷ 10 ∷ closing)) (last_four w) ∙ same_refl (13 ∷ 10 ∷ closing))
 
-  -- so fewer than seven bytes are none
-  pub too_short : length m < 7 → framed m ≡ false
-  too_short h = go (framed m) refl
-    where
-      go : (b : Bool) → framed m ≡ b → b ≡ false
-      go true e = absurd (let l = framed_long (framed_is e) in omega arith)
-      go false e = refl
-
   -- 2 is not given exactly if the message is framed
   pub rule_2_fine : (rule_2 m ≡ Fine) ↔ Framed m
   unfolding rule_2
@@ -87,32 +81,24 @@ module _ (m : List ℕ) where
       go true e h = absurd (h (framed_is e))
       go false e h = refl
 
--- as code reads it
-pub opened_at : (m : List ℕ) → same (take 5 m) opening ≡ (eqb (get_or m 0 0) 123 && (eqb (get_or m 1 0) 52 && (eqb (get_or m 2 0) 58 && (eqb (get_or m 3 0) 13 && eqb (get_or m 4 0) 10))))
+-- as code compares the two ends
+compared : (s t : List ℕ) → pointwise eqb s t ≡ same t s
 unfolding same
-opened_at [] = refl
-opened_at (a ∷ []) = refl
-opened_at (a ∷ b ∷ []) = refl
-opened_at (a ∷ b ∷ c ∷ []) = refl
-opened_at (a ∷ b ∷ c ∷ d ∷ []) = refl
-opened_at (a ∷ b ∷ c ∷ d ∷ e ∷ m) = rw (and-true (eqb e 10))
+compared [] [] = refl
+compared [] (y ∷ t) = refl
+compared (x ∷ s) [] = refl
+compared (x ∷ s) (y ∷ t) = ap₂ ◌&&◌ (eqb_swap x y) (compared s t)
+  where
+    eqb_swap : (x y : ℕ) → eqb x y ≡ eqb y x
+    eqb_swap x y = go (eqb x y) refl
+      where
+        go : (b : Bool) → eqb x y ≡ b → b ≡ eqb y x
+        go true e = sym (eq-eqb y x (sym (eqb-true x y e)))
+        go false e = sym (ne_eqb y x (λ q. eqb-false x y e (sym q)))
 
-four : (d : List ℕ) (x y z u : ℕ) → length d ≡ 4 → same d (x ∷ y ∷ z ∷ u ∷ []) ≡ (eqb (get_or d 0 0) x && (eqb (get_or d 1 0) y && (eqb (get_or d 2 0) z && eqb (get_or d 3 0) u)))
-unfolding same
-four [] x y z u n = absurd (omega arith)
-four (a ∷ []) x y z u n = absurd (omega arith)
-four (a ∷ b ∷ []) x y z u n = absurd (omega arith)
-four (a ∷ b ∷ c ∷ []) x y z u n = absurd (omega arith)
-four (a ∷ b ∷ c ∷ d ∷ []) x y z u n = rw (and-true (eqb d u))
-four (a ∷ b ∷ c ∷ d ∷ e ∷ r) x y z u n = absurd (omega arith)
-
-pub closed_at : (m : List ℕ) → 4 ≤ length m → same (drop (length m - 4) m) (13 ∷ 10 ∷ closing)
-    ≡ (eqb (get_or m (length m - 4) 0) 13 && (eqb (get_or m (length m - 4 + 1) 0) 10 && (eqb (get_or m (length m - 4 + 2) 0) 45 && eqb (get_or m (length m - 4 + 3) 0) 125)))
-closed_at m h =
-    let k : ℕ = length m - 4 in
-    let n : length (drop k m) ≡ 4 = length-drop k m ∙ omega arith in
-    let z : k + 0 ≡ k = omega arith in
-    four (drop k m) 13 10 45 125 n ∙ rw (get_or-drop k m 0 0, get_or-drop k m 1 0, get_or-drop k m 2 0, get_or-drop k m 3 0, z)
+pub framed_both : (m : List ℕ) → framed m ≡ (starts_with eqb m opening && ends_with eqb m (13 ∷ 10 ∷ closing))
+unfolding framed
+framed_both m = ap₂ ◌&&◌ (sym (compared opening (take 5 m))) (sym (compared (13 ∷ 10 ∷ closing) (drop (length m - 4) m)))
 
 -- ---- the body
 ended_last : (b : List ℕ) → ((k : ℕ) → length b ≡ suc k → get_or b k 0 ≡ 10) → ended b ≡ true
@@ -174,7 +160,7 @@ bad_of f o (l ∷ ls) p e = go (line_bad f l) refl (bad_of false (o + length l +
     go : (b : Bool) → line_bad f l ≡ b → (bad_line false (o + length l + 2) ls ≡ Broken 4 p → BadLineAt false (o + length l + 2) ls p)
         → pick b (Broken 4 o) (bad_line false (o + length l + 2) ls) ≡ Broken 4 p → BadLineAt f o (l ∷ ls) p
     go true q h e =
-        let z : o ≡ p = cc in
+        let z : o ≡ p = (same_broken e).1 in
         record { before = []; line = l; behind = ls; list = refl; good = tt; bad = rw and-true q; place = omega arith }
     go false q h e =
         let w = h e in

@@ -9,7 +9,7 @@ use lib.ListN.{length}
 use borrow.Author.Tests.{eqb-true, ne_eqb}
 use Rattle.base.specs.Choice.{pick, all}
 use Rattle.base.specs.Bytes.{xset, begins, other, without}
-use Rattle.base.specs.declared.Verdict.TheVariants.{Fine, Broken}
+use Rattle.base.specs.Verdicts.{Fine, Broken}
 use Rattle.base.proofs.RuleLaws.{fine_broken}
 use Rattle.fields.specs.Field.{with_cr_lf, onto, cut_lines, lines}
 use Rattle.fields.specs.Frame.{scan}

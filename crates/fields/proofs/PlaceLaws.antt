@@ -1,17 +1,21 @@
 -- Where the fields stand in the bytes of a message: their contents are parts of it, and the list has three numbers for each. Assumes nothing.
 use Prim.Native.Nat.{ℕ, ◌+◌, ◌*◌, ◌-◌, ◌≤◌, ◌<◌}
 use mathlib.Core.Path.{◌≡◌, refl, sym, ap, ap₂, ◌∙◌}
-use mathlib.Core.Bool.{Bool, true}
+use mathlib.Core.Bool.{Bool, true, false}
 use mathlib.Core.List.{List, [], ◌∷◌, ◌++◌, append_assoc}
 use native.Mathlib.Omega.{arith}
 use lib.Dec.{eqb}
 use native.Mathlib.Nat.{zero-add}
 use borrow.Author.Tests.{eq-eqb, ne_eqb, lt-ltb, le-ltb}
-use lib.ListN.{length, take, drop, length-append, length-drop}
-use lib.Seq.{take_at, drop_at, drop-drop, get_or-drop}
+use lib.ListN.{length, take, drop, length-append, length-drop, get_or}
+use lib.Seq.{take_at, drop_at, drop-drop, get_or-drop, get_or-take}
+use denote.Bor.{Bor}
+use Rattle.std.specs.Prelude.{Option, Some, None, unwrap_or}
+use Rattle.std.specs.Option.{option_map, option_eq}
+use Rattle.std.specs.List.{slice_range}
 use Rattle.base.specs.Choice.{pick, all}
 use Rattle.base.specs.Bytes.{byte}
-use Rattle.base.specs.declared.Verdict.TheVariants.{Fine}
+use Rattle.base.specs.Verdicts.{Fine}
 use Rattle.fields.specs.Field.{Field, field, closing, with_cr_lf, lined, lines_of, message, fields}
 use Rattle.fields.specs.Frame.{rule_2, rule_3, rule_4}
 use Rattle.fields.specs.Places.{lines_size, start_of, next_of, end_of, listed}
@@ -78,16 +82,36 @@ pub no_tag : (m : List ℕ) (o : ℕ) → length m ≤ o + 3 → 0 ≡ tag_at m 
 unfolding tag_at
 no_tag m o h = rw (le-ltb (o + 3) (length m) h)
 
-module _ (m : List ℕ) (o : ℕ) (h : o + 3 < length m) {a b : ℕ} (p : a ≡ byte m (o + 1)) (q : b ≡ byte m (o + 2)) where
-  tag_by : {k : ℕ} → pick (eqb (byte m (o + 3)) 58) 0 (byte m (o + 3)) ≡ k → tag_at m o ≡ a * 65536 + b * 256 + k
+module _ (m : List ℕ) (o : ℕ) {t : List ℕ} (h : o + 4 ≤ length m) (e : t ≡ slice_range m (o + 1) (o + 4)) where
+  byte_of : (i j : ℕ) → i < 3 → o + 1 + i ≡ j → byte t i ≡ byte m j
+  byte_of i j l q =
+      let w : i < o + 4 - (o + 1) = omega arith in
+      ap (λ (x : List ℕ). byte x i) e ∙ get_or-take (o + 4 - (o + 1)) (drop (o + 1) m) i 0 w ∙ get_or-drop (o + 1) m i 0 ∙ ap (byte m) q
+
+  tag_by : {n k : ℕ} → pick (eqb (byte m (o + 3)) 58) 0 (byte m (o + 3)) ≡ k → n ≡ byte t 0 * 65536 + byte t 1 * 256 + k → n ≡ tag_at m o
   unfolding tag_at
-  tag_by e = rw (lt-ltb (o + 3) (length m) h, e, p, q)
+  tag_by p q = rw (lt-ltb (o + 3) (length m) (omega arith), p, ← byte_of 0 (o + 1) (omega arith) (omega arith), ← byte_of 1 (o + 2) (omega arith) (omega arith)) q
 
-  pub tag_short : byte m (o + 3) ≡ 58 → a * 65536 + b * 256 ≡ tag_at m o
-  tag_short e = let z : a * 65536 + b * 256 + 0 ≡ a * 65536 + b * 256 = omega arith in sym (tag_by {k = 0} (ap (λ (t : Bool). pick t 0 (byte m (o + 3))) (eq-eqb (byte m (o + 3)) 58 e)) ∙ z)
+  pub tag_short : {n : ℕ} → byte t 2 ≡ 58 → n ≡ byte t 0 * 65536 + byte t 1 * 256 + 0 → n ≡ tag_at m o
+  tag_short p q = tag_by (rw (← byte_of 2 (o + 3) (omega arith) (omega arith), eq-eqb (byte t 2) 58 p)) q
 
-  pub tag_letter : {c : ℕ} → c ≡ byte m (o + 3) → (byte m (o + 3) ≡ 58 → ⊥) → a * 65536 + b * 256 + c ≡ tag_at m o
-  tag_letter r n = sym (tag_by (ap (λ (t : Bool). pick t 0 (byte m (o + 3))) (ne_eqb (byte m (o + 3)) 58 n) ∙ sym r))
+  pub tag_letter : {n : ℕ} → (byte t 2 ≡ 58 → ⊥) → n ≡ byte t 0 * 65536 + byte t 1 * 256 + byte t 2 → n ≡ tag_at m o
+  tag_letter p q = tag_by (rw (← byte_of 2 (o + 3) (omega arith) (omega arith), ne_eqb (byte t 2) 58 p)) q
+
+-- whether a byte that is looked up is a colon
+pub colon_there : (m : List ℕ) (i : ℕ) (r : Option (Bor ℕ)) → ((d : ℕ) → unwrap_or (option_map (λ x. x.now) r) d ≡ get_or m i d)
+    → (c : Bor ℕ) → c.now ≡ 58 → option_eq (λ x y. eqb x.now y.now) r (Some c) ≡ eqb (byte m i) 58
+colon_there m i None h c e = ap (λ (x : ℕ). eqb x 58) (h 0)
+colon_there m i (Some x) h c e = ap₂ eqb (h 0) e
+
+module _ (m : List ℕ) (o : ℕ) where
+  pub start_short : eqb (byte m (o + 3)) 58 ≡ true → o + 4 ≡ start_at m o
+  unfolding start_at
+  start_short e = rw e
+
+  pub start_long : eqb (byte m (o + 3)) 58 ≡ false → o + 5 ≡ start_at m o
+  unfolding start_at
+  start_long e = rw e
 
 module _ (m : List ℕ) (o : ℕ) (t l : List ℕ) (ls : List (List ℕ)) (fs : List Field) (w : Standing m o (field t (l ∷ ls) ∷ fs)) where
   pub field_bytes : drop o m ≡ 58 ∷ (t ++ 58 ∷ (with_cr_lf (l ∷ ls) ++ (with_cr_lf (lines_of fs) ++ closing)))

@@ -12,10 +12,9 @@ use lib.ListN.{length}
 use borrow.Author.Tests.{eqb-true}
 use Rattle.base.specs.Choice.{pick}
 use Rattle.base.specs.Bytes.{xset, byte, begins}
-use Rattle.base.specs.declared.Verdict.{Verdict}
-use Rattle.base.specs.declared.Verdict.TheVariants.{Fine, Broken}
+use Rattle.base.specs.Verdicts.{Verdict, Fine, Broken}
 use Rattle.base.proofs.ByteLaws.{begins_byte}
-use Rattle.base.proofs.RuleLaws.{fine_broken}
+use Rattle.base.proofs.RuleLaws.{fine_broken, same_broken}
 use Rattle.fields.specs.Field.{body}
 use Rattle.fields.specs.Frame.{scan, rule_3}
 use Rattle.fields.specs.Sentences.{byte_bad, Nowhere, FirstAt}
@@ -116,7 +115,7 @@ module _ (o : ℕ) (b : List ℕ) where
       go e (nowhere q h) = absurd (fine_broken 3 p (sym q ∙ e))
       go e (at_one k q l t h) =
           let z : Broken 3 p ≡ Broken 3 (o + k) = sym e ∙ q in
-          record { at = k; place = cc; below = l; holds = bad_is b k ∙ t; before = λ j g. bad_is b j ∙ h j g }
+          record { at = k; place = (same_broken z).1; below = l; holds = bad_is b k ∙ t; before = λ j g. bad_is b j ∙ h j g }
 
       back : FirstAt (byte_bad b) (length b) o p → Says false o b (scan false o b) → scan false o b ≡ Broken 3 p
       back w (nowhere q h) = absurd (true≢false (sym w.holds ∙ bad_is b w.at ∙ h w.at w.below))

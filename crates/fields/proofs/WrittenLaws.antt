@@ -7,7 +7,7 @@ use mathlib.Core.List.{List, [], ◌∷◌, ◌++◌, append_assoc}
 use mathlib.Core.Logic.{◌↔◌}
 use Rattle.base.specs.Choice.{all}
 use Rattle.base.specs.Bytes.{xset, begins, empty, without}
-use Rattle.base.specs.declared.Verdict.TheVariants.{Fine}
+use Rattle.base.specs.Verdicts.{Fine}
 use Rattle.fields.specs.Field.{Field, field, opening, closing, with_cr_lf, lines_of, message, lines, fields}
 use Rattle.fields.specs.Frame.{scan, line_bad, bad_line, rule_2, rule_3, rule_4}
 use Rattle.fields.specs.Shapes.{shaped, follows, lineable, goes_on, proper}

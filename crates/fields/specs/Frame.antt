@@ -3,8 +3,7 @@ use Rattle.std.specs.Prelude.{ℕ, suc, ◌+◌, ◌-◌, Bool, true, false, not
 use Rattle.base.specs.Choice.{pick}
 use Rattle.base.specs.Bytes.{xset, byte, digit, capital, begins, empty, same}
 use Rattle.base.specs.Calls.{long}
-use Rattle.base.specs.declared.Verdict.{Verdict}
-use Rattle.base.specs.declared.Verdict.TheVariants.{Fine, Broken}
+use Rattle.base.specs.Verdicts.{Verdict, Fine, Broken}
 use Rattle.fields.specs.Field.{opening, closing, body, lines}
 use Rattle.base.specs.Quoted.{ascii}
 

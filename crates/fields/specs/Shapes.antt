@@ -1,5 +1,5 @@
 -- What lines, tags and fields are like that are read again as they were written (F1-F5). Assumes nothing.
-use Rattle.std.specs.Prelude.{ℕ, ◌+◌, ◌*◌, ◌/◌, ◌%◌, Bool, true, false, not, ◌&&◌, ◌||◌, eqb, drop}
+use Rattle.std.specs.Prelude.{ℕ, ◌+◌, ◌*◌, ◌/◌, ◌%◌, Bool, true, false, not, ◌&&◌, ◌||◌, eqb, drop, Option, Some, None}
 use mathlib.Core.List.{List, [], ◌∷◌, tail}
 use Rattle.base.specs.Choice.{pick, all}
 use Rattle.base.specs.Bytes.{byte, digit, capital, begins, empty, without}
@@ -34,7 +34,11 @@ pack t = byte t 0 * 65536 + byte t 1 * 256 + byte t 2
 abbrev pub unpack : ℕ → List ℕ
 unpack n = (n / 65536) ∷ (n / 256 % 256) ∷ pick (eqb (n % 256) 0) [] (n % 256 ∷ [])
 
--- the tag at the front of a line as one number, 0 where there is none
+-- the tag at the front of a line as one number, if there is one
+unfoldable pub front_tag : List ℕ → Option ℕ
+front_tag l = pick (tagged l) (Some (pack (upto (ascii ":") (tail l)))) None
+
+-- the same, 0 where there is none
 unfoldable pub packed : List ℕ → ℕ
 packed l = pick (tagged l) (pack (upto (ascii ":") (tail l))) 0
 

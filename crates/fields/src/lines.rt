@@ -5,8 +5,5 @@ ghost use Rattle.std.specs.Prelude.{◌≡◌, ◌+◌, min};
 pub fn next_line(e: usize, len: usize) -> usize
     ensures { result ≡ min (e + 2) len }
 {
-    if len < 2 {
-        return len;
-    }
-    if len - 2 < e { len } else { e + 2 }
+    e.saturating_add(2).min(len)
 }

@@ -1,14 +1,14 @@
 -- The ways out of the call `frame`, and what a message that is not refused has. Assumes nothing.
 use Prim.Native.Nat.{ℕ, ◌≤◌, ◌<◌}
-use mathlib.Core.Path.{◌≡◌, refl, sym, ap, ◌∙◌}
+use mathlib.Core.Path.{◌≡◌, ap}
 use mathlib.Core.Bool.{Bool, true, false}
 use mathlib.Core.List.{List}
 use native.Mathlib.Omega.{arith}
 use lib.ListN.{length}
+use Rattle.std.specs.Prelude.{Ok}
 use Rattle.base.specs.Choice.{pick}
-use Rattle.base.specs.declared.Verdict.{Verdict}
-use Rattle.base.specs.declared.Verdict.TheVariants.{Fine, Broken}
-use Rattle.base.proofs.RuleLaws.{then_fine}
+use Rattle.base.specs.Verdicts.{Fine, Broken, Refused, answered}
+use Rattle.base.proofs.RuleLaws.{then_fine, answered_ok}
 use Rattle.base.proofs.CallLaws.{is_long, not_long, within_limit}
 use Rattle.fields.specs.Field.{fields}
 use Rattle.fields.specs.Frame.{limit, framed, rule_1, rule_2, rule_3, rule_4}
@@ -21,8 +21,8 @@ use Rattle.types.proofs.TableLaws.{few_places, no_places, some_places}
 use Rattle.types.proofs.WalkLaws.{walked_accepted}
 use Rattle.types.proofs.WordLaws.{walked_sound}
 use Rattle.frame.specs.declared.Frame.{Frame}
-use Rattle.frame.specs.Frame.{refusal, word_of, capacity, spots_of, bare, frame_by, frame_of}
-use Rattle.frame.proofs.PassLaws.{body_567, bare_broken}
+use Rattle.frame.specs.Frame.{refusal, word_of, capacity, spots_of, fields_found, frame_of}
+use Rattle.frame.proofs.PassLaws.{body_567, refused_frame}
 use Rattle.frame.proofs.RuleLaws.{frame_rules_lem}
 use Rattle.types.specs.Sentences.{AllRight, SoundWalk}
 
@@ -64,53 +64,38 @@ pub framed_fine : (m : List ℕ) → framed m ≡ true → rule_2 m ≡ Fine
 framed_fine m e = by_frame m true e
 
 module _ (form : Form) (m : List ℕ) where
-  pub is_18 : length (places_of form) ≡ 0 → bare (Broken 18 0) ≡ frame_of form m
+  pub is_18 : length (places_of form) ≡ 0 → Refused 18 0 ≡ frame_of form m
   unfolding frame_of refusal
-  is_18 h = bare_broken form m (rw (no_places form h))
+  is_18 h = refused_frame form m (rw (no_places form h))
 
   module _ (h : length (places_of form) ≡ 0 → ⊥) where
-    pub is_1 : limit < length m → bare (Broken 1 limit) ≡ frame_of form m
+    pub is_1 : limit < length m → Refused 1 limit ≡ frame_of form m
     unfolding frame_of refusal rule_1
-    is_1 l = bare_broken form m (rw (some_places form h, is_long limit m l))
+    is_1 l = refused_frame form m (rw (some_places form h, is_long limit m l))
 
     module _ (l : length m ≤ limit) where
-      pub is_2 : framed m ≡ false → bare (Broken 2 0) ≡ frame_of form m
+      pub is_2 : framed m ≡ false → Refused 2 0 ≡ frame_of form m
       unfolding frame_of refusal rule_1
-      is_2 e = bare_broken form m (rw (some_places form h, not_long limit m l, by_frame m false e))
+      is_2 e = refused_frame form m (rw (some_places form h, not_long limit m l, by_frame m false e))
 
-      pub is_rest_lem : framed m ≡ true → frame_by (body_567 form m) form m ≡ frame_of form m
+      pub is_rest_lem : framed m ≡ true → answered (body_567 form m) (fields_found form m) ≡ frame_of form m
       unfolding frame_of refusal rule_1
       is_rest_lem e = rw (some_places form h, not_long limit m l, by_frame m true e, then_fine (walked form m))
 
--- ---- what a caller learns of the struct
+-- ---- what a caller learns of the answer
 -- what is handed on of a message that is not refused
 pub record Found (form : Form) (m spots : List ℕ) (w : ℕ) : Type 0 where
   pub clean : refusal form m ≡ Fine
   pub spots_are : spots ≡ padded capacity 0 (spots_of m)
   pub word_is : w ≡ word_of form m
 
-by_verdict : (form : Form) (m : List ℕ) (v : Verdict) → (frame_by v form m).verdict ≡ v
-unfolding frame_by
-by_verdict form m Fine = refl
-by_verdict form m (Broken n p) = refl
+module _ (form : Form) (m : List ℕ) where
+  pub found : {f : Frame} → Ok f ≡ frame_of form m → Found form m f.spots f.present
+  unfolding frame_of fields_found
+  found e =
+      let w = answered_ok (refusal form m) e in
+      record { clean = w.0; spots_are = ap (λ (g : Frame). g.spots) w.1; word_is = ap (λ (g : Frame). g.present) w.1 }
 
-module _ (form : Form) (m : List ℕ) {f : Frame} (e : f ≡ frame_of form m) where
-  pub verdict_is : f.verdict ≡ refusal form m
-  unfolding frame_of
-  verdict_is = ap (λ (g : Frame). g.verdict) e ∙ by_verdict form m (refusal form m)
-
-  pub refused_by : {v : Verdict} → f.verdict ≡ v → refusal form m ≡ v
-  refused_by q = sym verdict_is ∙ q
-
-  module _ (q : f.verdict ≡ Fine) where
-    whole : f ≡ frame_by Fine form m
-    unfolding frame_of
-    whole = e ∙ ap (λ (v : Verdict). frame_by v form m) (refused_by q)
-
-    pub found : Found form m f.spots f.present
-    unfolding frame_by
-    found = record { clean = refused_by q; spots_are = ap (λ (g : Frame). g.spots) whole; word_is = ap (λ (g : Frame). g.present) whole }
-
-    pub fields_counted : f.fields ≡ length (fields m)
-    unfolding frame_by
-    fields_counted = ap (λ (g : Frame). g.fields) whole
+  pub fields_counted : {f : Frame} → Ok f ≡ frame_of form m → f.fields ≡ length (fields m)
+  unfolding frame_of fields_found
+  fields_counted e = ap (λ (g : Frame). g.fields) (answered_ok (refusal form m) e).1

@@ -5,8 +5,7 @@ use mathlib.Core.Bool.{true, false}
 use mathlib.Core.List.{List}
 use lib.ListN.{length}
 use Rattle.base.specs.Rules.{then}
-use Rattle.base.specs.declared.Verdict.{Verdict}
-use Rattle.base.specs.declared.Verdict.TheVariants.{Broken}
+use Rattle.base.specs.Verdicts.{Verdict, Broken}
 use Rattle.fields.specs.Field.{cut_lines, lines}
 use Rattle.fields.specs.Frame.{scan, line_bad, bad_line}
 use Rattle.frame.specs.Rest.{body_from, Tail, LineAt, after_3, after_4}

@@ -9,32 +9,33 @@ use native.Mathlib.Nat.{zero-add, add_assoc}
 use lib.Dec.{eqb}
 use lib.ListN.{length, take, drop, set, replicate, length-append}
 use lib.Seq.{sets, sets-eq}
-use borrow.Author.Tests.{eq-eqb, ne_eqb, eqb-false}
+use borrow.Author.Tests.{eq-eqb, ne_eqb, eqb-false, eqb-true}
 use Rattle.base.specs.Choice.{pick}
 use Rattle.base.specs.Bytes.{begins}
 use Rattle.base.specs.Rules.{then}
-use Rattle.base.specs.declared.Verdict.{Verdict}
-use Rattle.base.specs.declared.Verdict.TheVariants.{Fine, Broken}
+use Rattle.base.specs.declared.Refusal.{Refusal}
+use Rattle.base.specs.Verdicts.{Verdict, Fine, Broken, answered}
 use Rattle.base.proofs.BitLaws.{word_on}
 use Rattle.base.proofs.RuleLaws.{then_under, then_clean}
 use Rattle.fields.specs.Field.{Field, tag_of, body, lines, upto, fields}
 use Rattle.fields.specs.Frame.{scan, rule_2, rule_3, line_bad, bad_line, rule_4}
 use Rattle.fields.specs.Places.{next_of, colons_of}
-use Rattle.fields.specs.Shapes.{ended, shaped, pack, packed}
+use Rattle.std.specs.Prelude.{Ok, Err, Some, None}
+use Rattle.fields.specs.Shapes.{ended, unpack, front_tag}
 use Rattle.fields.specs.ByLines.{colons_at, by_fields, by_lines}
 use Rattle.fields.proofs.FrameLaws.{rule_2_fine, framed_long, body_ended}
 use Rattle.fields.proofs.TagLaws.{head_tag}
 use Rattle.fields.proofs.FieldLaws.{Stands, opens, goes, stands, on_follows, headed_begins}
-use Rattle.fields.proofs.PackLaws.{pack_some, packed_tag, packed_headed}
+use Rattle.fields.proofs.PackLaws.{front_tag_lem, front_headed, unpack_pack}
 use Rattle.fields.proofs.ByLines.{walk_body, colons_body, colons_count}
 use Rattle.types.specs.declared.Form.{Form}
 use Rattle.types.specs.Form.{Place, places_of}
 use Rattle.types.specs.Walk.{find, skips, wrong, walk, walked, word}
-use Rattle.types.specs.Tables.{padded, StepFor}
+use Rattle.types.specs.Tables.{padded, fault, step_of}
 use Rattle.types.specs.declared.Step.{Step}
 use Rattle.types.proofs.TableLaws.{few_places}
 use Rattle.types.proofs.WalkLaws.{wrong_seated}
-use Rattle.frame.specs.Frame.{capacity, word_of, spots_of, bare, frame_by}
+use Rattle.frame.specs.Frame.{capacity, word_of, spots_of, fields_found}
 use Rattle.frame.specs.Rest.{body_from, Tail, LineAt, after_3, after_4}
 use Rattle.frame.proofs.RunLaws.{line_scan, line_lines, line_next, rest_end}
 use Rattle.types.specs.Sentences.{Seated}
@@ -163,45 +164,46 @@ begin form m e2 =
     }
 
 -- ---- a good line by its tag
-pub plain : (is_first : Bool) (l : List ℕ) → line_bad is_first l ≡ false → packed l ≡ 0 → begins 58 l ≡ false
+pub plain : (is_first : Bool) (l : List ℕ) → line_bad is_first l ≡ false → None ≡ front_tag l → begins 58 l ≡ false
 plain f l b e = go (stands f l b)
   where
     go : Stands f l → begins 58 l ≡ false
-    go (opens h) = absurd (eqb-false (pack h.tag) 0 (pack_some h.tag h.shape) (sym (packed_tag h) ∙ e))
+    go (opens h) = let z = front_tag_lem h in absurd (cc)
     go (goes o q) = on_follows l o
 
-pub opened : (l : List ℕ) → (packed l ≡ 0 → ⊥) → begins 58 l ≡ true
-opened l z = headed_begins (packed_headed l z)
+pub opened : (l : List ℕ) {tag : ℕ} → Some tag ≡ front_tag l → begins 58 l ≡ true
+opened l e = headed_begins (front_headed l e).0
 
 -- its field's place, and what is wrong there
-pub stepped : (form : Form) (next tag : ℕ) (l : List ℕ) (r : Step) → tag ≡ packed l → (tag ≡ 0 → ⊥) → StepFor form next tag r
-    → (r.place ≡ find (places_of form) (upto 58 (tail l))) × (r.wrong ≡ wrong (places_of form) next (find (places_of form) (upto 58 (tail l))))
-stepped form next tag l r p z s =
-    let h = packed_headed l (λ q. z (p ∙ q)) in
-    let t = head_tag h in
-    let e = s (upto 58 (tail l)) (ap shaped t ∙ h.shape) (ap pack t ∙ sym (packed_tag h) ∙ sym p) in
+pub stepped : (form : Form) (next : ℕ) {tag : ℕ} (l : List ℕ) {ps : List Place} (r : Step) → Some tag ≡ front_tag l → ps ≡ places_of form → r ≡ step_of ps next (unpack tag)
+    → (r.place ≡ find (places_of form) (upto 58 (tail l))) × (r.wrong ≡ fault (wrong (places_of form) next (find (places_of form) (upto 58 (tail l)))))
+stepped form next {tag} l r p q s =
+    let h = (front_headed l p).0 in
+    let t : unpack tag ≡ upto 58 (tail l) = ap unpack (front_headed l p).1 ∙ unpack_pack h.tag h.shape ∙ sym (head_tag h) in
+    let e = s ∙ ap₂ (λ (ps : List Place) (u : List ℕ). step_of ps next u) q t in
     (ap (λ (x : Step). x.place) e, ap (λ (x : Step). x.wrong) e)
 
+-- whether a mandatory place is missing at the end
+pub missed : (form : Form) (next : ℕ) {ps : List Place} {b t : Bool} → ps ≡ places_of form → b ≡ skips ps next (length ps) → b ≡ t → skips (places_of form) next (length (places_of form)) ≡ t
+missed form next q e t = sym (ap (λ (ps : List Place). skips ps next (length ps)) q) ∙ sym e ∙ t
+
+pub fault_none : (n : ℕ) → None ≡ fault n → n ≡ 0
+fault_none n e = go (eqb n 0) refl e
+  where
+    go : (b : Bool) → eqb n 0 ≡ b → None ≡ pick b None (Some n) → n ≡ 0
+    go true z h = eqb-true n 0 z
+    go false z h = absurd (cc)
+
+pub fault_some : (n : ℕ) {w : ℕ} → Some w ≡ fault n → (w ≡ n) × (w ≡ 0 → ⊥)
+fault_some n {w} e = go (eqb n 0) refl e
+  where
+    go : (b : Bool) → eqb n 0 ≡ b → Some w ≡ pick b None (Some n) → (w ≡ n) × (w ≡ 0 → ⊥)
+    go true z h = absurd (cc)
+    go false z h = let k : w ≡ n = cc in (k, λ q. eqb-false n 0 z (sym k ∙ q))
+
 -- ---- nothing but a refusal
-pub bare_broken : (form : Form) (m : List ℕ) {v : Verdict} {n p : ℕ} → v ≡ Broken n p → bare (Broken n p) ≡ frame_by v form m
-unfolding frame_by
-bare_broken form m e = ap (λ (u : Verdict). frame_by u form m) (sym e)
-
-bare_then : (form : Form) (m : List ℕ) (v w : Verdict) → bare w ≡ frame_by w form m → bare (then v w) ≡ frame_by (then v w) form m
-unfolding frame_by
-bare_then form m Fine w e = e
-bare_then form m (Broken n p) w e = refl
-
-pub bare_after_3 : (form : Form) (m : List ℕ) {v u : Verdict} (i n p : ℕ) → v ≡ after_3 m i (Broken n p) → u ≡ after_3 m i (Broken n p) → bare u ≡ frame_by v form m
-unfolding after_3
-bare_after_3 form m i n p e q =
-    ap bare q ∙ bare_then form m (scan false i (body_from m i)) (Broken n p) (bare_broken form m refl) ∙ ap (λ (u : Verdict). frame_by u form m) (sym e)
-
-pub bare_after_4 : (form : Form) (m : List ℕ) {v u : Verdict} (i n p : ℕ) → v ≡ after_4 m i (Broken n p) → u ≡ after_4 m i (Broken n p) → bare u ≡ frame_by v form m
-unfolding after_3 after_4
-bare_after_4 form m i n p e q =
-    ap bare q ∙ bare_then form m (scan false i (body_from m i)) (then (bad_line false i (lines (body_from m i))) (Broken n p))
-    (bare_then form m (bad_line false i (lines (body_from m i))) (Broken n p) (bare_broken form m refl)) ∙ ap (λ (u : Verdict). frame_by u form m) (sym e)
+pub refused_frame : (form : Form) (m : List ℕ) {v : Verdict} {r : Refusal} → v ≡ Err r → Err r ≡ answered v (fields_found form m)
+refused_frame form m e = ap (λ (u : Verdict). answered u (fields_found form m)) (sym e)
 
 -- ---- the spots, zeros behind
 drop_same : (x j n : ℕ) → drop j (replicate n x) ≡ replicate (n - j) x
@@ -351,9 +353,9 @@ module _ {form : Form} {m s : List ℕ} {at n next w : ℕ} (g : Going form m s 
           sym (sym (ap (λ (os : List ℕ). sets zeros 0 (os ++ (length m - 2) ∷ [])) colons_are) ∙ g.kept ∙ ap (λ (os : List ℕ). sets s n (os ++ (length m - 2) ∷ [])) no_colons)
           ∙ sets_zeros (colons_of 5 (fields m) ++ (length m - 2) ∷ []) (omega arith)
 
-      pub accept : record { verdict = Fine; fields = n; present = w; spots = set s n (length m - 2) } ≡ frame_by (body_567 form m) form m
-      unfolding frame_by
+      pub accept : Ok (record { fields = n; present = w; spots = set s n (length m - 2) }) ≡ answered (body_567 form m) (fields_found form m)
+      unfolding fields_found
       accept =
-          ap₂ (λ (k x : ℕ). record { verdict = Fine; fields = k; present = x; spots = set s n (length m - 2) }) count_is word_is
-          ∙ ap (λ (t : List ℕ). record { verdict = Fine; fields = length (fields m); present = word_of form m; spots = t }) spots_are
-          ∙ ap (λ (v : Verdict). frame_by v form m) (sym fine)
+          ap₂ (λ (k x : ℕ). Ok (record { fields = k; present = x; spots = set s n (length m - 2) })) count_is word_is
+          ∙ ap (λ (t : List ℕ). Ok (record { fields = length (fields m); present = word_of form m; spots = t })) spots_are
+          ∙ ap (λ (v : Verdict). answered v (fields_found form m)) (sym fine)

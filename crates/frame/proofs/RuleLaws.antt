@@ -4,8 +4,7 @@ use mathlib.Core.Path.{◌≡◌}
 use mathlib.Core.List.{List}
 use Rattle.types.specs.declared.Form.{Form}
 use Rattle.base.specs.Examples.{AllHold}
-use Rattle.base.specs.declared.Verdict.{Verdict}
-use Rattle.base.specs.declared.Verdict.TheVariants.{Fine}
+use Rattle.base.specs.Verdicts.{Verdict, Fine}
 use Rattle.base.proofs.RuleLaws.{first_clean}
 use Rattle.frame.specs.Frame.{frame_rules, EachFrameRule, refusal}
 

@@ -12,7 +12,7 @@ use lib.Seq.{take_all, take-take, drop-drop, get_or-drop, drop-cons}
 use borrow.Author.Tests.{eqb-true}
 use Rattle.base.specs.Choice.{pick, all}
 use Rattle.base.specs.Bytes.{byte, begins, xset, classes, lead}
-use Rattle.base.specs.declared.Verdict.TheVariants.{Broken}
+use Rattle.base.specs.Verdicts.{Broken}
 use Rattle.base.proofs.Bools.{left, right, both}
 use Rattle.base.proofs.ByteLaws.{Bytes, drop_take, class_at}
 use Rattle.fields.specs.Field.{lines}

@@ -6,12 +6,12 @@ use mathlib.Core.List.{List, [], ◌∷◌}
 use native.Mathlib.Omega.{arith}
 use lib.Dec.{eqb, leb, ltb}
 use lib.ListN.{length}
+use Rattle.std.specs.Prelude.{Err}
 use Rattle.base.specs.Choice.{pick}
 use Rattle.base.specs.Bytes.{xset, begins, empty}
 use Rattle.base.specs.Rules.{last_number, then}
 use Rattle.base.specs.Calls.{long}
-use Rattle.base.specs.declared.Verdict.{Verdict}
-use Rattle.base.specs.declared.Verdict.TheVariants.{Fine, Broken}
+use Rattle.base.specs.Verdicts.{Verdict, Fine, Broken}
 use Rattle.base.proofs.CallLaws.{within_limit}
 use Rattle.fields.specs.Field.{Field, tag_of, lined, lines_of, body, lines, fields}
 use Rattle.fields.specs.Frame.{limit, rule_1, rule_2, rule_3, rule_4, framed, scan, line_bad, bad_line}
@@ -28,11 +28,11 @@ use Rattle.frame.specs.Frame.{refusal}
 -- a refusal's number is at most the last, and its place at most b
 abbrev pub Small : ℕ → Verdict → Type 0
 Small b Fine = Unit {0}
-Small b (Broken n p) = (n ≤ last_number) × (p ≤ b)
+Small b (Err r) = (r.number ≤ last_number) × (r.place ≤ b)
 
 then_small : (b : ℕ) (v w : Verdict) → Small b v → (v ≡ Fine → Small b w) → Small b (then v w)
 then_small b Fine w s h = h refl
-then_small b (Broken n p) w s h = s
+then_small b (Err r) w s h = s
 
 pick_small : (b : ℕ) (q : Bool) (v w : Verdict) → Small b v → Small b w → Small b (pick q v w)
 pick_small b true v w s t = s

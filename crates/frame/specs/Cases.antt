@@ -1,11 +1,11 @@
 -- Worked examples of the pass, as one list (O1, N1-N7, N18, K1). That they hold is proved in proofs/Examples.antt. Assumes nothing.
-use Rattle.std.specs.Prelude.{ℕ, ◌≡◌, List, [], ◌∷◌, replicate}
+use Rattle.std.specs.Prelude.{ℕ, ◌≡◌, List, [], ◌∷◌, replicate, Ok}
 use Prim.Native.String.{String}
 use Rattle.base.specs.Quoted.{bytes}
-use Rattle.base.specs.declared.Verdict.TheVariants.{Fine, Broken}
+use Rattle.base.specs.Verdicts.{Refused}
 use Rattle.types.specs.Form.{form_of}
 use Rattle.types.specs.Tables.{padded}
-use Rattle.frame.specs.Frame.{capacity, bare, frame_of}
+use Rattle.frame.specs.Frame.{capacity, frame_of}
 
 pub data Case : Type 0 where
   -- the message of that type is accepted, with so many fields, the word, and the spots
@@ -16,9 +16,9 @@ pub data Case : Type 0 where
   points : ℕ → ℕ → ℕ → ℕ → Case
 
 abbrev pub Holds : Case → Type 0
-Holds (finds kind s n w spots) = frame_of (form_of kind) (bytes s) ≡ record { verdict = Fine; fields = n; present = w; spots = padded capacity 0 spots }
-Holds (refuses kind s number place) = frame_of (form_of kind) (bytes s) ≡ bare (Broken number place)
-Holds (points kind n number place) = frame_of (form_of kind) (replicate n 46) ≡ bare (Broken number place)
+Holds (finds kind s n w spots) = frame_of (form_of kind) (bytes s) ≡ Ok (record { fields = n; present = w; spots = padded capacity 0 spots })
+Holds (refuses kind s number place) = frame_of (form_of kind) (bytes s) ≡ Refused number place
+Holds (points kind n number place) = frame_of (form_of kind) (replicate n 46) ≡ Refused number place
 
 -- the example of the rules
 abbrev pub sample : String

@@ -1,8 +1,8 @@
 -- What the quick pass finds in a message: its refusal by 18 and 1 to 7, or its fields' places and their word (O1, K1). Assumes nothing.
-use Rattle.std.specs.Prelude.{ℕ, ◌-◌, List, [], ◌∷◌, ◌++◌, length}
+use Rattle.std.specs.Prelude.{ℕ, ◌-◌, List, [], ◌∷◌, ◌++◌, length, Result}
 use Rattle.base.specs.Rules.{first}
-use Rattle.base.specs.declared.Verdict.{Verdict}
-use Rattle.base.specs.declared.Verdict.TheVariants.{Fine, Broken}
+use Rattle.base.specs.declared.Refusal.{Refusal}
+use Rattle.base.specs.Verdicts.{Verdict, answered}
 use Rattle.fields.specs.Field.{fields}
 use Rattle.fields.specs.Frame.{rule_1, rule_2, rule_3, rule_4}
 use Rattle.fields.specs.Places.{colons_of}
@@ -41,13 +41,9 @@ capacity = 15
 unfoldable pub spots_of : List ℕ → List ℕ
 spots_of m = colons_of 5 (fields m) ++ (length m - 2) ∷ []
 
--- nothing but the refusal
-abbrev pub bare : Verdict → Frame
-bare v = record { verdict = v; fields = 0; present = 0; spots = padded capacity 0 [] }
+unfoldable pub fields_found : Form → List ℕ → Frame
+fields_found form m = record { fields = length (fields m); present = word_of form m; spots = padded capacity 0 (spots_of m) }
 
-unfoldable pub frame_by : Verdict → Form → List ℕ → Frame
-frame_by Fine form m = record { verdict = Fine; fields = length (fields m); present = word_of form m; spots = padded capacity 0 (spots_of m) }
-frame_by (Broken number place) form m = bare (Broken number place)
-
-unfoldable pub frame_of : Form → List ℕ → Frame
-frame_of form m = frame_by (refusal form m) form m
+-- that, or the refusal alone
+unfoldable pub frame_of : Form → List ℕ → Result Frame Refusal
+frame_of form m = answered (refusal form m) (fields_found form m)

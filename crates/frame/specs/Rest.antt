@@ -3,8 +3,7 @@ use Rattle.std.specs.Prelude.{ℕ, ◌+◌, ◌-◌, ◌≤◌, ◌<◌, ◌≡�
 use Rattle.base.specs.Choice.{all}
 use Rattle.base.specs.Bytes.{byte, xset}
 use Rattle.base.specs.Rules.{then}
-use Rattle.base.specs.declared.Verdict.{Verdict}
-use Rattle.base.specs.declared.Verdict.TheVariants.{Broken}
+use Rattle.base.specs.Verdicts.{Verdict, Broken}
 use Rattle.fields.specs.Field.{lines}
 use Rattle.fields.specs.Frame.{scan, bad_line}
 use Rattle.fields.specs.Shapes.{ended}

@@ -1,43 +1,44 @@
 // A refusal is known, and the lines behind it may still break an earlier rule.
-ghost use Rattle.std.specs.Prelude.{◌≡◌};
+ghost use Rattle.std.specs.Prelude.{◌≡◌, Err};
+ghost use Rattle.base.specs.Verdicts.{Broken};
 ghost use Rattle.base.specs.Bytes.{classes};
 ghost use Rattle.frame.specs.Rest.{Tail, after_3, after_4};
 
 use super::lines::{end_of, is_bad_line, is_ended};
-use base::Verdict;
+use base::Refusal;
 use fields::line_tag;
 
 // The line at place is bad: that is the refusal, if no line from i on breaks 3.
-pub(crate) fn late_line(t: &[u8; 256], m: &[u8], i: usize, place: usize) -> Verdict
+pub(crate) fn late_line(t: &[u8; 256], m: &[u8], i: usize, place: usize) -> Refusal
     requires { (t.now ≡ classes) × Tail m.now i }
-    ensures { result ≡ after_3 m.now i (Verdict.Broken 4 place) }
+    ensures { after_3 m.now i (Broken 4 place) ≡ Err result }
 {
     let e = m.len() - 2;
     let mut at = i;
     while at < e {
         let end = end_of(t, m, at);
         if !is_ended(m, end) {
-            return Verdict::Broken {
+            return Refusal {
                 number: 3,
                 place: end,
             };
         }
         at = end + 2;
     }
-    Verdict::Broken { number: 4, place }
+    Refusal { number: 4, place }
 }
 
 // The field at place is wrong: that is the refusal, if no line from i on breaks 3 or 4.
-pub(crate) fn late_field(t: &[u8; 256], m: &[u8], i: usize, wrong: u32, place: usize) -> Verdict
+pub(crate) fn late_field(t: &[u8; 256], m: &[u8], i: usize, wrong: u32, place: usize) -> Refusal
     requires { (t.now ≡ classes) × Tail m.now i }
-    ensures { result ≡ after_4 m.now i (Verdict.Broken wrong place) }
+    ensures { after_4 m.now i (Broken wrong place) ≡ Err result }
 {
     let dash = m.len() - 2;
     let mut at = i;
     while at < dash {
         let end = end_of(t, m, at);
         if !is_ended(m, end) {
-            return Verdict::Broken {
+            return Refusal {
                 number: 3,
                 place: end,
             };
@@ -48,7 +49,7 @@ pub(crate) fn late_field(t: &[u8; 256], m: &[u8], i: usize, wrong: u32, place: u
         }
         at = end + 2;
     }
-    Verdict::Broken {
+    Refusal {
         number: wrong,
         place,
     }

@@ -2,7 +2,7 @@
 ghost use Rattle.std.specs.Prelude.{◌≡◌, ◌&&◌, ◌+◌, ◌-◌, ◌<◌, eqb, length};
 ghost use Rattle.base.specs.Bytes.{byte, classes};
 ghost use Rattle.fields.specs.Frame.{line_bad};
-ghost use Rattle.fields.specs.Shapes.{packed};
+ghost use Rattle.fields.specs.Shapes.{front_tag};
 ghost use Rattle.frame.specs.Rest.{Tail, Stop};
 
 use base::bytes::lead_of;
@@ -21,22 +21,13 @@ pub(crate) fn is_ended(m: &[u8], i: usize) -> bool
     requires { i + 1 < length m.now }
     ensures { result ≡ (eqb (byte m.now i) 13 && eqb (byte m.now (i + 1)) 10) }
 {
-    if m[i] != b'\r' {
-        return false;
-    }
-    m[i + 1] == b'\n'
+    m[i] == b'\r' && m[i + 1] == b'\n'
 }
 
-// The tag is the line's, 0 where it has none.
-pub(crate) fn is_bad_line(first: bool, line: &[u8], tag: u32) -> bool
-    requires { tag ≡ packed line.now }
+// The tag is the line's, if it has one.
+pub(crate) fn is_bad_line(first: bool, line: &[u8], tag: Option<u32>) -> bool
+    requires { tag ≡ front_tag line.now }
     ensures { result ≡ line_bad first line.now }
 {
-    if is_bad_start(first, line) {
-        return true;
-    }
-    if tag != 0 {
-        return false;
-    }
-    line[0] == b':'
+    is_bad_start(first, line) || (tag.is_none() && line[0] == b':')
 }

@@ -5,8 +5,7 @@ use mathlib.Core.List.{List, [], ◌∷◌}
 use Rattle.base.specs.Examples.{AllHold, ◌also◌}
 use Rattle.base.specs.Bytes.{same}
 use Rattle.base.specs.Rules.{first}
-use Rattle.base.specs.declared.Verdict.{Verdict}
-use Rattle.base.specs.declared.Verdict.TheVariants.{Fine, Broken}
+use Rattle.base.specs.Verdicts.{Verdict, Fine, Broken}
 use Rattle.fields.specs.Field.{Field, field}
 use Rattle.types.specs.Form.{form_of, places_of, places_103, places_202}
 use Rattle.base.specs.Quoted.{bytes}

@@ -1,5 +1,5 @@
--- The types' tables stand for their places, and no tag stands at two of them; so what is found in the tables is what the walk's definition says. Assumes nothing.
-use Prim.Native.Nat.{ℕ, zero, suc, ◌+◌, ◌≤◌, ◌<◌, min}
+-- No tag stands at two places of a form; what holds of each form's places; 18. Assumes nothing.
+use Prim.Native.Nat.{ℕ, zero, suc, ◌+◌, ◌≤◌, ◌<◌}
 use mathlib.Core.Path.{◌≡◌, refl, sym, ap, ap₂, ◌∙◌}
 use mathlib.Core.Bool.{Bool, true, false, ◌&&◌, ◌||◌, false≢true}
 use mathlib.Core.List.{List, [], ◌∷◌}
@@ -7,26 +7,22 @@ use mathlib.Core.Logic.{◌↔◌}
 use native.Mathlib.Omega.{arith}
 use native.Mathlib.Nat.{zero-add}
 use lib.Dec.{T, eqb}
-use lib.ListN.{length, drop, length-drop}
-use lib.Seq.{get_or-drop}
+use lib.ListN.{length}
 use borrow.Author.Tests.{eqb-true, ne_eqb}
 use Rattle.base.specs.Choice.{pick, all}
 use Rattle.base.specs.Bytes.{same, empty}
-use Rattle.base.specs.declared.Verdict.TheVariants.{Fine, Broken}
+use Rattle.base.specs.Verdicts.{Fine, Broken}
 use Rattle.base.proofs.RuleLaws.{fine_broken}
 use Rattle.base.proofs.Table.{and_left, and_right, is_true}
 use Rattle.types.specs.declared.Form.{Form}
 use Rattle.types.specs.declared.Form.TheVariants.{Other, Mt103, Mt202}
 use Rattle.types.specs.Form.{Place, mandatory, optional, form_of, type_of, places_103, places_202, places_of}
-use Rattle.types.specs.Walk.{among, is_of, find, skips, wrong, rule_18}
-use Rattle.fields.specs.Shapes.{unpack}
-use Rattle.types.specs.Tables.{most, place_tags, tag_table, mandatory_table, TablesOf, table_places, table_places_from, find_from, step_in, missing, StepFor}
-use Rattle.types.specs.declared.Step.{Step}
+use Rattle.types.specs.Walk.{among, is_of, find, wrong, rule_18}
+use Rattle.std.specs.Prelude.{Option, None}
+use Rattle.types.specs.Tables.{most, place_tags, fault, step_of}
 use Rattle.base.proofs.ByteLaws.{same_is}
-use Rattle.fields.proofs.PackLaws.{unpack_pack}
-use Rattle.types.proofs.WalkLaws.{find_stands, wrong_seated}
-use Rattle.types.proofs.StepLaws.{table_skips}
-use Rattle.types.specs.Sentences.{place_at, Stands}
+use Rattle.types.proofs.WalkLaws.{wrong_0, not_skips}
+use Rattle.types.specs.Sentences.{place_at, Seated}
 
 -- ---- what holds of each form's places holds of any
 pub each_form : (P : List Place → Type 0) → P [] → P places_103 → P places_202 → (form : Form) → P (places_of form)
@@ -39,14 +35,6 @@ pub form_type : (form : Form) → form_of (type_of form) ≡ form
 form_type Other = refl
 form_type Mt103 = refl
 form_type Mt202 = refl
-
--- ---- the tables, computed for each form
-abbrev TablesAgree : List Place → Type 0
-TablesAgree ps = table_places (tag_table ps) (mandatory_table ps) (length ps) ≡ ps
-
-tables : (form : Form) → table_places (tag_table (places_of form)) (mandatory_table (places_of form)) (length (places_of form)) ≡ places_of form
-unfolding places_103 places_202 tag_table mandatory_table table_places_from
-tables form = each_form TablesAgree refl refl refl form
 
 -- ---- a tag stands at one place, computed for each form
 abbrev alone_from : List Place → ℕ → List Place → Bool
@@ -83,42 +71,18 @@ alone_from_lem ps t i (q ∷ qs) h (suc k) l e =
 find_alone : (ps : List Place) → Alone ps → (t : List ℕ) (k : ℕ) → k < length ps → is_of t (place_at ps k) ≡ true → find ps t ≡ k
 find_alone ps h t k l e = alone_from_lem ps t 0 ps h k l e ∙ zero-add k
 
--- so from next on the same place is met
-found : (ps : List Place) → Alone ps → (next : ℕ) (t : List ℕ) → find_from ps next t < length ps → find ps t ≡ find_from ps next t
-found ps h next t l =
-    let s : Stands (drop next ps) t (find (drop next ps) t) = find_stands (drop next ps) t (omega (arith, length-drop next ps)) in
-    find_alone ps h t (find_from ps next t) l (ap (is_of t) (sym (get_or-drop next ps (find (drop next ps) t) (optional []))) ∙ s.has)
+-- so a place that has the tag, and where nothing is wrong, is the field's
+pub step_seated : (form : Form) (next : ℕ) (t : List ℕ) (q : ℕ) → Seated (places_of form) next q → is_of t (place_at (places_of form) q) ≡ true
+    → record { place = q; wrong = None } ≡ step_of (places_of form) next t
+step_seated form next t q s e =
+    let ps : List Place = places_of form in
+    let f = find_alone ps (all_alone form) t q s.within e in
+    let w = wrong_0 ps next q s.within s.low (not_skips ps next q s.free) in
+    ap₂ (λ (k : ℕ) (o : Option ℕ). record { place = k; wrong = o }) (sym f) (sym (ap (λ (k : ℕ). fault (wrong ps next k)) f ∙ ap fault w))
 
-step_alone : (ps : List Place) → Alone ps → (next : ℕ) (t : List ℕ) → step_in ps next t ≡ record { place = find ps t; wrong = wrong ps next (find ps t) }
-unfolding step_in
-step_alone ps h next t = go (eqb (wrong ps next (find_from ps next t)) 0) refl
-  where
-    go : (b : Bool) → eqb (wrong ps next (find_from ps next t)) 0 ≡ b
-        → ◌≡◌ {A = Step} (pick b (record { place = find_from ps next t; wrong = 0 }) (record { place = find ps t; wrong = wrong ps next (find ps t) })) (record { place = find ps t; wrong = wrong ps next (find ps t) })
-    go true e =
-        let w : wrong ps next (find_from ps next t) ≡ 0 = eqb-true (wrong ps next (find_from ps next t)) 0 e in
-        let f = found ps h next t (wrong_seated ps next (find_from ps next t) w).within in
-        ap₂ (λ (k n : ℕ). record { place = k; wrong = n }) (sym f) (sym (ap (wrong ps next) f ∙ w))
-    go false e = refl
-
--- ---- what the calls answer where the type's own tables are lent
 pub few_places : (form : Form) → length (places_of form) ≤ most
 unfolding places_103 places_202
 few_places form = each_form (λ ps. length ps ≤ most) (omega arith) (omega arith) (omega arith) form
-
-module _ {form : Form} {tags : List ℕ} {musts : List Bool} {count : ℕ} (l : TablesOf form tags musts count) where
-  table_places_lem : table_places tags musts count ≡ places_of form
-  table_places_lem = rw (l.tags_are, l.musts_are, l.count_is) (tables form)
-
-  pub step_of_form : (next tag : ℕ) → StepFor form next tag (step_in (table_places tags musts count) next (unpack tag))
-  step_of_form next tag t e p =
-      ap₂ (λ (ps : List Place) (u : List ℕ). step_in ps next u) table_places_lem (ap unpack (sym p) ∙ unpack_pack t e) ∙ step_alone (places_of form) (all_alone form) next t
-
-  pub missing_of_form : (next : ℕ) → missing musts count next ≡ skips (places_of form) next (length (places_of form))
-  unfolding missing
-  missing_of_form next =
-      let m : min count most ≡ length (places_of form) = omega (arith, l.count_is, few_places form) in
-      sym (table_skips tags musts (min count most) next (min count most)) ∙ ap₂ (λ (ps : List Place) (n : ℕ). skips ps next n) table_places_lem m
 
 -- ---- 18
 pub no_places : (form : Form) → length (places_of form) ≡ 0 → rule_18 form ≡ Broken 18 0

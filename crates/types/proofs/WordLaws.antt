@@ -14,7 +14,7 @@ use lib.Seq.{length-take-le}
 use lib.Pow.{pow_mono, pow_pos, low}
 use borrow.Author.Tests.{eq-eqb, eqb-true}
 use Rattle.base.specs.Choice.{pick}
-use Rattle.base.specs.declared.Verdict.TheVariants.{Fine}
+use Rattle.base.specs.Verdicts.{Fine}
 use Rattle.fields.specs.Field.{Field, fields, tag_of}
 use Rattle.types.specs.declared.Form.{Form}
 use Rattle.types.specs.Form.{Place, optional, places_of}

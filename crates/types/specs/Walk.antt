@@ -2,8 +2,7 @@
 use Rattle.std.specs.Prelude.{ℕ, suc, ◌+◌, ◌^◌, Bool, true, false, not, ◌||◌, List, [], ◌∷◌, eqb, leb, ltb, length, take, drop}
 use Rattle.base.specs.Choice.{pick, all}
 use Rattle.base.specs.Bytes.{same, empty}
-use Rattle.base.specs.declared.Verdict.{Verdict}
-use Rattle.base.specs.declared.Verdict.TheVariants.{Fine, Broken}
+use Rattle.base.specs.Verdicts.{Verdict, Fine, Broken}
 use Rattle.fields.specs.Field.{Field, tag_of, fields}
 use Rattle.fields.specs.Places.{next_of}
 use Rattle.types.specs.declared.Form.{Form}

@@ -1,76 +1,85 @@
-// The forms as tables of one size: two tags a place, the same twice where it has one, and which places are mandatory. Zeros stand behind.
-ghost use Rattle.std.specs.Prelude.{◌≡◌, length};
+// The forms as lists of their places.
+ghost use Rattle.std.specs.Prelude.{◌≡◌, length, map};
 ghost use Rattle.types.specs.Form.{form_of, places_of};
-ghost use Rattle.types.specs.Tables.{tag_table, mandatory_table};
+ghost use Rattle.types.specs.Tables.{place};
 
+use self::Place::{Mandatory, Optional};
+use self::Tags::{Either, One};
+use super::Form;
 use super::tags::{
     TAG_20, TAG_21, TAG_23B, TAG_26T, TAG_32A, TAG_50K, TAG_52A, TAG_53B, TAG_56A, TAG_56D,
     TAG_57A, TAG_57D, TAG_58A, TAG_58D, TAG_59, TAG_70, TAG_71A, TAG_72, TAG_77B,
 };
-use super::{Form, PLACES, TAGS};
 
-const TAGS_103: [u32; TAGS] = [
-    TAG_20, TAG_20, TAG_23B, TAG_23B, TAG_26T, TAG_26T, TAG_32A, TAG_32A, TAG_50K, TAG_50K,
-    TAG_52A, TAG_52A, TAG_53B, TAG_53B, TAG_56A, TAG_56D, TAG_57A, TAG_57D, TAG_59, TAG_59, TAG_70,
-    TAG_70, TAG_71A, TAG_71A, TAG_72, TAG_72, TAG_77B, TAG_77B,
+// The tags that a field of a place may have, each as one number.
+#[derive(Clone, Copy, PartialEq, Eq)]
+pub enum Tags {
+    One(u32),
+    Either(u32, u32),
+}
+
+// A place of a form, where a message must have a field or may have one.
+#[derive(Clone, Copy, PartialEq, Eq)]
+pub enum Place {
+    Mandatory(Tags),
+    Optional(Tags),
+}
+
+static PLACES_103: [Place; 14] = [
+    Mandatory(One(TAG_20)),
+    Mandatory(One(TAG_23B)),
+    Optional(One(TAG_26T)),
+    Mandatory(One(TAG_32A)),
+    Mandatory(One(TAG_50K)),
+    Optional(One(TAG_52A)),
+    Mandatory(One(TAG_53B)),
+    Optional(Either(TAG_56A, TAG_56D)),
+    Optional(Either(TAG_57A, TAG_57D)),
+    Mandatory(One(TAG_59)),
+    Mandatory(One(TAG_70)),
+    Mandatory(One(TAG_71A)),
+    Optional(One(TAG_72)),
+    Optional(One(TAG_77B)),
 ];
 
-const TAGS_202: [u32; TAGS] = [
-    TAG_20, TAG_20, TAG_21, TAG_21, TAG_32A, TAG_32A, TAG_52A, TAG_52A, TAG_53B, TAG_53B, TAG_56A,
-    TAG_56D, TAG_57A, TAG_57D, TAG_58A, TAG_58D, TAG_72, TAG_72, 0, 0, 0, 0, 0, 0, 0, 0, 0, 0,
-];
-
-const COUNT_103: usize = 14;
-
-const COUNT_202: usize = 9;
-
-const MUSTS_103: [bool; PLACES] = [
-    true, true, false, true, true, false, true, false, false, true, true, true, false, false,
-];
-
-const MUSTS_202: [bool; PLACES] = [
-    true, true, true, false, true, false, false, true, true, false, false, false, false, false,
+static PLACES_202: [Place; 9] = [
+    Mandatory(One(TAG_20)),
+    Mandatory(One(TAG_21)),
+    Mandatory(One(TAG_32A)),
+    Optional(One(TAG_52A)),
+    Mandatory(One(TAG_53B)),
+    Optional(Either(TAG_56A, TAG_56D)),
+    Optional(Either(TAG_57A, TAG_57D)),
+    Mandatory(Either(TAG_58A, TAG_58D)),
+    Mandatory(One(TAG_72)),
 ];
 
 // The form of a type.
+// Stays: a `From` beside `form_of`, which docs/PROMISES.md names, would say the same twice.
 pub fn form_of(kind: u32) -> Form
     ensures { result ≡ form_of kind }
 {
-    if kind == 103 {
-        return Form::Mt103;
+    match kind {
+        103 => Form::Mt103,
+        202 => Form::Mt202,
+        _ => Form::Other,
     }
-    if kind == 202 {
-        return Form::Mt202;
-    }
-    Form::Other
 }
 
-pub fn tags_of(form: Form) -> [u32; TAGS]
-    ensures { result ≡ tag_table (places_of form) }
+// A form's places, in order.
+pub fn places_of(form: Form) -> &'static [Place]
+    ensures { map place result.now ≡ places_of form }
 {
     match form {
-        Form::Other => [0; TAGS],
-        Form::Mt103 => TAGS_103,
-        Form::Mt202 => TAGS_202,
+        Form::Other => &[],
+        Form::Mt103 => &PLACES_103,
+        Form::Mt202 => &PLACES_202,
     }
 }
 
-pub fn musts_of(form: Form) -> [bool; PLACES]
-    ensures { result ≡ mandatory_table (places_of form) }
-{
-    match form {
-        Form::Other => [false; PLACES],
-        Form::Mt103 => MUSTS_103,
-        Form::Mt202 => MUSTS_202,
-    }
-}
-
+// How many places a form has.
 pub fn count_of(form: Form) -> usize
     ensures { result ≡ length (places_of form) }
 {
-    match form {
-        Form::Other => 0,
-        Form::Mt103 => COUNT_103,
-        Form::Mt202 => COUNT_202,
-    }
+    places_of(form).len()
 }

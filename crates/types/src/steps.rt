@@ -1,112 +1,147 @@
-// One field of the walk: its tag's place in lent tables, and what is wrong with it there.
-ghost use Rattle.std.specs.Prelude.{◌≡◌, [], ◌≤◌, ◌<◌, min};
-ghost use Rattle.types.specs.Walk.{is_of, find, skips, wrong};
+// One field of the walk: its tag's place among those of a form, and what is wrong with it there.
+ghost use Rattle.std.specs.Prelude.{◌≡◌, true, not, ◌||◌, ◌≤◌, ◌<◌, length, map, position, IfSome};
+ghost use Rattle.std.specs.List.{list_any};
 ghost use Rattle.fields.specs.Shapes.{unpack};
-ghost use Rattle.types.specs.Tables.{most, table_places, table_place, table_places_from, sought, step_in, missing};
+ghost use Rattle.types.specs.Form.{places_of};
+ghost use Rattle.types.specs.Walk.{among, is_of, is_optional, find, skips, wrong};
+ghost use Rattle.types.specs.Sentences.{place_at, Seated};
+ghost use Rattle.types.specs.Tables.{texts, place, fault, step_of};
 
-use super::{PLACES, Step, TAGS};
+use super::forms::Place::{self, Mandatory, Optional};
+use super::forms::Tags::{self, Either, One};
+use super::forms::places_of;
+use super::{Form, Step};
+use std::marker::Model;
 
-fn within(count: usize) -> usize
-    ensures { result ≡ min count most }
-{
-    if count < PLACES { count } else { PLACES }
-}
-
-fn has_tag(tags: &[u32; TAGS], q: usize, tag: u32) -> bool
-    requires { q < most }
-    ensures { result ≡ is_of (unpack tag) (table_place tags.now [] q) }
-{
-    if tags[q + q] == tag {
-        return true;
-    }
-    tags[q + q + 1] == tag
-}
-
-fn place_in(tags: &[u32; TAGS], count: usize, tag: u32) -> usize
-    requires { count ≤ most }
-    ensures { result ≡ find (table_places_from tags.now [] 0 count) (unpack tag) }
-{
-    let mut q = 0;
-    while q < count {
-        if has_tag(tags, q, tag) {
-            return q;
+impl Tags {
+    fn has(&self, tag: u32) -> bool
+        ensures { result ≡ among (unpack tag) (texts self.now) }
+    {
+        match *self {
+            One(t) => t == tag,
+            Either(t, u) => t == tag || u == tag,
         }
-        q += 1;
     }
-    count
 }
 
-fn is_skipping(musts: &[bool; PLACES], count: usize, from: usize, to: usize) -> bool
-    requires { (count ≤ most) × (to ≤ count) }
-    ensures { result ≡ skips (table_places_from [] musts.now 0 count) from to }
-{
-    let mut q = from;
-    while q < to {
-        if musts[q] {
-            return true;
+impl Place {
+    fn has(&self, tag: u32) -> bool
+        ensures { result ≡ is_of (unpack tag) (place self.now) }
+    {
+        match self {
+            Mandatory(tags) => tags.has(tag),
+            Optional(tags) => tags.has(tag),
         }
-        q += 1;
     }
-    false
+
+    fn is_mandatory(&self) -> bool
+        ensures { result ≡ not (is_optional (place self.now)) }
+    {
+        matches!(self, Mandatory(_))
+    }
 }
 
-fn wrong_of(musts: &[bool; PLACES], count: usize, next: usize, place: usize) -> u32
-    requires { count ≤ most }
-    ensures { result ≡ wrong (table_places_from [] musts.now 0 count) next place }
+// The first place with the tag.
+fn first_with(places: &[Place], tag: u32) -> Option<usize>
+    ensures { result ≡ position (λ p. is_of (unpack tag) (place p)) places.now }
 {
-    if count <= place {
-        return 5;
+    places.iter().position(|p| p.has(tag))
+}
+
+// The first place with the tag, or that is mandatory.
+fn first_met(places: &[Place], tag: u32) -> Option<usize>
+    ensures { result ≡ position (λ p. is_of (unpack tag) (place p) || not (is_optional (place p))) places.now }
+{
+    places.iter().position(|p| p.has(tag) || p.is_mandatory())
+}
+
+fn has_mandatory(places: &[Place]) -> bool
+    ensures { result ≡ list_any (λ p. not (is_optional (place p))) places.now }
+{
+    places.iter().any(|p| p.is_mandatory())
+}
+
+fn place_in(places: &[Place], tag: u32) -> usize
+    ensures { result ≡ find (map place places.now) (unpack tag) }
+{
+    first_with(places, tag).unwrap_or(places.len())
+}
+
+fn wrong_of(places: &[Place], next: usize, at: usize) -> Option<u32>
+    ensures { result ≡ fault (wrong (map place places.now) next at) }
+{
+    if places.len() <= at {
+        Some(5)
+    } else if at < next {
+        Some(6)
+    } else if has_mandatory(&places[next..at]) {
+        Some(7)
+    } else {
+        None
     }
-    if place < next {
-        return 6;
-    }
-    if is_skipping(musts, count, next, place) {
-        return 7;
-    }
-    0
 }
 
 // From next on, up to the tag or a mandatory place: most fields are met so after a step or two.
-fn seek(tags: &[u32; TAGS], musts: &[bool; PLACES], count: usize, next: usize, tag: u32) -> usize
-    requires { count ≤ most }
-    ensures { result ≡ sought (table_places_from tags.now musts.now 0 count) next (unpack tag) }
+fn seek(places: &[Place], next: usize, tag: u32) -> Option<usize>
+    ensures { IfSome result (λ q. Seated (map place places.now) next q × (is_of (unpack tag) (place_at (map place places.now) q) ≡ true)) }
 {
-    let mut q = next;
-    while q < count {
-        if has_tag(tags, q, tag) {
-            return q;
-        }
-        if musts[q] {
-            return count;
-        }
-        q += 1;
+    if places.len() < next {
+        return None;
     }
-    count
+    let behind = &places[next..];
+    let q = first_met(behind, tag)?;
+    if behind[q].has(tag) {
+        Some(next + q)
+    } else {
+        None
+    }
 }
 
-pub fn step_of(
-    tags: &[u32; TAGS],
-    musts: &[bool; PLACES],
-    count: usize,
-    next: usize,
-    tag: u32,
-) -> Step
-    ensures { result ≡ step_in (table_places tags.now musts.now count) next (unpack tag) }
-{
-    let c = within(count);
-    let q = seek(tags, musts, c, next, tag);
-    if q < c {
-        return Step { place: q, wrong: 0 };
-    }
-    let p = place_in(tags, c, tag);
-    let w = wrong_of(musts, c, next, p);
-    Step { place: p, wrong: w }
+// The places of a form, in order.
+#[derive(Drop)]
+pub struct Places {
+    list: &'static [Place],
 }
 
-// 7 at the end: a mandatory place stands from next on.
-pub fn is_missing(musts: &[bool; PLACES], count: usize, next: usize) -> bool
-    ensures { result ≡ missing musts.now count next }
-{
-    let c = within(count);
-    is_skipping(musts, c, next, c)
+impl Model for Places {
+    ghost use Rattle.std.specs.Prelude.{List};
+    ghost use Rattle.types.specs.Form.{Place};
+
+    ghost Value = { List Place };
+
+    ghost use Rattle.types.specs.Tables.{places_in, AreOfAForm};
+
+    ghost view = { places_in };
+
+    ghost invariant = { AreOfAForm };
+}
+
+impl Places {
+    pub fn of(form: Form) -> Places
+        ensures { result ≡ places_of form }
+    {
+        Places {
+            list: places_of(form),
+        }
+    }
+
+    pub fn step_of(&self, next: usize, tag: u32) -> Step
+        ensures { result ≡ step_of self.now next (unpack tag) }
+    {
+        if let Some(place) = seek(self.list, next, tag) {
+            return Step { place, wrong: None };
+        }
+        let place = place_in(self.list, tag);
+        Step {
+            place,
+            wrong: wrong_of(self.list, next, place),
+        }
+    }
+
+    // 7 at the end: a mandatory place stands from next on.
+    pub fn is_missing(&self, next: usize) -> bool
+        ensures { result ≡ skips self.now next (length self.now) }
+    {
+        next < self.list.len() && has_mandatory(&self.list[next..])
+    }
 }

@@ -1,4 +1,5 @@
 // The tags of the two types, each as one number: its bytes one behind the other, 0 for the third where it has two.
+// Stays: `tag_at` and `tag_number` promise a tag as one number, and `pack_one` that no two have the same.
 const FIRST: u32 = 65536;
 
 const SECOND: u32 = 256;

@@ -1,17 +1,9 @@
--- `fields::is_framed` meets its contract, from those of its two halves. Assumes nothing.
-use Rattle.base.proofs.Flags.{flags}
-use mathlib.Core.Path.{sym}
-use Rattle.fields.specs.Frame.{framed}
-use Rattle.fields.proofs.FrameLaws.{too_short}
+-- `fields::is_framed` meets its contract: both ends (`framed_both`). Assumes nothing.
+use Rattle.fields.proofs.FrameLaws.{framed_both}
 use Rattle.fields.proofs.is_framed.Goals as goal
 
-pub returns-then-m-lt7 : goal.returns-then-m-lt7
-returns-then-m-lt7 c = sym (too_short c.args.m.now c.if-m-lt7.true)
+pub returns-then-starts_with : goal.returns-then-starts_with
+returns-then-starts_with c = rw (framed_both, ← c.starts_with.ensures.value, c.if-starts_with.true) c.ends_with.ensures.value
 
-pub returns-then-not-is_opened : goal.returns-then-not-is_opened
-unfolding framed
-returns-then-not-is_opened c = search flags depth 9
-
-pub returns : goal.returns
-unfolding framed
-returns c = search flags depth 9
+pub returns-else-starts_with : goal.returns-else-starts_with
+returns-else-starts_with c = rw (framed_both, ← c.starts_with.ensures.value, c.if-starts_with.false)

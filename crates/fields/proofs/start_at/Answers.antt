@@ -1,21 +1,14 @@
--- `fields::start_at` meets its contract: a message too short has no colon there. Assumes nothing.
-use Prim.Native.Nat.{ℕ, ◌+◌}
-use mathlib.Core.Path.{sym, ap}
-use lib.Dec.{eqb}
-use lib.ListN.{get_or-eq_default}
-use Rattle.base.specs.Choice.{pick}
-use Rattle.base.proofs.Flags.{flags}
-use Rattle.fields.specs.ByLines.{start_at}
+-- `fields::start_at` meets its contract: the byte behind two digits, if there is one. Assumes nothing.
+use mathlib.Core.Path.{refl, sym, ◌∙◌}
+use Prim.Native.Nat.{◌+◌}
+use native.Mathlib.Omega.{arith}
+use Rattle.fields.proofs.PlaceLaws.{colon_there, start_short, start_long}
 use Rattle.fields.proofs.start_at.Goals as goal
 
-pub returns-then-m-o : goal.returns-then-m-o
-unfolding start_at
-returns-then-m-o c = let a = c.args in sym (ap (λ (x : ℕ). pick (eqb x 58) (a.colon + 4) (a.colon + 5)) (get_or-eq_default a.m.now 0 {n = a.colon + 3} c.if-m-o.true))
+pub returns-then-eq : goal.returns-then-eq
+returns-then-eq c = let a = c.args in
+    start_short a.m.now a.colon (sym (colon_there a.m.now (a.colon + 3) c.get.result (c.get.ensures.lookup.4 (omega arith)) _ refl) ∙ sym c.eq.ensures ∙ c.if-eq.true)
 
-pub returns-then-m-o-eq58 : goal.returns-then-m-o-eq58
-unfolding start_at
-returns-then-m-o-eq58 c = search flags depth 9
-
-pub returns : goal.returns
-unfolding start_at
-returns c = search flags depth 9
+pub returns-else-eq : goal.returns-else-eq
+returns-else-eq c = let a = c.args in
+    start_long a.m.now a.colon (sym (colon_there a.m.now (a.colon + 3) c.get.result (c.get.ensures.lookup.4 (omega arith)) _ refl) ∙ sym c.eq.ensures ∙ c.if-eq.false)

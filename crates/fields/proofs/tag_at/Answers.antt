@@ -1,12 +1,20 @@
 -- `fields::tag_at` meets its contract: two digits, and a capital where no colon stands there. Assumes nothing.
+use native.Mathlib.Omega.{arith}
+use mathlib.Core.Logic.{inl, inr}
 use Rattle.fields.proofs.PlaceLaws.{no_tag, tag_short, tag_letter}
 use Rattle.fields.proofs.tag_at.Goals as goal
 
-pub returns-then-m-o : goal.returns-then-m-o
-returns-then-m-o c = let a = c.args in no_tag a.m.now a.colon c.if-m-o.true
+pub returns-in_default : goal.returns-in_default
+returns-in_default c =
+    let k = c.in_default.ensures.lookup in
+    no_tag c.args.m.now c.args.colon (elim k.0 [ inl h ↦ omega arith | inr h ↦ omega arith ])
 
-pub returns-then-m-o-eq58 : goal.returns-then-m-o-eq58
-returns-then-m-o-eq58 c = let a = c.args in tag_short a.m.now a.colon c.if-m-o.false c.wide.ensures.0 c.wide-2.ensures.0 c.if-m-o-eq58.true
+pub returns-in-58 : goal.returns-in-58
+returns-in-58 c =
+    let k = c.in-Some.ensures.lookup in
+    tag_short c.args.m.now c.args.colon k.0.1 k.0.2 (omega arith) c.pack.ensures
 
-pub returns : goal.returns
-returns c = let a = c.args in tag_letter a.m.now a.colon c.if-m-o.false c.wide.ensures.0 c.wide-2.ensures.0 c.wide-3.ensures.0 c.if-m-o-eq58.false
+pub returns-in-len3 : goal.returns-in-len3
+returns-in-len3 c =
+    let k = c.in-Some.ensures.lookup in
+    tag_letter c.args.m.now c.args.colon k.0.1 k.0.2 (λ q. omega arith) c.pack-in-len3.ensures

@@ -4,7 +4,7 @@ use mathlib.Core.Path.{sym, ◌∙◌}
 use native.Mathlib.Omega.{arith}
 use borrow.Author.Rules.{rules}
 use lib.ListN.{take, drop}
-use Rattle.base.specs.declared.Verdict.TheVariants.{Broken}
+use Rattle.base.specs.Verdicts.{Broken}
 use Rattle.frame.specs.Rest.{LineAt}
 use Rattle.frame.proofs.LateLaws.{for_4_begin, for_4_stop, for_4_bad, for_4_end, for_4_on}
 use Rattle.frame.proofs.late.late_field.Goals as goal
@@ -23,7 +23,7 @@ is_ended-requires c = let s = c.end_of-end.ensures in omega (arith, s.short)
 
 pub returns-then-not-is_ended : goal.returns-then-not-is_ended
 returns-then-not-is_ended c = let a = c.args in
-    sym (for_4_stop c.loop-at.invariant (Broken a.wrong a.place) (c.end_of-end.ensures.broken (sym c.is_ended.ensures ∙ c.if-not-is_ended.true)))
+    for_4_stop c.loop-at.invariant (Broken a.wrong a.place) (c.end_of-end.ensures.broken (sym c.is_ended.ensures ∙ c.if-not-is_ended.true))
 
 pub slice_bounds-line-count : goal.slice_bounds-line-count
 slice_bounds-line-count c =
@@ -60,7 +60,7 @@ returns-then-is_bad_line c =
     let line : let m = c.args.m.now in
     LineAt m c.loop-at.at c.end_of-end.result (take (c.end_of-end.result - c.loop-at.at) (drop c.loop-at.at m)) = c.end_of-end.ensures.line (sym c.is_ended.ensures ∙ c.if-not-is_ended.false) in
     let a = c.args in
-    c.late_line.ensures ∙ sym (for_4_bad c.loop-at.invariant (Broken a.wrong a.place) line (sym c.is_bad_line.ensures ∙ c.if-is_bad_line.true))
+    for_4_bad c.loop-at.invariant (Broken a.wrong a.place) line (sym c.is_bad_line.ensures ∙ c.if-is_bad_line.true) ∙ c.late_line.ensures
 
 pub overflow_add-at : goal.overflow_add-at
 overflow_add-at c = let s = c.end_of-end.ensures in omega (arith, s.short)
@@ -78,4 +78,4 @@ loop-at-preserved c =
     for_4_on c.loop-at.invariant line (sym c.is_bad_line.ensures ∙ c.if-is_bad_line.false)
 
 pub returns : goal.returns
-returns c = let a = c.args in sym (for_4_end c.loop-at.invariant (Broken a.wrong a.place) c.loop-at-test.false)
+returns c = let a = c.args in for_4_end c.loop-at.invariant (Broken a.wrong a.place) c.loop-at-test.false

@@ -3,7 +3,7 @@ use Prim.Native.Nat.{◌-◌}
 use mathlib.Core.Path.{sym, ◌∙◌}
 use native.Mathlib.Omega.{arith}
 use lib.ListN.{take, drop}
-use Rattle.base.specs.declared.Verdict.TheVariants.{Broken}
+use Rattle.base.specs.Verdicts.{Broken}
 use Rattle.frame.specs.Rest.{LineAt}
 use Rattle.frame.proofs.LateLaws.{for_3_begin, for_3_stop, for_3_end, for_3_on}
 use Rattle.frame.proofs.late.late_line.Goals as goal
@@ -21,7 +21,7 @@ pub is_ended-requires : goal.is_ended-requires
 is_ended-requires c = let s = c.end_of-end.ensures in omega (arith, s.short)
 
 pub returns-then-not-is_ended : goal.returns-then-not-is_ended
-returns-then-not-is_ended c = sym (for_3_stop c.loop-at.invariant (Broken 4 c.args.place) (c.end_of-end.ensures.broken (sym c.is_ended.ensures ∙ c.if-not-is_ended.true)))
+returns-then-not-is_ended c = for_3_stop c.loop-at.invariant (Broken 4 c.args.place) (c.end_of-end.ensures.broken (sym c.is_ended.ensures ∙ c.if-not-is_ended.true))
 
 pub overflow_add-at : goal.overflow_add-at
 overflow_add-at c = let s = c.end_of-end.ensures in omega (arith, s.short)
@@ -39,4 +39,4 @@ loop-at-preserved c =
     for_3_on c.loop-at.invariant line
 
 pub returns : goal.returns
-returns c = let a = c.args in sym (for_3_end c.loop-at.invariant (Broken 4 a.place) c.loop-at-test.false)
+returns c = for_3_end c.loop-at.invariant (Broken 4 c.args.place) c.loop-at-test.false

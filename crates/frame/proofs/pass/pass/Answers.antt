@@ -2,22 +2,20 @@
 use Prim.Native.Nat.{◌+◌, ◌-◌, ◌^◌, ◌≤◌}
 use mathlib.Core.Path.{◌≡◌, sym, ap, ◌∙◌}
 use mathlib.Core.Bool.{false}
-use mathlib.Core.List.{tail}
 use native.Mathlib.Omega.{arith}
 use borrow.Author.Rules.{rules}
 use lib.Dec.{eqb}
 use lib.ListN.{take, drop}
 use lib.Pow.{pow_mono}
 use Rattle.base.proofs.BitLaws.{bit_of_lem, word_on}
-use Rattle.fields.specs.Field.{upto}
 use Rattle.fields.specs.Frame.{line_bad}
 use Rattle.fields.proofs.FrameLaws.{rule_2_fine, framed_long}
 use Rattle.types.specs.Form.{places_of}
-use Rattle.types.specs.Walk.{find, wrong}
-use Rattle.types.proofs.TableLaws.{few_places, missing_of_form}
+use Rattle.types.specs.Walk.{wrong}
+use Rattle.types.proofs.TableLaws.{few_places}
 use Rattle.types.proofs.WalkLaws.{wrong_seated}
 use Rattle.frame.specs.Rest.{LineAt}
-use Rattle.frame.proofs.PassLaws.{begin, plain, opened, stepped, bare_broken, bare_after_3, bare_after_4, stop_3, stop_4, stop_5, on_line, on_field, finish, accept}
+use Rattle.frame.proofs.PassLaws.{begin, plain, opened, stepped, missed, fault_none, fault_some, refused_frame, stop_3, stop_4, stop_5, on_line, on_field, finish, accept}
 use Rattle.types.specs.Sentences.{Seated}
 use Rattle.frame.proofs.pass.pass.Goals as goal
 
@@ -35,7 +33,7 @@ is_ended-requires c = let s = c.end_of-end.ensures in omega (arith, s.short)
 
 pub returns-then-not-is_ended : goal.returns-then-not-is_ended
 returns-then-not-is_ended c = let a = c.args in
-    c.refused.ensures ∙ bare_broken a.form a.m.now (stop_3 c.loop-at.invariant (c.end_of-end.ensures.broken (sym c.is_ended.ensures ∙ c.if-not-is_ended.true)))
+    refused_frame a.form a.m.now (stop_3 c.loop-at.invariant (c.end_of-end.ensures.broken (sym c.is_ended.ensures ∙ c.if-not-is_ended.true)))
 
 pub slice_bounds-line-count : goal.slice_bounds-line-count
 slice_bounds-line-count c =
@@ -72,27 +70,27 @@ returns-then-is_bad_line c =
     let line : let m = c.args.m.now in
     LineAt m c.loop-at.at c.end_of-end.result (take (c.end_of-end.result - c.loop-at.at) (drop c.loop-at.at m)) = c.end_of-end.ensures.line (sym c.is_ended.ensures ∙ c.if-not-is_ended.false) in
     let a = c.args in
-    c.refused-then-is_bad_line.ensures ∙ bare_after_3 a.form a.m.now _ 4 c.loop-at.at (stop_4 c.loop-at.invariant line (sym c.is_bad_line.ensures ∙ c.if-is_bad_line.true)) c.late_line.ensures
+    refused_frame a.form a.m.now (stop_4 c.loop-at.invariant line (sym c.is_bad_line.ensures ∙ c.if-is_bad_line.true) ∙ c.late_line.ensures)
 
 pub overflow_add-at : goal.overflow_add-at
 overflow_add-at c = let s = c.end_of-end.ensures in omega (arith, s.short)
 
-pub loop-at-smaller-then-tag-eq0 : goal.loop-at-smaller-then-tag-eq0
-loop-at-smaller-then-tag-eq0 c =
+pub loop-at-smaller-in_default : goal.loop-at-smaller-in_default
+loop-at-smaller-in_default c =
     let line : let m = c.args.m.now in
     LineAt m c.loop-at.at c.end_of-end.result (take (c.end_of-end.result - c.loop-at.at) (drop c.loop-at.at m)) = c.end_of-end.ensures.line (sym c.is_ended.ensures ∙ c.if-not-is_ended.false) in
     let s = c.end_of-end.ensures in omega (arith, s.short, line.size)
 
-pub loop-at-preserved-then-tag-eq0 : goal.loop-at-preserved-then-tag-eq0
-loop-at-preserved-then-tag-eq0 c =
+pub loop-at-preserved-in_default : goal.loop-at-preserved-in_default
+loop-at-preserved-in_default c =
     let line : let m = c.args.m.now in
     LineAt m c.loop-at.at c.end_of-end.result (take (c.end_of-end.result - c.loop-at.at) (drop c.loop-at.at m)) = c.end_of-end.ensures.line (sym c.is_ended.ensures ∙ c.if-not-is_ended.false) in
     let good : let m = c.args.m.now in
     line_bad (eqb c.loop-at.at 5) (take (c.end_of-end.result - c.loop-at.at) (drop c.loop-at.at m)) ≡ false = sym c.is_bad_line.ensures ∙ c.if-is_bad_line.false in
-    on_line c.loop-at.invariant line good (plain (eqb c.loop-at.at 5) _ good (sym c.line_tag-tag.ensures ∙ c.if-tag-eq0.true))
+    on_line c.loop-at.invariant line good (plain (eqb c.loop-at.at 5) _ good (sym c.in_default.is ∙ c.line_tag-tag.ensures))
 
-pub overflow_add-end-then-w-ne0 : goal.overflow_add-end-then-w-ne0
-overflow_add-end-then-w-ne0 c = let s = c.end_of-end.ensures in omega (arith, s.short)
+pub overflow_add-end-in-Some-wrong : goal.overflow_add-end-in-Some-wrong
+overflow_add-end-in-Some-wrong c = let s = c.end_of-end.ensures in omega (arith, s.short)
 
 pub late_field-requires : goal.late_field-requires
 late_field-requires c =
@@ -100,19 +98,16 @@ late_field-requires c =
     LineAt m c.loop-at.at c.end_of-end.result (take (c.end_of-end.result - c.loop-at.at) (drop c.loop-at.at m)) = c.end_of-end.ensures.line (sym c.is_ended.ensures ∙ c.if-not-is_ended.false) in
     (c.requires.0, line.behind)
 
-pub returns-then-w-ne0 : goal.returns-then-w-ne0
-returns-then-w-ne0 c =
+pub returns-in-Some-wrong : goal.returns-in-Some-wrong
+returns-in-Some-wrong c =
     let line : let m = c.args.m.now in
     LineAt m c.loop-at.at c.end_of-end.result (take (c.end_of-end.result - c.loop-at.at) (drop c.loop-at.at m)) = c.end_of-end.ensures.line (sym c.is_ended.ensures ∙ c.if-not-is_ended.false) in
     let good : let m = c.args.m.now in
     line_bad (eqb c.loop-at.at 5) (take (c.end_of-end.result - c.loop-at.at) (drop c.loop-at.at m)) ≡ false = sym c.is_bad_line.ensures ∙ c.if-is_bad_line.false in
-    let spot : let a = c.args in
-    let t = upto 58 (tail (take (c.end_of-end.result - c.loop-at.at) (drop c.loop-at.at a.m.now))) in
-    (c.field_step-s.result.place ≡ find (places_of a.form) t) × (c.field_step-s.result.wrong ≡ wrong (places_of a.form) c.loop-at.next (find (places_of a.form) t)) = stepped c.args.form c.loop-at.next c.line_tag-tag.result _ c.field_step-s.result c.line_tag-tag.ensures c.if-tag-eq0.false c.field_step-s.ensures in
+    let spot = stepped c.args.form c.loop-at.next (take (c.end_of-end.result - c.loop-at.at) (drop c.loop-at.at c.args.m.now)) c.step_of-step.result (sym c.in-Some.is ∙ c.line_tag-tag.ensures) c.requires.1 c.step_of-step.ensures in
     let a = c.args in
-    c.refused-then-w-ne0.ensures
-    ∙ bare_after_4 a.form a.m.now _ _ c.loop-at.at
-    (stop_5 c.loop-at.invariant line good (opened _ (λ q. c.if-tag-eq0.false (c.line_tag-tag.ensures ∙ q))) spot.1 c.if-w-ne0.true) c.late_field.ensures
+    refused_frame a.form a.m.now
+    (stop_5 c.loop-at.invariant line good (opened _ (sym c.in-Some.is ∙ c.line_tag-tag.ensures)) (fault_some _ (sym c.in-Some-wrong.is ∙ spot.1)).0 (fault_some _ (sym c.in-Some-wrong.is ∙ spot.1)).1 ∙ c.late_field.ensures)
 
 pub overflow_cast-spots : goal.overflow_cast-spots
 overflow_cast-spots c = let h = c.loop-at-test.true in let p = c.requires in omega (arith, p.2)
@@ -134,12 +129,10 @@ overflow_add-n c =
 
 pub overflow_add-word : goal.overflow_add-word
 overflow_add-word c =
-    let spot : let a = c.args in
-    let t = upto 58 (tail (take (c.end_of-end.result - c.loop-at.at) (drop c.loop-at.at a.m.now))) in
-    (c.field_step-s.result.place ≡ find (places_of a.form) t) × (c.field_step-s.result.wrong ≡ wrong (places_of a.form) c.loop-at.next (find (places_of a.form) t)) = stepped c.args.form c.loop-at.next c.line_tag-tag.result _ c.field_step-s.result c.line_tag-tag.ensures c.if-tag-eq0.false c.field_step-s.ensures in
-    let fine : wrong (places_of c.args.form) c.loop-at.next c.field_step-s.result.place ≡ 0 = ap (wrong (places_of c.args.form) c.loop-at.next) spot.0 ∙ sym spot.1 ∙ c.if-w-ne0.false in
-    let seat : Seated (places_of c.args.form) c.loop-at.next c.field_step-s.result.place = wrong_seated _ _ _ fine in
-    let q = c.field_step-s.result.place in
+    let spot = stepped c.args.form c.loop-at.next (take (c.end_of-end.result - c.loop-at.at) (drop c.loop-at.at c.args.m.now)) c.step_of-step.result (sym c.in-Some.is ∙ c.line_tag-tag.ensures) c.requires.1 c.step_of-step.ensures in
+    let fine : wrong (places_of c.args.form) c.loop-at.next c.step_of-step.result.place ≡ 0 = ap (wrong (places_of c.args.form) c.loop-at.next) spot.0 ∙ fault_none _ (sym c.in_default-wrong.is ∙ spot.1) in
+    let seat : Seated (places_of c.args.form) c.loop-at.next c.step_of-step.result.place = wrong_seated _ _ _ fine in
+    let q = c.step_of-step.result.place in
     let p = few_places c.args.form in
     let s = seat in
     let b = c.bit_of-word.ensures ∙ bit_of_lem q (omega (arith, s.within)) in
@@ -149,11 +142,9 @@ overflow_add-word c =
 
 pub overflow_add-next : goal.overflow_add-next
 overflow_add-next c =
-    let spot : let a = c.args in
-    let t = upto 58 (tail (take (c.end_of-end.result - c.loop-at.at) (drop c.loop-at.at a.m.now))) in
-    (c.field_step-s.result.place ≡ find (places_of a.form) t) × (c.field_step-s.result.wrong ≡ wrong (places_of a.form) c.loop-at.next (find (places_of a.form) t)) = stepped c.args.form c.loop-at.next c.line_tag-tag.result _ c.field_step-s.result c.line_tag-tag.ensures c.if-tag-eq0.false c.field_step-s.ensures in
-    let fine : wrong (places_of c.args.form) c.loop-at.next c.field_step-s.result.place ≡ 0 = ap (wrong (places_of c.args.form) c.loop-at.next) spot.0 ∙ sym spot.1 ∙ c.if-w-ne0.false in
-    let seat : Seated (places_of c.args.form) c.loop-at.next c.field_step-s.result.place = wrong_seated _ _ _ fine in
+    let spot = stepped c.args.form c.loop-at.next (take (c.end_of-end.result - c.loop-at.at) (drop c.loop-at.at c.args.m.now)) c.step_of-step.result (sym c.in-Some.is ∙ c.line_tag-tag.ensures) c.requires.1 c.step_of-step.ensures in
+    let fine : wrong (places_of c.args.form) c.loop-at.next c.step_of-step.result.place ≡ 0 = ap (wrong (places_of c.args.form) c.loop-at.next) spot.0 ∙ fault_none _ (sym c.in_default-wrong.is ∙ spot.1) in
+    let seat : Seated (places_of c.args.form) c.loop-at.next c.step_of-step.result.place = wrong_seated _ _ _ fine in
     let p = few_places c.args.form in omega (arith, seat.within)
 
 pub overflow_add-at-in-loop-at : goal.overflow_add-at-in-loop-at
@@ -171,19 +162,16 @@ loop-at-preserved c =
     LineAt m c.loop-at.at c.end_of-end.result (take (c.end_of-end.result - c.loop-at.at) (drop c.loop-at.at m)) = c.end_of-end.ensures.line (sym c.is_ended.ensures ∙ c.if-not-is_ended.false) in
     let good : let m = c.args.m.now in
     line_bad (eqb c.loop-at.at 5) (take (c.end_of-end.result - c.loop-at.at) (drop c.loop-at.at m)) ≡ false = sym c.is_bad_line.ensures ∙ c.if-is_bad_line.false in
-    let spot : let a = c.args in
-    let t = upto 58 (tail (take (c.end_of-end.result - c.loop-at.at) (drop c.loop-at.at a.m.now))) in
-    (c.field_step-s.result.place ≡ find (places_of a.form) t) × (c.field_step-s.result.wrong ≡ wrong (places_of a.form) c.loop-at.next (find (places_of a.form) t)) = stepped c.args.form c.loop-at.next c.line_tag-tag.result _ c.field_step-s.result c.line_tag-tag.ensures c.if-tag-eq0.false c.field_step-s.ensures in
-    let fine : wrong (places_of c.args.form) c.loop-at.next c.field_step-s.result.place ≡ 0 = ap (wrong (places_of c.args.form) c.loop-at.next) spot.0 ∙ sym spot.1 ∙ c.if-w-ne0.false in
-    let seat : Seated (places_of c.args.form) c.loop-at.next c.field_step-s.result.place = wrong_seated _ _ _ fine in
+    let spot = stepped c.args.form c.loop-at.next (take (c.end_of-end.result - c.loop-at.at) (drop c.loop-at.at c.args.m.now)) c.step_of-step.result (sym c.in-Some.is ∙ c.line_tag-tag.ensures) c.requires.1 c.step_of-step.ensures in
+    let fine : wrong (places_of c.args.form) c.loop-at.next c.step_of-step.result.place ≡ 0 = ap (wrong (places_of c.args.form) c.loop-at.next) spot.0 ∙ fault_none _ (sym c.in_default-wrong.is ∙ spot.1) in
+    let seat : Seated (places_of c.args.form) c.loop-at.next c.step_of-step.result.place = wrong_seated _ _ _ fine in
     let p = few_places c.args.form in
-    on_field c.loop-at.invariant line good (opened _ (λ q. c.if-tag-eq0.false (c.line_tag-tag.ensures ∙ q))) spot.0 fine
+    on_field c.loop-at.invariant line good (opened _ (sym c.in-Some.is ∙ c.line_tag-tag.ensures)) spot.0 fine
     (c.bit_of-word.ensures ∙ bit_of_lem _ (omega (arith, seat.within)))
 
 pub returns-then-is_missing : goal.returns-then-is_missing
 returns-then-is_missing c = let a = c.args in
-    c.refused-then-is_missing.ensures
-    ∙ bare_broken a.form a.m.now (finish c.loop-at.invariant c.loop-at-test.false (sym (missing_of_form c.requires.1 c.loop-at.next) ∙ sym c.is_missing.ensures ∙ c.if-is_missing.true))
+    refused_frame a.form a.m.now (finish c.loop-at.invariant c.loop-at-test.false (missed a.form c.loop-at.next c.requires.1 c.is_missing.ensures c.if-is_missing.true))
 
 pub overflow_cast-spots-2 : goal.overflow_cast-spots-2
 overflow_cast-spots-2 c = let p = c.requires in omega (arith, p.2)
@@ -200,4 +188,4 @@ bounds-spots-n-2 c =
 
 pub returns : goal.returns
 returns c = accept c.loop-at.invariant c.loop-at-test.false
-    (finish c.loop-at.invariant c.loop-at-test.false (sym (missing_of_form c.requires.1 c.loop-at.next) ∙ sym c.is_missing.ensures ∙ c.if-is_missing.false))
+    (finish c.loop-at.invariant c.loop-at-test.false (missed c.args.form c.loop-at.next c.requires.1 c.is_missing.ensures c.if-is_missing.false))

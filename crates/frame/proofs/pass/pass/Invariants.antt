@@ -5,7 +5,7 @@ use Rattle.frame.proofs.PassLaws.{Going}
 use Rattle.frame.proofs.pass.pass.Given as goal
 
 abbrev pub invariant-loop-at : goal.invariant-loop-at
-invariant-loop-at l = Going l.form l.m l.spots l.at l.n l.next l.word
+invariant-loop-at l = Going l.fn.form l.m l.spots l.at l.n l.next l.word
 
 abbrev pub decreases-loop-at : goal.decreases-loop-at
 decreases-loop-at l = length l.m - l.at

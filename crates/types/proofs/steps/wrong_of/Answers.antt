@@ -1,32 +1,18 @@
 -- `types::steps::wrong_of` meets its contract: 5, 6, 7 or nothing. Assumes nothing.
 use mathlib.Core.Path.{sym, ◌∙◌}
-use mathlib.Core.List.{[]}
-use native.Mathlib.Omega.{arith}
-use Rattle.types.specs.Tables.{table_places_from}
-use Rattle.types.proofs.WalkLaws.{wrong_5, wrong_6, wrong_7, wrong_0}
-use Rattle.types.proofs.StepLaws.{table_length}
+use Rattle.types.proofs.StepLaws.{fault_5, fault_6, fault_7, fault_none}
 use Rattle.types.proofs.steps.wrong_of.Goals as goal
 
-pub returns-then-count-place : goal.returns-then-count-place
-returns-then-count-place c = let a = c.args in
-    let ps = table_places_from [] a.musts.now 0 a.count in
-    let n = table_length [] a.musts.now 0 a.count in
-    sym (wrong_5 ps a.next a.place (omega arith))
+pub returns-then-places-at : goal.returns-then-places-at
+returns-then-places-at c = let a = c.args in fault_5 a.places.now a.next a.at c.if-places-at.true
 
-pub returns-then-place-next : goal.returns-then-place-next
-returns-then-place-next c = let a = c.args in
-    let ps = table_places_from [] a.musts.now 0 a.count in
-    let n = table_length [] a.musts.now 0 a.count in
-    sym (wrong_6 ps a.next a.place (omega arith) c.if-place-next.true)
+pub returns-then-at-next : goal.returns-then-at-next
+returns-then-at-next c = let a = c.args in fault_6 a.places.now a.next a.at c.if-places-at.false c.if-at-next.true
 
-pub returns-then-is_skipping : goal.returns-then-is_skipping
-returns-then-is_skipping c = let a = c.args in
-    let ps = table_places_from [] a.musts.now 0 a.count in
-    let n = table_length [] a.musts.now 0 a.count in
-    sym (wrong_7 ps a.next a.place (omega arith) c.if-place-next.false (sym c.is_skipping.ensures ∙ c.if-is_skipping.true))
+pub returns-then-has_mandatory : goal.returns-then-has_mandatory
+returns-then-has_mandatory c = let a = c.args in
+    fault_7 a.places.now a.next a.at c.if-places-at.false c.if-at-next.false (sym c.has_mandatory.ensures ∙ c.if-has_mandatory.true)
 
-pub returns : goal.returns
-returns c = let a = c.args in
-    let ps = table_places_from [] a.musts.now 0 a.count in
-    let n = table_length [] a.musts.now 0 a.count in
-    sym (wrong_0 ps a.next a.place (omega arith) c.if-place-next.false (sym c.is_skipping.ensures ∙ c.if-is_skipping.false))
+pub returns-else-has_mandatory : goal.returns-else-has_mandatory
+returns-else-has_mandatory c = let a = c.args in
+    fault_none a.places.now a.next a.at c.if-places-at.false c.if-at-next.false (sym c.has_mandatory.ensures ∙ c.if-has_mandatory.false)
