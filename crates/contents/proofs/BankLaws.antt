@@ -3,7 +3,6 @@ use Rattle.base.specs.Says.{Not}
 use Prim.Native.Nat.{ℕ, ◌+◌, ◌≤◌}
 use mathlib.Core.Path.{◌≡◌, refl, sym, ap, ◌∙◌}
 use mathlib.Core.Logic.{inl, inr, ⊎_elim}
-use mathlib.Core.Bool.{true, false, false≢true}
 use mathlib.Core.List.{List, [], ◌∷◌}
 use native.Mathlib.Omega.{arith}
 use lib.ListN.{length, take, drop}
@@ -12,9 +11,7 @@ use Rattle.base.specs.Quoted.{bytes}
 use Rattle.contents.specs.Words.{Text, Line, Digits, Capitals, CapitalsOrDigits, Perhaps}
 use Rattle.contents.specs.Lines.{PartyByBik, PartyByAccount}
 use Rattle.contents.specs.Fields.{IsOwnAccount, IsBic, IsParty, One, BankByBic}
-use Rattle.contents.specs.declared.lines.Party.{Party}
-use Rattle.contents.specs.declared.lines.Party.TheVariants as party
-use Rattle.contents.specs.Answers.{cut, BikWith, PartySaid, IsA, no_party}
+use Rattle.contents.specs.Answers.{cut, BikWith}
 use Rattle.contents.proofs.Laws.{Spot, spot, stands_at, StandsAt, made, mark_some}
 
 -- ---- 53B
@@ -54,9 +51,6 @@ bic_tests l (a, b, c, d, t) = record {
     go (inr s) off = (omega (arith, p.1.1.1.1, s.size), rw (ap (λ (k : ℕ). cut 8 k l) (sym s.size) ∙ p.1.1.1.0) s)
 
 module _ (l : Text) (f : Capitals 4 (cut 0 4 l)) (w : Capitals 2 (cut 4 2 l)) (s : CapitalsOrDigits 2 (cut 6 2 l)) where
-  pub bic_short : length l ≡ 8 → IsBic l
-  bic_short e = (cut 0 4 l, cut 4 2 l, cut 6 2 l, [], record { four = f; two = w; town = s; three = inl refl; line = made (bic_spots 0) l (refl, (refl, (refl, (refl, sym e)))) })
-
   pub bic_long : length l ≡ 11 → CapitalsOrDigits 3 (cut 8 3 l) → IsBic l
   bic_long e b = (cut 0 4 l, cut 4 2 l, cut 6 2 l, cut 8 3 l, record { four = f; two = w; town = s; three = inr b; line = made (bic_spots 3) l (refl, (refl, (refl, (refl, sym e)))) })
 
@@ -91,13 +85,7 @@ account_tests a l t =
     let p = stands_at (spot 1 1 ∷ spot 20 21 ∷ []) (bytes "/" ∷ a ∷ []) l (refl, refl, (t.number.size, refl, tt)) t.line in
     (p.1.1, p.0, rw p.1.0 t.number)
 
-pub account_made : (l : Text) → length l ≡ 21 → cut 0 1 l ≡ bytes "/" → Digits 20 (cut 1 20 l) → PartyByAccount (cut 1 20 l) l
-account_made l e w d = record { number = d; line = made (spot 1 1 ∷ spot 20 21 ∷ []) l (refl, (refl, sym e)) ∙ rw w }
-
 module _ (l : Text) (w : cut 0 4 l ≡ bytes "//RU") (b : cut 4 2 l ≡ bytes "04") (c : Digits 9 (cut 4 9 l)) where
-  pub bik_short : length l ≡ 13 → BikWith 0 l
-  bik_short e = (record { nine = c; begins = take-take 2 9 (drop 4 l) (omega arith) ∙ b; number = inl refl; line = made (spot 4 4 ∷ spot 9 13 ∷ spot 0 13 ∷ []) l (refl, (refl, (refl, sym e))) ∙ rw w }, refl)
-
   pub bik_long : length l ≡ 34 → cut 13 1 l ≡ bytes "." → Digits 20 (cut 14 20 l) → BikWith 20 l
   bik_long e p d = (
     record {
@@ -114,16 +102,7 @@ pub not_party : (l : Text) → ((bik account : Text) → Not (PartyByBik bik acc
 not_party l b a (inl x) = b x.0 x.1 x.2
 not_party l b a (inr x) = a x.0 x.1
 
--- ---- banks: of the line l, read as r, and the lines ms
-pub read_none : (l : Text) (r : Party) → PartySaid l r → no_party r ≡ true → Not (IsParty l)
-read_none l party.Wrong s e = s
-read_none l party.Account s e = absurd (false≢true e)
-read_none l (party.Bik n) s e = absurd (false≢true e)
-
-pub read_some : (l : Text) (r : Party) → PartySaid l r → no_party r ≡ false → IsA r l
-read_some l party.Wrong s e = absurd (false≢true (sym e))
-read_some l party.Account s e = s
-read_some l (party.Bik n) s e = s
+-- ---- banks: of the line l and the lines ms
 
 module _ (l : Line) (ms : List Line) where
   one_none : 1 ≤ length ms → One IsBic (l ∷ ms) → ⊥

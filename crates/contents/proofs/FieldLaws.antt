@@ -19,6 +19,7 @@ use Rattle.contents.proofs.TaxLaws.{tax_tests, inn_range}
 use Rattle.contents.specs.Words.{Text, Line, BeginsWith}
 use Rattle.contents.specs.Fields.{LooksTax, IsTax, IsAccount, Then, Any, Names, Several, Beside, Customer, Payer}
 use Rattle.contents.specs.Answers.{BesideSaid, CustomerSaid, PayerSaid}
+use Rattle.std.specs.Prelude.{Option, None, Some}
 use Rattle.contents.specs.declared.whole.Held.{Held}
 use Rattle.contents.specs.declared.whole.Held.TheVariants as held
 
@@ -113,12 +114,12 @@ module _ (s : Text) (e : ℕ) (q : e ≡ 0 + count_up_to 13 s) where
   on_0 n h z = let g = lines_on s 0 e n (omega arith) q h z in (g.0 ∙ ap (λ (k : ℕ). take k s ∷ lines_in (drop n s)) e_0, g.1, g.2)
 
   -- an account, and what stands beside it
-  pub account_then : (twelve : Bool) (n : ℕ) (r : Held) → e < length s → n ≡ min (e + 2) (length s) → IsAccount (take e s) → BesideSaid twelve n (lines_in (drop n s)) r
+  pub account_then : (twelve : Bool) (n : ℕ) (r : Option Held) → e < length s → n ≡ min (e + 2) (length s) → IsAccount (take e s) → BesideSaid twelve n (lines_in (drop n s)) r
       → CustomerSaid twelve (take e s ∷ lines_in (drop n s)) r
   unfolding split
-  account_then twelve n held.Wrong h z a b = λ k. b k.1
-  account_then twelve n held.Plain h z a b = (a, b)
-  account_then twelve n (held.Taxed p inn kpp) h z a b = (a, (b.0 ∙ go (dec_lt (length s) (e + 2)), b.1))
+  account_then twelve n None h z a b = λ k. b k.1
+  account_then twelve n (Some held.Plain) h z a b = (a, b)
+  account_then twelve n (Some (held.Taxed p t)) h z a b = (a, (b.0 ∙ go (dec_lt (length s) (e + 2)), b.1))
     where
       none : n ≡ length s → ⊥
       none w = absurd (omega (arith, (rw (drop_of_length-le s {i = n} (omega arith)) at b.1).1.least))
@@ -145,15 +146,13 @@ account_slash : (twelve : Bool) (l : Line) (ms : List Line) → Customer twelve 
 account_slash twelve l ms k = ((k.0.0, k.0.1.line), tt)
 
 -- 50K by its first byte
-pub payer_account : (l : Line) (ms : List Line) (r : Held) → Then (BeginsWith "/") Any (l ∷ ms) → CustomerSaid true (l ∷ ms) r → PayerSaid (l ∷ ms) r
-payer_account l ms held.Wrong b k = ⊎_elim (λ x. k x) (λ x. x.0 b)
-payer_account l ms held.Plain b k = inl k
-payer_account l ms (held.Taxed p inn kpp) b k = inl k
+pub payer_account : (l : Line) (ms : List Line) (r : Option Held) → Then (BeginsWith "/") Any (l ∷ ms) → CustomerSaid true (l ∷ ms) r → PayerSaid (l ∷ ms) r
+payer_account l ms None b k = ⊎_elim (λ x. k x) (λ x. x.0 b)
+payer_account l ms (Some h) b k = inl k
 
-pub payer_bare : (l : Line) (ms : List Line) (r : Held) → Not (Then (BeginsWith "/") Any (l ∷ ms)) → BesideSaid true 0 (l ∷ ms) r → PayerSaid (l ∷ ms) r
-payer_bare l ms held.Wrong b k = ⊎_elim (λ x. b (account_slash true l ms x)) (λ x. k x.1)
-payer_bare l ms held.Plain b k = inr (b, k)
-payer_bare l ms (held.Taxed p inn kpp) b k = inr (b, k)
+pub payer_bare : (l : Line) (ms : List Line) (r : Option Held) → Not (Then (BeginsWith "/") Any (l ∷ ms)) → BesideSaid true 0 (l ∷ ms) r → PayerSaid (l ∷ ms) r
+payer_bare l ms None b k = ⊎_elim (λ x. b (account_slash true l ms x)) (λ x. k x.1)
+payer_bare l ms (Some h) b k = inr (b, k)
 
 pub payer_empty : (s : Text) → length s ≡ 0 → Not (Payer (lines_in s))
 unfolding split

@@ -3,7 +3,7 @@ use Rattle.base.specs.Says.{Not, Says}
 use Prim.Native.Nat.{ℕ, zero, suc, ◌+◌, ◌≤◌, ◌<◌}
 use Prim.Native.String.{String}
 use mathlib.Core.Path.{◌≡◌, refl, sym, ap, ◌∙◌}
-use mathlib.Core.Bool.{Bool, true, false, ◌&&◌, false≢true}
+use mathlib.Core.Bool.{Bool, true, false, false≢true}
 use mathlib.Core.Logic.{inl, inr}
 use mathlib.Core.List.{List, [], ◌∷◌, ◌++◌}
 use native.Mathlib.Numerals.{add-one}
@@ -14,7 +14,7 @@ use lib.Seq.{drop-cons, take-suc, take_all, take-length, length-take-le, get_or-
 use Rattle.base.specs.Choice.{all}
 use Rattle.base.specs.Bytes.{byte, digit}
 use Rattle.base.specs.Quoted.{bytes}
-use Rattle.base.proofs.Bools.{left, right, all_append, all_front}
+use Rattle.base.proofs.Bools.{left, right}
 use Rattle.contents.specs.Words.{Text, Just, Perhaps, join, with_mark}
 use Rattle.contents.specs.Answers.{cut, Leads}
 
@@ -58,18 +58,6 @@ all_at t (x ∷ s) (suc k) e h = all_at t s k (right (t x) (all t s) e) (omega a
 module _ (t : ℕ → Bool) (i : ℕ) (s : Text) where
   pub kind_at : (n k : ℕ) → all t (cut i n s) ≡ true → i + n ≤ length s → k < n → t (byte s (i + k)) ≡ true
   kind_at n k e h g = ap t (sym (cut_byte i n k s g)) ∙ all_at t (cut i n s) k e (omega (arith, cut_length i n s h))
-
-  pub kind_on : (k : ℕ) → i + k < length s → all t (cut i k s) ≡ true → t (byte s (i + k)) ≡ true → all t (cut i (k + 1) s) ≡ true
-  kind_on k h e d = ap (all t) (cut_on i k s h) ∙ all_append t (cut i k s) (byte s (i + k) ∷ []) e (ap (λ (b : Bool). b && true) d)
-
-  pub kind_not : (n k : ℕ) → i + n ≤ length s → k < n → t (byte s (i + k)) ≡ false → Not (all t (cut i n s) ≡ true)
-  kind_not n k h g d e = false≢true (sym d ∙ kind_at n k e h g)
-
-  pub flag_on : (fine : Bool) (k : ℕ) → i + k < length s → Says (all t (cut i k s) ≡ true) fine → t (byte s (i + k)) ≡ true → Says (all t (cut i (k + 1) s) ≡ true) fine
-  flag_on fine k h p d = record {
-    so = λ e. kind_on k h (p.so e) d;
-    not_so = λ e x. p.not_so e (all_front t (cut i k s) (byte s (i + k) ∷ []) (ap (all t) (sym (cut_on i k s h)) ∙ x));
-  }
 
   pub just : (n : ℕ) (r : Bool) → i + n ≤ length s → Says (all t (cut i n s) ≡ true) r → Says (Just t n (cut i n s)) r
   just n r h p = record { so = λ e. record { size = cut_length i n s h; each = p.so e }; not_so = λ e j. p.not_so e j.each }

@@ -1,4 +1,5 @@
 pub mod Laws
+pub mod PieceLaws
 pub mod TaxLaws
 pub mod LineLaws
 pub mod PaidLaws

@@ -1,46 +1,27 @@
 -- Accounts, and how a line begins: a word, and behind it a digit. Assumes nothing.
-use Rattle.base.specs.Says.{Not, Says}
-use Prim.Native.Nat.{ℕ, ◌≤◌, ◌<◌}
+use Rattle.base.specs.Says.{Says}
+use Prim.Native.Nat.{ℕ, ◌≤◌}
 use mathlib.Core.Path.{◌≡◌, sym, ap, ap₂, ◌∙◌}
 use mathlib.Core.Bool.{Bool, true, false, ◌&&◌, and-false}
 use mathlib.Core.List.{◌∷◌, ◌++◌}
 use native.Mathlib.Omega.{arith}
-use lib.ListN.{length, take, drop, length-take, take-append-drop, get_or-eq_default}
+use lib.ListN.{length, take, drop, take-append-drop, get_or-eq_default}
 use lib.Seq.{drop-cons}
 use Rattle.base.specs.Bytes.{byte, digit}
 use Rattle.base.specs.Quoted.{bytes}
-use Rattle.base.proofs.ByteLaws.{same_not}
 use Rattle.base.proofs.SaysLaws.{says_same, says_text}
 use Rattle.contents.specs.Words.{Text}
 use Rattle.contents.specs.Fields.{IsAccount, LooksTax}
 use Rattle.contents.specs.Tests.{starts, word_and_digit}
 use Rattle.contents.specs.Answers.{cut}
-use Rattle.contents.proofs.Laws.{head_tail}
 
 -- ---- an account
 module _ (l : Text) (a : IsAccount l) where
   pub account_size : (2 ≤ length l) × (length l ≤ 35)
   account_size = let e = ap length a.1.line in let z = a.1.size in (omega arith, omega arith)
 
-  pub account_first : byte l 0 ≡ 47
-  account_first = ap (λ (s : Text). byte s 0) a.1.line
-
-  pub account_second : Not (byte l 1 ≡ 47)
-  account_second e =
-      let q : byte a.0 0 ≡ 47 = sym (ap (λ (s : Text). byte s 1) a.1.line) ∙ e in
-      a.1.first (drop 1 a.0, head_tail a.0 a.1.size.least ∙ rw q)
-
-pub is_account_lem : (l : Text) → 2 ≤ length l → length l ≤ 35 → byte l 0 ≡ 47 → Not (byte l 1 ≡ 47) → IsAccount l
-is_account_lem l h k e n =
-    let q : l ≡ 47 ∷ drop 1 l = head_tail l (omega arith) ∙ rw e in
-    let z = ap length q in
-    (drop 1 l, record { size = record { least = omega arith; most = omega arith }; first = λ p. n (ap (λ (x : Text). byte x 1) (q ∙ ap (λ (x : Text). 47 ∷ x) p.1)); line = q })
-
 -- ---- a word at the front, and a digit behind it
 module _ (w s : Text) where
-  pub starts_short : length s < length w → starts w s ≡ false
-  starts_short h = same_not (take (length w) s) w (λ e. absurd (omega (arith, length-take (length w) s)))
-
   pub starts_by : {r : Bool} → Says (cut 0 (length w) s ≡ w) r → r ≡ starts w s
   starts_by p = says_same p (says_text (take (length w) s) w)
 

@@ -1,9 +1,12 @@
 -- From the readers' answers to whether a field is right. Assumes nothing.
+use Rattle.std.specs.Prelude.{Option, None, Some}
+use Rattle.std.specs.Option.{is_some}
+use Rattle.base.specs.Choice.{pick}
 use Rattle.base.specs.Says.{Not, ◌or◌, Says}
 use Rattle.base.proofs.SaysLaws.{says_so, says_not}
 use Prim.Native.Nat.{ℕ, ◌+◌, ◌≤◌, ◌<◌, min}
 use mathlib.Core.Path.{◌≡◌, refl, sym, ap, ap₂, ◌∙◌}
-use mathlib.Core.Bool.{Bool, true, false≢true}
+use mathlib.Core.Bool.{Bool, true, false}
 use mathlib.Core.Logic.{inl, inr, ⊎_elim}
 use mathlib.Core.List.{List, [], ◌∷◌}
 use native.Mathlib.Omega.{arith}
@@ -14,11 +17,10 @@ use Rattle.base.specs.Bytes.{count_up_to}
 use Rattle.fields.specs.Lines.{lines_in}
 use Rattle.contents.specs.Words.{Text, Line}
 use Rattle.contents.specs.Fields.{IsParty, IsBic, IsRpp, One, Then, Any, Names, Beside, Customer, Payer, BankByBic, BankByName, In72, RppAndDetails, InRest, RppAndRest}
-use Rattle.contents.specs.Answers.{BesideSaid, AccountFirst, CustomerSaid, PayerSaid, IsA, BicSaid, NameSaid, RppWith, RppSaid, NoteSaid, RestSaid, is_held, is_bank, is_note}
+use Rattle.contents.specs.Answers.{BesideIs, AccountFirst, CustomerSaid, PayerSaid, IsA, BicSaid, NameSaid, RppIs, RppSaid, NoteSaid, RestSaid}
 use Rattle.contents.specs.declared.lines.Party.{Party}
 use Rattle.contents.specs.declared.lines.Party.TheVariants as party
 use Rattle.contents.specs.declared.lines.Rpp.{Rpp}
-use Rattle.contents.specs.declared.lines.Rpp.TheVariants as rpp
 use Rattle.contents.specs.declared.whole.Held.{Held}
 use Rattle.contents.specs.declared.whole.Held.TheVariants as held
 use Rattle.contents.specs.declared.whole.Bank.{Bank}
@@ -31,123 +33,131 @@ use Rattle.contents.proofs.LineTests.{rpp_once}
 use Rattle.contents.proofs.VoLaws.{rpp_not_72}
 use Rattle.contents.proofs.MarkedLaws.{rest_alone}
 
-beside_is : (twelve : Bool) (at : ℕ) (ls : List Line) (r : Held) → is_held r ≡ true → BesideSaid twelve at ls r → Beside twelve ls
-beside_is twelve at ls held.Wrong e s = absurd (false≢true e)
-beside_is twelve at ls held.Plain e s = inr s
-beside_is twelve at [] (held.Taxed p inn kpp) e s = absurd s.1
-beside_is twelve at (l ∷ ls) (held.Taxed p inn kpp) e s = inl ((_, _, s.1.0.0), s.1.1)
+beside_is : (twelve : Bool) (at : ℕ) (ls : List Line) (h : Held) → BesideIs twelve at ls h → Beside twelve ls
+beside_is twelve at ls held.Plain s = inr s
+beside_is twelve at [] (held.Taxed p t) s = absurd s.1
+beside_is twelve at (l ∷ ls) (held.Taxed p t) s = inl ((_, _, s.1.0.0), s.1.1)
 
-account_is : (twelve : Bool) (ls : List Line) (r : Held) → is_held r ≡ true → AccountFirst twelve ls r → Customer twelve ls
-account_is twelve [] r e s = s
-account_is twelve (l ∷ ls) r e s = (s.0, beside_is twelve (length l + 2) ls r e s.1)
+account_is : (twelve : Bool) (ls : List Line) (h : Held) → AccountFirst twelve ls h → Customer twelve ls
+account_is twelve [] h s = s
+account_is twelve (l ∷ ls) h s = (s.0, beside_is twelve (length l + 2) ls h s.1)
 
-pub customer_is : (twelve : Bool) (ls : List Line) (r : Held) (b : Bool) → b ≡ is_held r → CustomerSaid twelve ls r → Says (Customer twelve ls) b
-customer_is twelve ls held.Wrong b e s = rw e (says_not s)
-customer_is twelve ls held.Plain b e s = rw e (says_so (account_is twelve ls held.Plain refl s))
-customer_is twelve ls (held.Taxed p inn kpp) b e s = rw e (says_so (account_is twelve ls (held.Taxed p inn kpp) refl s))
+pub customer_is : (twelve : Bool) (ls : List Line) (r : Option Held) → CustomerSaid twelve ls r → Says (Customer twelve ls) (is_some r)
+customer_is twelve ls None s = says_not s
+customer_is twelve ls (Some h) s = says_so (account_is twelve ls h s)
 
-pub payer_is : (ls : List Line) (r : Held) (b : Bool) → b ≡ is_held r → PayerSaid ls r → Says (Payer ls) b
-payer_is ls held.Wrong b e s = rw e (says_not s)
-payer_is ls held.Plain b e s = rw e (says_so (⊎_elim (λ x. inl (account_is true ls held.Plain refl x)) (λ x. inr (x.0, beside_is true 0 ls held.Plain refl x.1)) s))
-payer_is ls (held.Taxed p inn kpp) b e s =
-    rw e (says_so (⊎_elim (λ x. inl (account_is true ls (held.Taxed p inn kpp) refl x)) (λ x. inr (x.0, beside_is true 0 ls (held.Taxed p inn kpp) refl x.1)) s))
+pub payer_is : (ls : List Line) (r : Option Held) → PayerSaid ls r → Says (Payer ls) (is_some r)
+payer_is ls None s = says_not s
+payer_is ls (Some h) s = says_so (⊎_elim (λ x. inl (account_is true ls h x)) (λ x. inr (x.0, beside_is true 0 ls h x.1)) s)
 
 party_is : (p : Party) (l : Line) → IsA p l → IsParty l
-party_is party.Wrong l s = absurd s
 party_is party.Account l s = inr (_, s)
-party_is (party.Bik n) l s = inl (_, _, s.0)
+party_is (party.Bik account) l s = inl (_, _, s.0)
 
 led_is : (Q : List Line → Type 0) (p : Party) (ls : List Line) → Then (IsA p) Q ls → Then IsParty Q ls
 led_is Q p [] s = s
 led_is Q p (l ∷ ls) s = (party_is p l s.0, s.1)
 
-pub bic_is : (ls : List Line) (r : Bank) (b : Bool) → b ≡ is_bank r → BicSaid ls r → Says (BankByBic ls) b
-bic_is ls bank.Wrong b e s = rw e (says_not s)
-bic_is ls bank.Alone b e s = rw e (says_so (inl s))
-bic_is ls (bank.Led p) b e s = rw e (says_so (inr (led_is (One IsBic) p ls s)))
+pub bic_is : (ls : List Line) (r : Option Bank) → BicSaid ls r → Says (BankByBic ls) (is_some r)
+bic_is ls None s = says_not s
+bic_is ls (Some bank.Alone) s = says_so (inl s)
+bic_is ls (Some (bank.Led p)) s = says_so (inr (led_is (One IsBic) p ls s))
 
-pub name_is : (ls : List Line) (r : Bank) (b : Bool) → b ≡ is_bank r → NameSaid ls r → Says (BankByName ls) b
-name_is ls bank.Wrong b e s = rw e (says_not s)
-name_is ls bank.Alone b e s = absurd s
-name_is ls (bank.Led p) b e s = rw e (says_so (led_is (Names 4) p ls s))
+pub name_is : (ls : List Line) (r : Option Party) → NameSaid ls r → Says (BankByName ls) (is_some r)
+name_is ls None s = says_not s
+name_is ls (Some p) s = says_so (led_is (Names 4) p ls s)
 
-dated_is : (sign : Bool) (n v : ℕ) (ls : List Line) → Then (RppWith n v) (In72 sign 5) ls → Then IsRpp (In72 sign 5) ls
-dated_is sign n v [] s = s
-dated_is sign n v (l ∷ ls) s = (rpp_is s.0, s.1)
+dated_is : (sign : Bool) (r : Rpp) (ls : List Line) → Then (RppIs r) (In72 sign 5) ls → Then IsRpp (In72 sign 5) ls
+dated_is sign r [] s = s
+dated_is sign r (l ∷ ls) s = (rpp_is s.0, s.1)
 
-pub note_is : (sign : Bool) (ls : List Line) (r : Note) (b : Bool) → b ≡ is_note r → NoteSaid sign ls r → Says (RppAndDetails sign ls) b
-note_is sign ls note.Wrong b e s = rw e (says_not s)
-note_is sign ls note.Plain b e s = rw e (says_so (inl s))
-note_is sign ls (note.Dated n v) b e s = rw e (says_so (inr (dated_is sign n v ls s)))
+pub note_is : (sign : Bool) (ls : List Line) (r : Option Note) → NoteSaid sign ls r → Says (RppAndDetails sign ls) (is_some r)
+note_is sign ls None s = says_not s
+note_is sign ls (Some note.Plain) s = says_so (inl s)
+note_is sign ls (Some (note.Dated r)) s = says_so (inr (dated_is sign r ls s))
 
-rest_dated_is : (n v : ℕ) (ls : List Line) → One (RppWith n v) ls or Then (RppWith n v) (InRest 5) ls → RppAndRest ls
-rest_dated_is n v [] (inl s) = absurd s
-rest_dated_is n v (l ∷ []) (inl s) = inl (rpp_is s)
-rest_dated_is n v (l ∷ k ∷ ls) (inl s) = absurd s
-rest_dated_is n v [] (inr s) = absurd s
-rest_dated_is n v (l ∷ ls) (inr s) = inr (inr (rpp_is s.0, s.1))
+rest_dated_is : (r : Rpp) (ls : List Line) → One (RppIs r) ls or Then (RppIs r) (InRest 5) ls → RppAndRest ls
+rest_dated_is r [] (inl s) = absurd s
+rest_dated_is r (l ∷ []) (inl s) = inl (rpp_is s)
+rest_dated_is r (l ∷ k ∷ ls) (inl s) = absurd s
+rest_dated_is r [] (inr s) = absurd s
+rest_dated_is r (l ∷ ls) (inr s) = inr (inr (rpp_is s.0, s.1))
 
-pub rest_is : (ls : List Line) (r : Note) (b : Bool) → b ≡ is_note r → RestSaid ls r → Says (RppAndRest ls) b
-rest_is ls note.Wrong b e s = rw e (says_not s)
-rest_is ls note.Plain b e s = rw e (says_so (inr (inl s)))
-rest_is ls (note.Dated n v) b e s = rw e (says_so (rest_dated_is n v ls s))
+pub rest_is : (ls : List Line) (r : Option Note) → RestSaid ls r → Says (RppAndRest ls) (is_some r)
+rest_is ls None s = says_not s
+rest_is ls (Some note.Plain) s = says_so (inr (inl s))
+rest_is ls (Some (note.Dated r)) s = says_so (rest_dated_is r ls s)
 
 -- ---- any two answers of the reader of an RPP line are equal, and so are those of a reader of 72
 -- an RPP line has its number and its value date in one way only
-rpp_sizes : {n v n' v' : ℕ} (l : Line) → RppWith n v l → RppWith n' v' l → (n ≡ n') × (v ≡ v')
-rpp_sizes l a b = let o = rpp_once a.0.1 b.0.1 in (sym a.1 ∙ ap length o.0 ∙ b.1, sym a.2 ∙ ap length o.4 ∙ b.2)
+value_once : (a b : Bool) → pick {A = ℕ} a 6 0 ≡ pick b 6 0 → a ≡ b
+value_once true true e = refl
+value_once true false e = absurd (omega arith)
+value_once false true e = absurd (omega arith)
+value_once false false e = refl
 
-pub rpp_said_one : (l : Line) (r q : Rpp) → RppSaid l r → RppSaid l q → r ≡ q
-rpp_said_one l rpp.Wrong rpp.Wrong a b = refl
-rpp_said_one l rpp.Wrong (rpp.Is n v) a b = absurd (a (rpp_is b))
-rpp_said_one l (rpp.Is n v) rpp.Wrong a b = absurd (b (rpp_is a))
-rpp_said_one l (rpp.Is n v) (rpp.Is n' v') a b = let s = rpp_sizes l a b in ap₂ rpp.Is s.0 s.1
+rpp_same : (r q : Rpp) (l : Line) → RppIs r l → RppIs q l → r ≡ q
+rpp_same r q l a b =
+    let o = rpp_once a.0.1 b.0.1 in
+    made (sym a.1 ∙ ap length o.0 ∙ b.1) (value_once r.value q.value (sym a.2 ∙ ap length o.4 ∙ b.2))
+  where
+    make : ℕ → Bool → Rpp
+    make n v = record { number = n; value = v }
+
+    made : r.number ≡ q.number → r.value ≡ q.value → r ≡ q
+    made e f = ap₂ make e f
+
+pub rpp_said_one : (l : Line) (r q : Option Rpp) → RppSaid l r → RppSaid l q → r ≡ q
+rpp_said_one l None None a b = refl
+rpp_said_one l None (Some q) a b = absurd (a (rpp_is b))
+rpp_said_one l (Some r) None a b = absurd (b (rpp_is a))
+rpp_said_one l (Some r) (Some q) a b = ap Some (rpp_same r q l a b)
 
 -- either answers by the first line, so both do
-first_sizes : (n v n' v' : ℕ) (ls : List Line) → Then (RppWith n v) Any ls → Then (RppWith n' v') Any ls → note.Dated n v ≡ note.Dated n' v'
-first_sizes n v n' v' [] a b = absurd a
-first_sizes n v n' v' (l ∷ ls) a b = let s = rpp_sizes l a.0 b.0 in ap₂ note.Dated s.0 s.1
+first_same : (r q : Rpp) (ls : List Line) → Then (RppIs r) Any ls → Then (RppIs q) Any ls → Some (note.Dated r) ≡ Some (note.Dated q)
+first_same r q [] a b = absurd a
+first_same r q (l ∷ ls) a b = ap (λ (x : Rpp). Some (note.Dated x)) (rpp_same r q l a.0 b.0)
 
-first_rpp : (n v : ℕ) (ls : List Line) → Then (RppWith n v) Any ls → Then IsRpp Any ls
-first_rpp n v [] a = a
-first_rpp n v (l ∷ ls) a = (rpp_is a.0, tt)
+first_rpp : (r : Rpp) (ls : List Line) → Then (RppIs r) Any ls → Then IsRpp Any ls
+first_rpp r [] a = a
+first_rpp r (l ∷ ls) a = (rpp_is a.0, tt)
 
-details_first : (sign : Bool) (n v : ℕ) (ls : List Line) → Then (RppWith n v) (In72 sign 5) ls → Then (RppWith n v) Any ls
-details_first sign n v [] a = a
-details_first sign n v (l ∷ ls) a = (a.0, tt)
+details_first : (sign : Bool) (r : Rpp) (ls : List Line) → Then (RppIs r) (In72 sign 5) ls → Then (RppIs r) Any ls
+details_first sign r [] a = a
+details_first sign r (l ∷ ls) a = (a.0, tt)
 
-rest_first : (n v : ℕ) (ls : List Line) → One (RppWith n v) ls or Then (RppWith n v) (InRest 5) ls → Then (RppWith n v) Any ls
-rest_first n v [] (inl a) = a
-rest_first n v (l ∷ []) (inl a) = (a, tt)
-rest_first n v (l ∷ k ∷ ls) (inl a) = absurd a
-rest_first n v [] (inr a) = a
-rest_first n v (l ∷ ls) (inr a) = (a.0, tt)
+rest_first : (r : Rpp) (ls : List Line) → One (RppIs r) ls or Then (RppIs r) (InRest 5) ls → Then (RppIs r) Any ls
+rest_first r [] (inl a) = a
+rest_first r (l ∷ []) (inl a) = (a, tt)
+rest_first r (l ∷ k ∷ ls) (inl a) = absurd a
+rest_first r [] (inr a) = a
+rest_first r (l ∷ ls) (inr a) = (a.0, tt)
 
-no_details : (sign : Bool) (n v : ℕ) (ls : List Line) → In72 sign 6 ls → Not (Then (RppWith n v) Any ls)
-no_details sign n v [] d a = a
-no_details sign n v (l ∷ ls) d a = rpp_not_72 sign 6 n v l ls a.0 d
+no_details : (sign : Bool) (r : Rpp) (ls : List Line) → In72 sign 6 ls → Not (Then (RppIs r) Any ls)
+no_details sign r [] d a = a
+no_details sign r (l ∷ ls) d a = rpp_not_72 sign 6 r.number (pick r.value 6 0) l ls a.0 d
 
-pub note_said_one : (sign : Bool) (ls : List Line) (r q : Note) → NoteSaid sign ls r → NoteSaid sign ls q → r ≡ q
-note_said_one sign ls note.Wrong note.Wrong a b = refl
-note_said_one sign ls note.Wrong note.Plain a b = absurd (a (inl b))
-note_said_one sign ls note.Wrong (note.Dated n v) a b = absurd (a (inr (dated_is sign n v ls b)))
-note_said_one sign ls note.Plain note.Wrong a b = absurd (b (inl a))
-note_said_one sign ls note.Plain note.Plain a b = refl
-note_said_one sign ls note.Plain (note.Dated n v) a b = absurd (no_details sign n v ls a (details_first sign n v ls b))
-note_said_one sign ls (note.Dated n v) note.Wrong a b = absurd (b (inr (dated_is sign n v ls a)))
-note_said_one sign ls (note.Dated n v) note.Plain a b = absurd (no_details sign n v ls b (details_first sign n v ls a))
-note_said_one sign ls (note.Dated n v) (note.Dated n' v') a b = first_sizes n v n' v' ls (details_first sign n v ls a) (details_first sign n' v' ls b)
+pub note_said_one : (sign : Bool) (ls : List Line) (r q : Option Note) → NoteSaid sign ls r → NoteSaid sign ls q → r ≡ q
+note_said_one sign ls None None a b = refl
+note_said_one sign ls None (Some note.Plain) a b = absurd (a (inl b))
+note_said_one sign ls None (Some (note.Dated q)) a b = absurd (a (inr (dated_is sign q ls b)))
+note_said_one sign ls (Some note.Plain) None a b = absurd (b (inl a))
+note_said_one sign ls (Some note.Plain) (Some note.Plain) a b = refl
+note_said_one sign ls (Some note.Plain) (Some (note.Dated q)) a b = absurd (no_details sign q ls a (details_first sign q ls b))
+note_said_one sign ls (Some (note.Dated r)) None a b = absurd (b (inr (dated_is sign r ls a)))
+note_said_one sign ls (Some (note.Dated r)) (Some note.Plain) a b = absurd (no_details sign r ls b (details_first sign r ls a))
+note_said_one sign ls (Some (note.Dated r)) (Some (note.Dated q)) a b = first_same r q ls (details_first sign r ls a) (details_first sign q ls b)
 
-pub rest_said_one : (ls : List Line) (r q : Note) → RestSaid ls r → RestSaid ls q → r ≡ q
-rest_said_one ls note.Wrong note.Wrong a b = refl
-rest_said_one ls note.Wrong note.Plain a b = absurd (a (inr (inl b)))
-rest_said_one ls note.Wrong (note.Dated n v) a b = absurd (a (rest_dated_is n v ls b))
-rest_said_one ls note.Plain note.Wrong a b = absurd (b (inr (inl a)))
-rest_said_one ls note.Plain note.Plain a b = refl
-rest_said_one ls note.Plain (note.Dated n v) a b = absurd (rest_alone 6 ls a (first_rpp n v ls (rest_first n v ls b)))
-rest_said_one ls (note.Dated n v) note.Wrong a b = absurd (b (rest_dated_is n v ls a))
-rest_said_one ls (note.Dated n v) note.Plain a b = absurd (rest_alone 6 ls b (first_rpp n v ls (rest_first n v ls a)))
-rest_said_one ls (note.Dated n v) (note.Dated n' v') a b = first_sizes n v n' v' ls (rest_first n v ls a) (rest_first n' v' ls b)
+pub rest_said_one : (ls : List Line) (r q : Option Note) → RestSaid ls r → RestSaid ls q → r ≡ q
+rest_said_one ls None None a b = refl
+rest_said_one ls None (Some note.Plain) a b = absurd (a (inr (inl b)))
+rest_said_one ls None (Some (note.Dated q)) a b = absurd (a (rest_dated_is q ls b))
+rest_said_one ls (Some note.Plain) None a b = absurd (b (inr (inl a)))
+rest_said_one ls (Some note.Plain) (Some note.Plain) a b = refl
+rest_said_one ls (Some note.Plain) (Some (note.Dated q)) a b = absurd (rest_alone 6 ls a (first_rpp q ls (rest_first q ls b)))
+rest_said_one ls (Some (note.Dated r)) None a b = absurd (b (rest_dated_is r ls a))
+rest_said_one ls (Some (note.Dated r)) (Some note.Plain) a b = absurd (rest_alone 6 ls b (first_rpp r ls (rest_first r ls a)))
+rest_said_one ls (Some (note.Dated r)) (Some (note.Dated q)) a b = first_same r q ls (rest_first r ls a) (rest_first q ls b)
 
 -- one line
 pub not_one : (P : Line → Type 0) (s : Text) → Not (lines_in s ≡ s ∷ []) → Not (One P (lines_in s))

@@ -10,9 +10,9 @@ use Rattle.base.specs.Choice.{pick, all}
 use Rattle.base.specs.Bytes.{begins, same}
 use Rattle.base.specs.Quoted.{bytes}
 use Rattle.base.specs.Says.{Not}
-use Rattle.base.specs.declared.Verdict.TheVariants.{Fine, Broken}
+use Rattle.base.specs.Verdicts.{Fine, Broken}
 use Rattle.base.proofs.Bools.{left, right, both}
-use Rattle.base.proofs.RuleLaws.{fine_broken}
+use Rattle.base.proofs.RuleLaws.{fine_broken, same_broken}
 use Rattle.base.proofs.SaysLaws.{is_so}
 use Rattle.fields.specs.Field.{Field, field, lined, lines_of, fields}
 use Rattle.fields.specs.Places.{lines_size, start_of, next_of}
@@ -77,7 +77,7 @@ module _ (n : ℕ) (test : Field → Bool) (place : ℕ → Field → ℕ) where
     where
       go : (b : Bool) → pick b (first_wrong n test place (next_of o f) fs) (Broken n (place o f)) ≡ Broken k p → (first_wrong n test place (next_of o f) fs ≡ Broken k p → k ≡ n) → k ≡ n
       go true e r = r e
-      go false e r = cc
+      go false e r = sym (same_broken e).0
 
 -- ---- 8 in words
 pub rule_8_fine : (form : Form) (m : List ℕ) → (rule_8 form m ≡ Fine) ↔ (all (right_field form (sign_of (fields m))) (fields m) ≡ true)
@@ -115,7 +115,7 @@ module _ (form : Form) (sign : Bool) where
           → (first_wrong 8 (right_field form sign) start_of (next_of o f) fs ≡ Broken 8 p → FirstWrong form sign (next_of o f) fs p) → FirstWrong form sign o (f ∷ fs) p
       go true q e r = further o f fs p ((field_says form sign f).0 q) (r e)
       go false q e r =
-          let s : p ≡ start_of o f = cc in
+          let s : p ≡ start_of o f = sym (same_broken e).1 in
           let z : o ≡ o + 0 = omega arith in
           record {
             before = [];

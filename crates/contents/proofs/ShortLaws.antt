@@ -1,19 +1,16 @@
 -- 20 and 26T: their tests. Assumes nothing.
 use Rattle.base.specs.Says.{Not}
-use Prim.Native.Nat.{ℕ, suc, ◌+◌, ◌-◌, ◌*◌, ◌/◌, ◌%◌, ◌≤◌, ◌<◌}
+use Prim.Native.Nat.{ℕ, ◌+◌, ◌-◌, ◌*◌, ◌/◌, ◌%◌, ◌≤◌, ◌<◌}
 use mathlib.Core.Path.{◌≡◌, refl, sym, ap, ap₂, ◌∙◌}
 use mathlib.Core.List.{[], ◌∷◌, ◌++◌}
 use native.Mathlib.Omega.{arith}
-use native.Mathlib.Decide.{dec_lt}
-use lib.ListN.{length, take, drop, length-append, drop_of_length-le}
-use lib.Seq.{split_at, get_or-append_seam}
+use lib.ListN.{length}
 use Rattle.base.specs.Bytes.{byte}
 use Rattle.base.specs.Quoted.{bytes}
 use Rattle.contents.specs.Words.{Text}
-use Rattle.contents.specs.Lines.{Reference}
 use Rattle.contents.specs.Fields.{IsPurpose}
 use Rattle.contents.specs.Answers.{cut, HasPair}
-use Rattle.contents.proofs.Laws.{spot, stands_at, made, cut_one, cut_on, cut_byte, head_tail}
+use Rattle.contents.proofs.Laws.{spot, stands_at, made, cut_one, cut_on, cut_byte}
 
 -- ---- //
 abbrev pub Pair : ℕ → Text → Type 0
@@ -40,42 +37,6 @@ pair_there l p =
       ),
     )
 
--- none before i, and none at i - 1: none before i + 1
-pub pair_on : (i : ℕ) (l : Text) → 1 ≤ i → ((j : ℕ) → j + 1 < i → Not (Pair j l)) → Not ((byte l (i - 1) ≡ 47) × (byte l i ≡ 47)) → (j : ℕ) → j + 1 < i + 1 → Not (Pair j l)
-pair_on i l g f n j h p = go (dec_lt (j + 1) i)
-  where
-    go : Dec (j + 1 < i) → ⊥
-    go (yes x) = f j x p
-    go (no x) =
-        let a : j ≡ i - 1 = omega arith in
-        let b : j + 1 ≡ i = omega arith in
-        n (ap (λ (k : ℕ). byte l k) (sym a) ∙ p.1, ap (λ (k : ℕ). byte l k) (sym b) ∙ p.2)
-
--- ---- 20
-module _ (l : Text) (r : Reference l) where
-  pub ref_first : Not (byte l 0 ≡ 47)
-  ref_first e = r.no_first (drop 1 l) (head_tail l r.size.least ∙ rw e)
-
-  pub ref_last : Not (byte l (length l - 1) ≡ 47)
-  ref_last e =
-      let z = r.size.least in
-      r.no_last (take (length l - 1) l) (split_at l (length l - 1) 0 (omega arith) ∙ rw (e, drop_of_length-le l {i = suc (length l - 1)} (omega arith)))
-
-  pub ref_pair : Not (HasPair l)
-  ref_pair p = r.no_pair p.first p.rest p.line
-
-pub ref_made : (l : Text) → 1 ≤ length l → length l ≤ 16 → Not (byte l 0 ≡ 47) → Not (byte l (length l - 1) ≡ 47) → Not (HasPair l) → Not (l ≡ bytes "+") → Reference l
-ref_made l a b f e p q = record {
-  size = record { least = a; most = b };
-  no_first = λ s x. f (ap (λ (t : Text). byte t 0) x);
-  no_last = λ s x. e (ap₂ (λ (t : Text) (k : ℕ). byte t k) x (at_end_lem s x) ∙ get_or-append_seam s 47 [] 0);
-  no_pair = λ s t x. p (record { first = s; rest = t; line = x });
-  no_plus = q;
-}
-  where
-    at_end_lem : (s : Text) → l ≡ s ++ bytes "/" → length l - 1 ≡ length s
-    at_end_lem s x = omega (arith, ap length x, length-append s (bytes "/"))
-
 -- ---- 26T
 pub record PurposeTests (l : Text) : Type 0 where
   pub size : length l ≡ 3
@@ -87,24 +48,6 @@ pub record PurposeTests (l : Text) : Type 0 where
   pub least : 1 ≤ (byte l 1 - 48) * 10 + (byte l 2 - 48)
   pub most : (byte l 1 - 48) * 10 + (byte l 2 - 48) ≤ 26
   pub other : Not ((byte l 1 - 48) * 10 + (byte l 2 - 48) ≡ 15)
-
-pub purpose_tests : (l : Text) → IsPurpose l → PurposeTests l
-purpose_tests l (n, t) =
-    let a = ap (λ (s : Text). byte s 1) t.line in
-    let b = ap (λ (s : Text). byte s 2) t.line in
-    let x = t.least in
-    let y = t.most in
-    record {
-      size = ap length t.line;
-      letter = ap (λ (s : Text). byte s 0) t.line;
-      low_1 = omega arith;
-      high_1 = omega arith;
-      low_2 = omega arith;
-      high_2 = omega arith;
-      least = omega arith;
-      most = omega arith;
-      other = λ e. t.other (omega arith);
-    }
 
 pub purpose_made : (l : Text) → PurposeTests l → IsPurpose l
 purpose_made l t =

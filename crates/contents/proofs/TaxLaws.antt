@@ -7,10 +7,11 @@ use mathlib.Core.Logic.{inl, inr}
 use mathlib.Core.List.{List, [], ◌∷◌}
 use native.Mathlib.Omega.{arith}
 use lib.ListN.{length}
+use Rattle.std.specs.Prelude.{None, Some}
 use Rattle.base.specs.Quoted.{bytes}
 use Rattle.contents.specs.Words.{Text, Digits, Perhaps}
 use Rattle.contents.specs.Lines.{Inn, TaxLine}
-use Rattle.contents.specs.Answers.{cut, InnSize, InnBy, TaxWith}
+use Rattle.contents.specs.Answers.{cut, InnSize, InnSaid, TaxWith}
 use Rattle.contents.proofs.Laws.{Spot, spot, stands_at, StandsAt, made, mark_some}
 
 inn_size : (twelve : Bool) (inn : Text) → Inn twelve inn → InnSize twelve (length inn) × Digits (length inn) inn
@@ -61,78 +62,17 @@ tax_tests twelve inn kpp l t = go t.reason
     go (inr d) = let p = kpp_laid twelve inn kpp l t d in let s = inn_size twelve inn t.person in
         record { size = inr p.1.1.1.1; count = s.0; word = p.0; digits = rw p.1.0 s.1; kpp = λ z. (p.1.1.0, rw p.1.1.1.0 d) }
 
-module _ (twelve : Bool) (l : Text) (n : ℕ) (b : InnBy twelve (length l) n) where
+-- where no INN has that size, there is no tax line
+pub tax_none : (twelve : Bool) (l : Text) → InnSaid twelve (length l) None → (inn kpp : Text) → Not (TaxLine twelve inn kpp l)
+tax_none twelve l b inn kpp t = let q = tax_tests twelve inn kpp l t in b (length inn) (record { count = q.count; line = q.size })
+
+module _ (twelve : Bool) (l : Text) (n : ℕ) (b : InnSaid twelve (length l) (Some n)) where
   -- a tax line passes the tests
   pub tax_passes : (inn kpp : Text) → TaxLine twelve inn kpp l → TaxTests twelve n l
-  tax_passes inn kpp t = let q = tax_tests twelve inn kpp l t in rw (b.only (length inn) q.count q.size) q
-
-  pub tax_some : (inn kpp : Text) → TaxLine twelve inn kpp l → Not (n ≡ 0)
-  tax_some inn kpp t z = absurd (omega (arith, (inn_range twelve n (tax_passes inn kpp t).count).0))
-
-  -- the bytes that they look at are there
-  pub tax_room : Not (n ≡ 0) → (n + 3 ≤ length l) × (n ≤ 12)
-  tax_room z = (go (b.found z).1, (inn_range twelve n (b.found z).0).1)
-    where
-      go : (length l ≡ n + 3) or (length l ≡ n + 16) → n + 3 ≤ length l
-      go (inl e) = omega arith
-      go (inr e) = omega arith
-
-  pub tax_long : Not (n ≡ 0) → Not (length l ≡ n + 3) → n + 16 ≡ length l
-  tax_long z off = go (b.found z).1
-    where
-      go : (length l ≡ n + 3) or (length l ≡ n + 16) → n + 16 ≡ length l
-      go (inl e) = absurd (off e)
-      go (inr e) = sym e
+  tax_passes inn kpp t = let q = tax_tests twelve inn kpp l t in rw (b.1 (length inn) (record { count = q.count; line = q.size })) q
 
   -- and what passes them is one
-  pub tax_inn_lem : Not (n ≡ 0) → cut 0 3 l ≡ bytes "INN" → Digits n (cut 3 n l) → length l ≡ n + 3 → TaxWith twelve n 0 l
-  tax_inn_lem z w d e = (record { person = inn_made twelve n (cut 3 n l) (b.found z).0 d; reason = inl refl; line = made (inn_spots n) l (refl, (refl, (omega arith, sym e))) ∙ rw w }, d.size, refl)
-
-  pub tax_both : Not (n ≡ 0) → cut 0 3 l ≡ bytes "INN" → Digits n (cut 3 n l) → Not (length l ≡ n + 3) → cut (n + 3) 4 l ≡ bytes ".KPP"
-      → Digits 9 (cut (4 + (n + 3)) 9 l) → TaxWith twelve n 9 l
-  tax_both z w d off v k = (
-    record {
-      person = inn_made twelve n (cut 3 n l) (b.found z).0 d;
-      reason = inr k;
-      line = made (kpp_spots n) l (refl, (refl, (refl, (omega arith, tax_long z off)))) ∙ rw (w, v, mark_some ".KPP" (cut (4 + (n + 3)) 9 l) (omega (arith, k.size)));
-    },
-    d.size,
-    k.size,
-  )
+  pub tax_inn_lem : cut 0 3 l ≡ bytes "INN" → Digits n (cut 3 n l) → length l ≡ n + 3 → TaxWith twelve n 0 l
+  tax_inn_lem w d e = (record { person = inn_made twelve n (cut 3 n l) b.0.count d; reason = inl refl; line = made (inn_spots n) l (refl, (refl, (omega arith, sym e))) ∙ rw w }, d.size, refl)
 
 -- ---- the size of an INN by the size of its line
-pub inn_by_10 : (twelve : Bool) (size : ℕ) → (size ≡ 13) or (size ≡ 26) → InnBy twelve size 10
-inn_by_10 twelve size h = record { found = λ z. (ten twelve, h); only = only twelve h }
-  where
-    ten : (t : Bool) → InnSize t 10
-    ten true = inl refl
-    ten false = refl
-
-    only : (t : Bool) → (size ≡ 13) or (size ≡ 26) → (n : ℕ) → InnSize t n → ((size ≡ n + 3) or (size ≡ n + 16)) → 10 ≡ n
-    only true g n (inl e) q = sym e
-    only true (inl g) n (inr e) (inl q) = omega arith
-    only true (inl g) n (inr e) (inr q) = omega arith
-    only true (inr g) n (inr e) (inl q) = omega arith
-    only true (inr g) n (inr e) (inr q) = omega arith
-    only false g n e q = sym e
-
-pub inn_by_12 : (size : ℕ) → (size ≡ 15) or (size ≡ 28) → InnBy true size 12
-inn_by_12 size h = record { found = λ z. (inr refl, h); only = only h }
-  where
-    only : (size ≡ 15) or (size ≡ 28) → (n : ℕ) → InnSize true n → ((size ≡ n + 3) or (size ≡ n + 16)) → 12 ≡ n
-    only g n (inr e) q = sym e
-    only (inl g) n (inl e) (inl q) = omega arith
-    only (inl g) n (inl e) (inr q) = omega arith
-    only (inr g) n (inl e) (inl q) = omega arith
-    only (inr g) n (inl e) (inr q) = omega arith
-
-pub inn_by_none : (twelve : Bool) (size : ℕ) → Not (size ≡ 13) → Not (size ≡ 26) → (twelve ≡ true → Not (size ≡ 15) × Not (size ≡ 28)) → InnBy twelve size 0
-inn_by_none twelve size a b h = record { found = λ z. absurd (z refl); only = only twelve h }
-  where
-    only : (t : Bool) → (t ≡ true → Not (size ≡ 15) × Not (size ≡ 28)) → (n : ℕ) → InnSize t n → ((size ≡ n + 3) or (size ≡ n + 16)) → 0 ≡ n
-    only true g n (inl e) (inl q) = absurd (a (omega arith))
-    only true g n (inl e) (inr q) = absurd (b (omega arith))
-    only true g n (inr e) (inl q) = absurd ((g refl).0 (omega arith))
-    only true g n (inr e) (inr q) = absurd ((g refl).1 (omega arith))
-    only false g n e (inl q) = absurd (a (omega arith))
-    only false g n e (inr q) = absurd (b (omega arith))

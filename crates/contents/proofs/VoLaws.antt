@@ -183,9 +183,6 @@ module _ (sign : Bool) (most : ℕ) (l : Line) where
 pub nzp_tests : (sign : Bool) (l : Text) → NzpFirst sign l → Marked (bytes "/NZP/") 30 l × VoFirst sign (drop 5 l)
 nzp_tests sign l v = let z = (vo_tests sign v.rest v.vo_first).size in ((v.rest, v.line, record { least = omega arith; most = v.room }), rw (ap (drop 5) v.line) v.vo_first)
 
-pub nzp_made : (sign : Bool) (l : Text) → Marked (bytes "/NZP/") 30 l → VoFirst sign (drop 5 l) → NzpFirst sign l
-nzp_made sign l m v = record { rest = m.0; line = m.1; vo_first = rw (ap (drop 5) m.1) at v; room = m.2.most }
-
 -- an RPP line is no first line of details
 pub rpp_not_72 : (sign : Bool) (most n value : ℕ) (l : Line) (ms : List Line) → RppWith n value l → Not (In72 sign most (l ∷ ms))
 rpp_not_72 sign most n value l ms t d = rpp_not_nzp l (rpp_is t) (nzp_tests sign l (in_72_nzp sign most l ms d)).0

@@ -1,7 +1,7 @@
 -- What the readers of lines answer, held against the grammar. Assumes nothing.
 use Rattle.base.specs.Says.{Not, ◌or◌}
-use Rattle.std.specs.Prelude.{ℕ, ◌+◌, ◌≤◌, ◌<◌, ◌≡◌, Bool, true, false, List, [], ◌∷◌, ◌++◌, length, take, drop}
-use Rattle.base.specs.Choice.{all}
+use Rattle.std.specs.Prelude.{ℕ, ◌+◌, ◌≤◌, ◌<◌, ◌≡◌, Bool, true, false, List, [], ◌∷◌, ◌++◌, length, take, drop, Option, None, Some}
+use Rattle.base.specs.Choice.{all, pick}
 use Rattle.base.specs.Bytes.{byte, digit}
 use Rattle.base.specs.Quoted.{bytes, ascii}
 use Rattle.contents.specs.Words.{Text, Line, Digits, Size, join, BeginsWith}
@@ -10,19 +10,16 @@ use Rattle.contents.specs.Fields.{Is, IsPurpose, IsPayment, IsOwnAccount, In72, 
 use Rattle.contents.specs.declared.whole.Held.{Held}
 use Rattle.contents.specs.declared.whole.Held.TheVariants as held
 use Rattle.contents.specs.declared.lines.Tax.{Tax}
-use Rattle.contents.specs.declared.lines.Tax.TheVariants as tax
 use Rattle.contents.specs.declared.lines.Party.{Party}
 use Rattle.contents.specs.declared.lines.Party.TheVariants as party
 use Rattle.contents.specs.declared.whole.Bank.{Bank}
 use Rattle.contents.specs.declared.whole.Bank.TheVariants as bank
 use Rattle.contents.specs.declared.lines.Paid.{Paid}
-use Rattle.contents.specs.declared.lines.Paid.TheVariants as paid
 use Rattle.contents.specs.declared.Content.{Content}
 use Rattle.contents.specs.declared.Content.TheVariants as holds
 use Rattle.contents.specs.declared.whole.Note.{Note}
 use Rattle.contents.specs.declared.whole.Note.TheVariants as note
 use Rattle.contents.specs.declared.lines.Rpp.{Rpp}
-use Rattle.contents.specs.declared.lines.Rpp.TheVariants as rpp
 
 -- n bytes of the text from i on, and that there are so many
 abbrev pub cut : ℕ → ℕ → Text → Text
@@ -38,14 +35,19 @@ pub record Leads (i n : ℕ) (s : Text) (r : ℕ) : Type 0 where
   pub each : all digit (cut i r s) ≡ true
   pub stop : r < n → i + r < length s → digit (byte s (i + r)) ≡ false
 
--- ---- the size of an INN, by the size of its line; 0 for none
+-- ---- the size of an INN, by the size of its line
 abbrev pub InnSize : Bool → ℕ → Type 0
 InnSize true n = (n ≡ 10) or (n ≡ 12)
 InnSize false n = n ≡ 10
 
-pub record InnBy (twelve : Bool) (size r : ℕ) : Type 0 where
-  pub found : Not (r ≡ 0) → InnSize twelve r × ((size ≡ r + 3) or (size ≡ r + 16))
-  pub only : (n : ℕ) → InnSize twelve n → ((size ≡ n + 3) or (size ≡ n + 16)) → r ≡ n
+-- a tax line of that size may have an INN of n digits
+pub record InnOf (twelve : Bool) (size n : ℕ) : Type 0 where
+  pub count : InnSize twelve n
+  pub line : (size ≡ n + 3) or (size ≡ n + 16)
+
+abbrev pub InnSaid : Bool → ℕ → Option ℕ → Type 0
+InnSaid twelve size None = (n : ℕ) → Not (InnOf twelve size n)
+InnSaid twelve size (Some r) = InnOf twelve size r × ((n : ℕ) → InnOf twelve size n → r ≡ n)
 
 -- ---- what stands behind the number of an RPP line
 pub record RppBody (i : ℕ) (l : Line) : Type 0 where
@@ -69,56 +71,68 @@ EndsIn i n l = (length l ≡ i) or ((length l ≡ n + (1 + i)) × Pointed i n l)
 abbrev pub TaxWith : Bool → ℕ → ℕ → Line → Type 0
 TaxWith twelve inn kpp l = TaxLine twelve (cut 3 inn l) (cut (4 + (inn + 3)) kpp l) l × Stand 3 inn l × Stand (4 + (inn + 3)) kpp l
 
-abbrev pub TaxSaid : Bool → Line → Tax → Type 0
-TaxSaid twelve l tax.Wrong = (inn kpp : Text) → Not (TaxLine twelve inn kpp l)
-TaxSaid twelve l (tax.Is inn kpp) = TaxWith twelve inn kpp l
+-- with a KPP or without one
+abbrev pub TaxIs : Bool → Tax → Line → Type 0
+TaxIs twelve t l = TaxWith twelve t.inn (pick t.kpp 9 0) l
+
+abbrev pub TaxSaid : Bool → Line → Option Tax → Type 0
+TaxSaid twelve l None = (inn kpp : Text) → Not (TaxLine twelve inn kpp l)
+TaxSaid twelve l (Some t) = TaxIs twelve t l
 
 abbrev pub BikWith : ℕ → Line → Type 0
 BikWith n l = PartyByBik (cut 4 9 l) (cut 14 n l) l × Stand 14 n l
 
-abbrev pub PartySaid : Line → Party → Type 0
-PartySaid l party.Wrong = Not (IsParty l)
-PartySaid l party.Account = PartyByAccount (cut 1 20 l) l
-PartySaid l (party.Bik n) = BikWith n l
+abbrev pub IsA : Party → Line → Type 0
+IsA party.Account l = PartyByAccount (cut 1 20 l) l
+IsA (party.Bik account) l = BikWith (pick account 20 0) l
+
+abbrev pub PartySaid : Line → Option Party → Type 0
+PartySaid l None = Not (IsParty l)
+PartySaid l (Some p) = IsA p l
 
 abbrev pub PaidWith : ℕ → ℕ → Line → Type 0
 PaidWith whole decimals l = Payment (cut 0 6 l) (cut 6 3 l) (cut 9 whole l) (cut (1 + (whole + 9)) decimals l) l × Stand 9 whole l × Stand (1 + (whole + 9)) decimals l
 
-abbrev pub PaidSaid : Line → Paid → Type 0
-PaidSaid l paid.Wrong = (date currency whole decimals : Text) → Not (Payment date currency whole decimals l)
-PaidSaid l (paid.Is whole decimals) = PaidWith whole decimals l
+abbrev pub PaidSaid : Line → Option Paid → Type 0
+PaidSaid l None = (date currency whole decimals : Text) → Not (Payment date currency whole decimals l)
+PaidSaid l (Some p) = PaidWith p.whole p.decimals l
 
 abbrev pub RppWith : ℕ → ℕ → Line → Type 0
 RppWith n value l =
     ((sort : Text) × RppLine (cut 5 n l) (cut (1 + (n + 5)) 6 l) (cut (8 + (n + 5)) 1 l) (cut (10 + (n + 5)) 4 l) (cut (15 + (n + 5)) value l) sort l)
     × Stand 5 n l × Stand (15 + (n + 5)) value l
 
-abbrev pub RppSaid : Line → Rpp → Type 0
-RppSaid l rpp.Wrong = Not (IsRpp l)
-RppSaid l (rpp.Is n value) = RppWith n value l
+-- with a value date or without one
+abbrev pub RppIs : Rpp → Line → Type 0
+RppIs r l = RppWith r.number (pick r.value 6 0) l
+
+abbrev pub RppSaid : Line → Option Rpp → Type 0
+RppSaid l None = Not (IsRpp l)
+RppSaid l (Some r) = RppIs r l
 
 -- ---- fields with the parts of their tax line; at: where the first of the lines begins
-abbrev pub BesideSaid : Bool → ℕ → List Line → Held → Type 0
-BesideSaid twelve at ls held.Wrong = Not (Beside twelve ls)
-BesideSaid twelve at ls held.Plain = Not (Then LooksTax Any ls) × Names 4 ls
-BesideSaid twelve at ls (held.Taxed p inn kpp) = (p ≡ at) × Then (TaxWith twelve inn kpp) (Names 3) ls
+abbrev pub BesideIs : Bool → ℕ → List Line → Held → Type 0
+BesideIs twelve at ls held.Plain = Not (Then LooksTax Any ls) × Names 4 ls
+BesideIs twelve at ls (held.Taxed p t) = (p ≡ at) × Then (TaxIs twelve t) (Names 3) ls
+
+abbrev pub BesideSaid : Bool → ℕ → List Line → Option Held → Type 0
+BesideSaid twelve at ls None = Not (Beside twelve ls)
+BesideSaid twelve at ls (Some h) = BesideIs twelve at ls h
 
 abbrev pub AccountFirst : Bool → List Line → Held → Type 0
-AccountFirst twelve [] r = ⊥
-AccountFirst twelve (l ∷ ls) r = IsAccount l × BesideSaid twelve (length l + 2) ls r
+AccountFirst twelve [] h = ⊥
+AccountFirst twelve (l ∷ ls) h = IsAccount l × BesideIs twelve (length l + 2) ls h
 
-abbrev pub CustomerSaid : Bool → List Line → Held → Type 0
-CustomerSaid twelve ls held.Wrong = Not (Customer twelve ls)
-CustomerSaid twelve ls held.Plain = AccountFirst twelve ls held.Plain
-CustomerSaid twelve ls (held.Taxed p inn kpp) = AccountFirst twelve ls (held.Taxed p inn kpp)
+abbrev pub CustomerSaid : Bool → List Line → Option Held → Type 0
+CustomerSaid twelve ls None = Not (Customer twelve ls)
+CustomerSaid twelve ls (Some h) = AccountFirst twelve ls h
 
 abbrev pub NoAccount : List Line → Held → Type 0
-NoAccount ls r = Not (Then (BeginsWith "/") Any ls) × BesideSaid true 0 ls r
+NoAccount ls h = Not (Then (BeginsWith "/") Any ls) × BesideIs true 0 ls h
 
-abbrev pub PayerSaid : List Line → Held → Type 0
-PayerSaid ls held.Wrong = Not (Payer ls)
-PayerSaid ls held.Plain = AccountFirst true ls held.Plain or NoAccount ls held.Plain
-PayerSaid ls (held.Taxed p inn kpp) = AccountFirst true ls (held.Taxed p inn kpp) or NoAccount ls (held.Taxed p inn kpp)
+abbrev pub PayerSaid : List Line → Option Held → Type 0
+PayerSaid ls None = Not (Payer ls)
+PayerSaid ls (Some h) = AccountFirst true ls h or NoAccount ls h
 
 -- ---- a line that begins with the VO code
 pub record VoFirst (sign : Bool) (l : Line) : Type 0 where
@@ -128,25 +142,14 @@ pub record VoFirst (sign : Bool) (l : Line) : Type 0 where
   pub line : l ≡ join (code_opening sign ∷ vo ∷ code_closing sign ∷ text ∷ [])
 
 -- ---- banks
-abbrev pub no_party : Party → Bool
-no_party party.Wrong = true
-no_party party.Account = false
-no_party (party.Bik n) = false
+abbrev pub BicSaid : List Line → Option Bank → Type 0
+BicSaid ls None = Not (BankByBic ls)
+BicSaid ls (Some bank.Alone) = One IsBic ls
+BicSaid ls (Some (bank.Led p)) = Then (IsA p) (One IsBic) ls
 
-abbrev pub IsA : Party → Line → Type 0
-IsA party.Wrong l = ⊥
-IsA party.Account l = PartyByAccount (cut 1 20 l) l
-IsA (party.Bik n) l = BikWith n l
-
-abbrev pub BicSaid : List Line → Bank → Type 0
-BicSaid ls bank.Wrong = Not (BankByBic ls)
-BicSaid ls bank.Alone = One IsBic ls
-BicSaid ls (bank.Led p) = Then (IsA p) (One IsBic) ls
-
-abbrev pub NameSaid : List Line → Bank → Type 0
-NameSaid ls bank.Wrong = Not (BankByName ls)
-NameSaid ls bank.Alone = ⊥
-NameSaid ls (bank.Led p) = Then (IsA p) (Names 4) ls
+abbrev pub NameSaid : List Line → Option Party → Type 0
+NameSaid ls None = Not (BankByName ls)
+NameSaid ls (Some p) = Then (IsA p) (Names 4) ls
 
 -- ---- // stands in a line
 pub record HasPair (l : Line) : Type 0 where
@@ -174,31 +177,15 @@ pub record NzpFirst (sign : Bool) (l : Line) : Type 0 where
 abbrev pub text_at : Bool → ℕ
 text_at sign = length (code_closing sign) + (5 + length (code_opening sign))
 
-abbrev pub NoteSaid : Bool → List Line → Note → Type 0
-NoteSaid sign ls note.Wrong = Not (RppAndDetails sign ls)
-NoteSaid sign ls note.Plain = In72 sign 6 ls
-NoteSaid sign ls (note.Dated n value) = Then (RppWith n value) (In72 sign 5) ls
+abbrev pub NoteSaid : Bool → List Line → Option Note → Type 0
+NoteSaid sign ls None = Not (RppAndDetails sign ls)
+NoteSaid sign ls (Some note.Plain) = In72 sign 6 ls
+NoteSaid sign ls (Some (note.Dated r)) = Then (RppIs r) (In72 sign 5) ls
 
-abbrev pub RestSaid : List Line → Note → Type 0
-RestSaid ls note.Wrong = Not (RppAndRest ls)
-RestSaid ls note.Plain = InRest 6 ls
-RestSaid ls (note.Dated n value) = One (RppWith n value) ls or Then (RppWith n value) (InRest 5) ls
-
--- ---- an answer that is not `Wrong`
-abbrev pub is_held : Held → Bool
-is_held held.Wrong = false
-is_held held.Plain = true
-is_held (held.Taxed p inn kpp) = true
-
-abbrev pub is_bank : Bank → Bool
-is_bank bank.Wrong = false
-is_bank bank.Alone = true
-is_bank (bank.Led p) = true
-
-abbrev pub is_note : Note → Bool
-is_note note.Wrong = false
-is_note note.Plain = true
-is_note (note.Dated n v) = true
+abbrev pub RestSaid : List Line → Option Note → Type 0
+RestSaid ls None = Not (RppAndRest ls)
+RestSaid ls (Some note.Plain) = InRest 6 ls
+RestSaid ls (Some (note.Dated r)) = One (RppIs r) ls or Then (RppIs r) (InRest 5) ls
 
 -- ---- the contents of one line
 abbrev pub SingleLine : Content → Line → Type 0

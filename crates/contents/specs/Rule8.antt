@@ -2,8 +2,7 @@
 use Rattle.std.specs.Prelude.{ℕ, ◌+◌, ◌≡◌, Bool, List, [], ◌∷◌, ◌++◌}
 use Rattle.base.specs.Choice.{pick}
 use Rattle.base.specs.Says.{Not}
-use Rattle.base.specs.declared.Verdict.{Verdict}
-use Rattle.base.specs.declared.Verdict.TheVariants.{Fine, Broken}
+use Rattle.base.specs.Verdicts.{Verdict, Fine, Broken}
 use Rattle.fields.specs.Field.{Field, field, lines_of, fields}
 use Rattle.fields.specs.Places.{lines_size, start_of, next_of}
 use Rattle.types.specs.declared.Form.{Form}

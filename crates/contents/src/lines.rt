@@ -1,10 +1,10 @@
 // The readers of single lines.
-ghost use Rattle.std.specs.Prelude.{◌≡◌, ◌+◌, ◌-◌, ◌*◌, ◌≤◌, length};
+ghost use Rattle.std.specs.Prelude.{◌≡◌, ◌+◌, ◌≤◌, length};
 ghost use Rattle.contents.specs.Fields.{IsPurpose, IsAccount, IsOwnAccount, IsBic};
 ghost use Rattle.contents.specs.Tests.{looks_tax};
 ghost use Rattle.contents.specs.Lines.{Name, Way, Reference};
 ghost use Rattle.base.specs.Says.{Says};
-ghost use Rattle.contents.specs.Answers.{cut, HasPair, RppBody, Pointed, EndsIn, PartySaid, InnBy, TaxSaid, PaidSaid, RppSaid};
+ghost use Rattle.contents.specs.Answers.{cut, HasPair, RppBody, Pointed, EndsIn, PartySaid, InnSaid, TaxSaid, PaidSaid, RppSaid};
 
 use super::pieces::{
     are_capitals, are_capitals_or_digits, are_digits, digits_from, has_word, is_just, is_numbered,
@@ -122,59 +122,46 @@ pub const BY_BOTH: usize = BIK_ACCOUNT + ACCOUNT;
 // A reference, and the numbers of purposes.
 const REFERENCE: usize = 16;
 
-const LAST_PURPOSE: usize = 26;
+const LAST_PURPOSE: u8 = 26;
 
-// A tax line: the sizes of its INN and of its KPP; 0 for none.
+// A tax line: the size of its INN, and whether a KPP stands behind it.
 #[derive(Clone, Copy)]
-pub enum Tax {
-    Wrong,
-    Is(usize, usize),
+pub struct Tax {
+    pub inn: usize,
+    pub kpp: bool,
 }
 
 // 32A: the sizes of the whole part and of the decimals behind the comma.
 #[derive(Clone, Copy)]
-pub enum Paid {
-    Wrong,
-    Is(usize, usize),
+pub struct Paid {
+    pub whole: usize,
+    pub decimals: usize,
 }
 
-// An RPP line: the sizes of its number and of its value date; 0 for none.
+// An RPP line: the size of its number, and whether it has a value date.
 #[derive(Clone, Copy)]
-pub enum Rpp {
-    Wrong,
-    Is(usize, usize),
+pub struct Rpp {
+    pub number: usize,
+    pub value: bool,
 }
 
-// A party line: an account; or a BIK, and the size of the account behind it, 0 for none.
+// A party line: an account; or a BIK, and whether an account stands behind it.
 #[derive(Clone, Copy)]
 pub enum Party {
-    Wrong,
     Account,
-    Bik(usize),
+    Bik { account: bool },
 }
 
 pub fn is_name(l: &[u8]) -> bool
     ensures { Says (Name l.now) result }
 {
-    if l.len() < 1 {
-        return false;
-    }
-    l.len() <= WIDTH
+    !l.is_empty() && l.len() <= WIDTH
 }
 
 pub fn is_account(l: &[u8]) -> bool
     ensures { Says (IsAccount l.now) result }
 {
-    if l.len() < 2 {
-        return false;
-    }
-    if WIDTH < l.len() {
-        return false;
-    }
-    if l[0] != b'/' {
-        return false;
-    }
-    l[1] != b'/'
+    2 <= l.len() && l.len() <= WIDTH && l[0] == b'/' && l[1] != b'/'
 }
 
 // Whether a line in the tax place is taken for a tax line: it begins INN and a digit.
@@ -184,102 +171,79 @@ pub fn looks_tax(l: &[u8]) -> bool
     is_numbered(l, b"INN")
 }
 
-fn inn_size(twelve: bool, size: usize) -> usize
-    ensures { InnBy twelve size result }
+fn inn_size(twelve: bool, size: usize) -> Option<usize>
+    ensures { InnSaid twelve size result }
 {
-    if size == WITH_TEN {
-        return TEN;
+    match size {
+        WITH_TEN | TEN_AND_KPP => Some(TEN),
+        WITH_TWELVE | TWELVE_AND_KPP if twelve => Some(TWELVE),
+        _ => None,
     }
-    if size == TEN_AND_KPP {
-        return TEN;
-    }
-    if !twelve {
-        return 0;
-    }
-    if size == WITH_TWELVE {
-        return TWELVE;
-    }
-    if size == TWELVE_AND_KPP {
-        return TWELVE;
-    }
-    0
 }
 
-pub fn tax_line(twelve: bool, l: &[u8]) -> Tax
+pub fn tax_line(twelve: bool, l: &[u8]) -> Option<Tax>
     ensures { TaxSaid twelve l.now result }
 {
-    let n = inn_size(twelve, l.len());
-    if n == 0 {
-        return Tax::Wrong;
-    }
+    let inn = inn_size(twelve, l.len())?;
     if !has_word(l, 0, b"INN") {
-        return Tax::Wrong;
+        return None;
     }
-    if !are_digits(l, INN_MARK, n) {
-        return Tax::Wrong;
+    if !are_digits(l, INN_MARK, inn) {
+        return None;
     }
-    if l.len() == n + INN_MARK {
-        return Tax::Is(n, 0);
+    if l.len() == inn + INN_MARK {
+        return Some(Tax { inn, kpp: false });
     }
-    if !has_word(l, n + INN_MARK, b".KPP") {
-        return Tax::Wrong;
+    if !has_word(l, inn + INN_MARK, b".KPP") {
+        return None;
     }
-    if !are_digits(l, KPP_MARK + (n + INN_MARK), KPP) {
-        return Tax::Wrong;
+    if !are_digits(l, KPP_MARK + (inn + INN_MARK), KPP) {
+        return None;
     }
-    Tax::Is(n, KPP)
+    Some(Tax { inn, kpp: true })
 }
 
-pub fn payment(l: &[u8]) -> Paid
+pub fn payment(l: &[u8]) -> Option<Paid>
     ensures { PaidSaid l.now result }
 {
     if l.len() < SHORTEST_PAID {
-        return Paid::Wrong;
+        return None;
     }
     if LONGEST_PAID < l.len() {
-        return Paid::Wrong;
+        return None;
     }
     if !are_digits(l, 0, DATE) {
-        return Paid::Wrong;
+        return None;
     }
     if !are_capitals(l, DATE, CURRENCY) {
-        return Paid::Wrong;
+        return None;
     }
-    let n = digits_from(l, MONEY, MOST_DIGITS);
-    if n < 1 {
-        return Paid::Wrong;
+    let whole = digits_from(l, MONEY, MOST_DIGITS);
+    if whole < 1 {
+        return None;
     }
-    let comma = n + MONEY;
+    let comma = whole + MONEY;
     if l.len() <= comma {
-        return Paid::Wrong;
+        return None;
     }
-    let d = l.len() - (COMMA + comma);
-    if MOST_DECIMALS < d {
-        return Paid::Wrong;
+    let decimals = l.len() - (COMMA + comma);
+    if MOST_DECIMALS < decimals {
+        return None;
     }
     if !has_word(l, comma, b",") {
-        return Paid::Wrong;
+        return None;
     }
-    if !are_digits(l, COMMA + comma, d) {
-        return Paid::Wrong;
+    if !are_digits(l, COMMA + comma, decimals) {
+        return None;
     }
-    Paid::Is(n, d)
+    Some(Paid { whole, decimals })
 }
 
 fn is_way(l: &[u8], i: usize) -> bool
     requires { 4 + i ≤ length l.now }
     ensures { Says (Way (cut i 4 l.now)) result }
 {
-    if has_word(l, i, b"POST") {
-        return true;
-    }
-    if has_word(l, i, b"TELG") {
-        return true;
-    }
-    if has_word(l, i, b"ELEK") {
-        return true;
-    }
-    has_word(l, i, b"BESP")
+    matches!(&l[i..i + WAY], b"POST" | b"TELG" | b"ELEK" | b"BESP")
 }
 
 // What stands behind an RPP line's number: a date, a digit, a way of payment, each with its point.
@@ -287,22 +251,12 @@ fn is_rpp_body(l: &[u8], i: usize) -> bool
     requires { 14 + i ≤ length l.now }
     ensures { Says (RppBody i l.now) result }
 {
-    if l[i] != b'.' {
-        return false;
-    }
-    if l[SECOND_POINT + i] != b'.' {
-        return false;
-    }
-    if l[THIRD_POINT + i] != b'.' {
-        return false;
-    }
-    if !are_digits(l, RPP_DATE + i, DATE) {
-        return false;
-    }
-    if !are_digits(l, RPP_TURN + i, TURN) {
-        return false;
-    }
-    is_way(l, RPP_WAY + i)
+    l[i] == b'.'
+        && l[SECOND_POINT + i] == b'.'
+        && l[THIRD_POINT + i] == b'.'
+        && are_digits(l, RPP_DATE + i, DATE)
+        && are_digits(l, RPP_TURN + i, TURN)
+        && is_way(l, RPP_WAY + i)
 }
 
 // Whether a point and n digits stand from i on.
@@ -310,10 +264,7 @@ fn is_pointed(l: &[u8], i: usize, n: usize) -> bool
     requires { n + (1 + i) ≤ length l.now }
     ensures { Says (Pointed i n l.now) result }
 {
-    if l[i] != b'.' {
-        return false;
-    }
-    are_digits(l, POINT + i, n)
+    l[i] == b'.' && are_digits(l, POINT + i, n)
 }
 
 // Whether the line ends at i, or in a point and n digits that stand there.
@@ -321,61 +272,55 @@ fn ends_in(l: &[u8], i: usize, n: usize) -> bool
     requires { i ≤ length l.now }
     ensures { Says (EndsIn i n l.now) result }
 {
-    if l.len() == i {
-        return true;
-    }
-    if l.len() - (POINT + i) != n {
-        return false;
-    }
-    is_pointed(l, i, n)
+    l.len() == i || l.len() - (POINT + i) == n && is_pointed(l, i, n)
 }
 
-pub fn rpp_line(l: &[u8]) -> Rpp
+pub fn rpp_line(l: &[u8]) -> Option<Rpp>
     ensures { RppSaid l.now result }
 {
     if l.len() < SHORTEST_RPP {
-        return Rpp::Wrong;
+        return None;
     }
     if !has_word(l, 0, b"/RPP/") {
-        return Rpp::Wrong;
+        return None;
     }
-    let n = digits_from(l, RPP_MARK, MOST_NUMBER);
-    if n < 1 {
-        return Rpp::Wrong;
+    let number = digits_from(l, RPP_MARK, MOST_NUMBER);
+    if number < 1 {
+        return None;
     }
-    let i = n + RPP_MARK;
+    let i = number + RPP_MARK;
     if l.len() < RPP_BODY + i {
-        return Rpp::Wrong;
+        return None;
     }
     if !is_rpp_body(l, i) {
-        return Rpp::Wrong;
+        return None;
     }
     let end = RPP_BODY + i;
     if l.len() < DUE + end {
         if !ends_in(l, end, SORT) {
-            return Rpp::Wrong;
+            return None;
         }
-        return Rpp::Is(n, 0);
+        return Some(Rpp {
+            number,
+            value: false,
+        });
     }
     if !is_pointed(l, end, DATE) {
-        return Rpp::Wrong;
+        return None;
     }
     if !ends_in(l, DUE + end, SORT) {
-        return Rpp::Wrong;
+        return None;
     }
-    Rpp::Is(n, DATE)
+    Some(Rpp {
+        number,
+        value: true,
+    })
 }
 
 pub fn is_own_account(l: &[u8]) -> bool
     ensures { Says (IsOwnAccount l.now) result }
 {
-    if l.len() != OWN {
-        return false;
-    }
-    if !has_word(l, 0, b"/D/") {
-        return false;
-    }
-    are_digits(l, OWN_MARK, ACCOUNT)
+    l.len() == OWN && has_word(l, 0, b"/D/") && are_digits(l, OWN_MARK, ACCOUNT)
 }
 
 pub fn is_bic(l: &[u8]) -> bool
@@ -384,77 +329,61 @@ pub fn is_bic(l: &[u8]) -> bool
     if l.len() < SHORT_BIC {
         return false;
     }
-    if !are_capitals(l, 0, BANK) {
-        return false;
-    }
-    if !are_capitals(l, BANK, LAND) {
-        return false;
-    }
-    if !are_capitals_or_digits(l, BIC_PLACE, PLACE) {
-        return false;
-    }
-    if l.len() == SHORT_BIC {
-        return true;
-    }
-    if l.len() != LONG_BIC {
-        return false;
-    }
-    are_capitals_or_digits(l, SHORT_BIC, BRANCH)
+    let short = are_capitals(l, 0, BANK)
+        && are_capitals(l, BANK, LAND)
+        && are_capitals_or_digits(l, BIC_PLACE, PLACE);
+    short
+        && (l.len() == SHORT_BIC
+            || l.len() == LONG_BIC && are_capitals_or_digits(l, SHORT_BIC, BRANCH))
 }
 
-pub fn party_line(l: &[u8]) -> Party
+pub fn party_line(l: &[u8]) -> Option<Party>
     ensures { PartySaid l.now result }
 {
     if l.len() == BY_ACCOUNT {
         if !has_word(l, 0, b"/") {
-            return Party::Wrong;
+            return None;
         }
         if are_digits(l, SLASH, ACCOUNT) {
-            return Party::Account;
+            return Some(Party::Account);
         }
-        return Party::Wrong;
+        return None;
     }
     if l.len() < BY_BIK {
-        return Party::Wrong;
+        return None;
     }
     if !has_word(l, 0, b"//RU") {
-        return Party::Wrong;
+        return None;
     }
     if !has_word(l, BIK_MARK, b"04") {
-        return Party::Wrong;
+        return None;
     }
     if !are_digits(l, BIK_MARK, BIK) {
-        return Party::Wrong;
+        return None;
     }
     if l.len() == BY_BIK {
-        return Party::Bik(0);
+        return Some(Party::Bik { account: false });
     }
     if l.len() != BY_BOTH {
-        return Party::Wrong;
+        return None;
     }
     if !has_word(l, BY_BIK, b".") {
-        return Party::Wrong;
+        return None;
     }
     if !are_digits(l, BIK_ACCOUNT, ACCOUNT) {
-        return Party::Wrong;
+        return None;
     }
-    Party::Bik(ACCOUNT)
+    Some(Party::Bik { account: true })
 }
 
 // Whether // stands in it.
 fn has_pair(l: &[u8]) -> bool
     ensures { Says (HasPair l.now) result }
 {
-    let mut i = 1;
-    while i < l.len() {
-        if l[i] != b'/' {
-            i += 1;
-            continue;
-        }
-        if l[i - 1] == b'/' {
+    for i in 1..l.len() {
+        if l[i - 1] == b'/' && l[i] == b'/' {
             return true;
         }
-        i += 1;
     }
     false
 }
@@ -462,63 +391,17 @@ fn has_pair(l: &[u8]) -> bool
 pub fn is_reference(l: &[u8]) -> bool
     ensures { Says (Reference l.now) result }
 {
-    if l.len() < 1 {
+    if l.is_empty() || REFERENCE < l.len() {
         return false;
     }
-    if REFERENCE < l.len() {
-        return false;
-    }
-    if l[0] == b'/' {
-        return false;
-    }
-    if l[l.len() - 1] == b'/' {
-        return false;
-    }
-    if has_pair(l) {
-        return false;
-    }
-    if is_just(l, b"+") {
-        return false;
-    }
-    true
-}
-
-fn number_of(a: u8, b: u8) -> usize
-    requires { (48 ≤ a) × (a ≤ 57) × (48 ≤ b) × (b ≤ 57) }
-    ensures { result ≡ (a - 48) * 10 + (b - 48) }
-{
-    (a - b'0') as usize * 10 + (b - b'0') as usize
+    l[0] != b'/' && l[l.len() - 1] != b'/' && !has_pair(l) && !is_just(l, b"+")
 }
 
 pub fn is_purpose(l: &[u8]) -> bool
     ensures { Says (IsPurpose l.now) result }
 {
-    if l.len() != 3 {
+    let [b'S', tens @ b'0'..=b'9', ones @ b'0'..=b'9'] = *l else {
         return false;
-    }
-    if l[0] != b'S' {
-        return false;
-    }
-    let a = l[1];
-    let b = l[2];
-    if a < b'0' {
-        return false;
-    }
-    if b'9' < a {
-        return false;
-    }
-    if b < b'0' {
-        return false;
-    }
-    if b'9' < b {
-        return false;
-    }
-    let n = number_of(a, b);
-    if n < 1 {
-        return false;
-    }
-    if LAST_PURPOSE < n {
-        return false;
-    }
-    n != 15
+    };
+    matches!((tens - b'0') * 10 + (ones - b'0'), 1..=14 | 16..=LAST_PURPOSE)
 }

@@ -1,9 +1,9 @@
 // The readers of whole fields: their lines, one after the other.
-ghost use Rattle.std.specs.Prelude.{◌≡◌, ◌+◌, ◌-◌, ◌≤◌, ◌<◌, [], ◌∷◌, length, drop};
+ghost use Rattle.std.specs.Prelude.{◌≡◌, ◌-◌, ◌≤◌, [], ◌∷◌, length, drop};
 ghost use Rattle.fields.specs.Lines.{lines_in};
 ghost use Rattle.contents.specs.Fields.{One, IsBic, IsAccount, Then, Several, In70, In72, InRest, Regulatory};
 ghost use Rattle.base.specs.Says.{Says};
-ghost use Rattle.contents.specs.Answers.{VoFirst, BesideSaid, CustomerSaid, PayerSaid, no_party, BicSaid, NameSaid, Marked, NzpFirst, text_at, NoteSaid, RestSaid, LaterOrName};
+ghost use Rattle.contents.specs.Answers.{VoFirst, BesideSaid, CustomerSaid, PayerSaid, BicSaid, NameSaid, Marked, NzpFirst, text_at, NoteSaid, RestSaid, LaterOrName};
 
 use super::lines::{
     Party, Rpp, Tax, WIDTH, is_account, is_bic, is_name, looks_tax, party_line, rpp_line, tax_line,
@@ -47,39 +47,36 @@ pub const SIGNED_CODE: usize = SIGNED_SHUT + 2;
 // 72: /NZP/, in a 202 in front of the code, and // in the later lines.
 pub const NZP: usize = 5;
 
-const NZP_CODE: usize = NZP + CODE;
-
 pub const NZP_SIGNED: usize = NZP + SIGNED_CODE;
 
 pub const LATER: usize = 2;
 
-// 50K, 59, 58D: wrong; right without a tax line; or right with one, where it begins, and the sizes of its INN and its KPP.
+// 50K, 59, 58D: without a tax line; or with one, and where it begins.
 #[derive(Clone, Copy)]
 pub enum Held {
-    Wrong,
     Plain,
-    Taxed(usize, usize, usize),
+    Taxed { at: usize, tax: Tax },
 }
 
-// 52A, 56, 57: wrong; a BIC alone; or a party line first, as it was read.
+// 52A, 56A, 57A: a BIC alone; or a party line first.
 #[derive(Clone, Copy)]
 pub enum Bank {
-    Wrong,
     Alone,
     Led(Party),
+}
+
+// 72: details, or their rest, alone; or an RPP line first.
+#[derive(Clone, Copy)]
+pub enum Note {
+    Plain,
+    Dated(Rpp),
 }
 
 // Whether a line is that mark and at least one byte behind it.
 fn is_marked(mark: &[u8], l: &[u8]) -> bool
     ensures { Says (Marked mark.now (35 - length mark.now) l.now) result }
 {
-    if l.len() <= mark.len() {
-        return false;
-    }
-    if WIDTH < l.len() {
-        return false;
-    }
-    has_word(l, 0, mark)
+    mark.len() < l.len() && l.len() <= WIDTH && has_word(l, 0, mark)
 }
 
 // Whether a line is a name; or marked, a later line of 72's details.
@@ -98,11 +95,7 @@ fn are_lines(marked: bool, c: &[u8], from: usize, most: usize) -> bool
     ensures { Says (Several (LaterOrName marked) most (lines_in (drop from c.now))) result }
 {
     let mut at = from;
-    let mut left = most;
-    loop {
-        if left == 0 {
-            return false;
-        }
+    for _ in 0..most {
         let e = mark_at(b'\r', c, at);
         if !is_later(marked, &c[at..e]) {
             return false;
@@ -110,60 +103,48 @@ fn are_lines(marked: bool, c: &[u8], from: usize, most: usize) -> bool
         if c.len() <= e {
             return true;
         }
-        left -= 1;
         at = next_line(e, c.len());
     }
+    false
 }
 
 // Beside the account: perhaps a tax line, then names.
-fn beside(twelve: bool, c: &[u8], at: usize) -> Held
+fn beside(twelve: bool, c: &[u8], at: usize) -> Option<Held>
     requires { at ≤ length c.now }
     ensures { BesideSaid twelve at (lines_in (drop at c.now)) result }
 {
     let e = mark_at(b'\r', c, at);
     if !looks_tax(&c[at..e]) {
-        if are_lines(false, c, at, BESIDE) {
-            return Held::Plain;
-        }
-        return Held::Wrong;
+        return are_lines(false, c, at, BESIDE).then_some(Held::Plain);
     }
-    let Tax::Is(inn, kpp) = tax_line(twelve, &c[at..e]) else {
-        return Held::Wrong;
-    };
-    if c.len() <= e {
-        return Held::Wrong;
-    }
-    if are_lines(false, c, next_line(e, c.len()), BEHIND_TAX) {
-        return Held::Taxed(at, inn, kpp);
-    }
-    Held::Wrong
+    let tax = tax_line(twelve, &c[at..e])?;
+    let fine = e < c.len() && are_lines(false, c, next_line(e, c.len()), BEHIND_TAX);
+    fine.then_some(Held::Taxed { at, tax })
 }
 
 // 59 and, with an INN of ten digits alone, 58D.
-pub fn customer(twelve: bool, c: &[u8]) -> Held
+pub fn customer(twelve: bool, c: &[u8]) -> Option<Held>
     ensures { CustomerSaid twelve (lines_in c.now) result }
 {
     let e = mark_at(b'\r', c, 0);
     if !is_account(&c[..e]) {
-        return Held::Wrong;
+        return None;
     }
     if c.len() <= e {
-        return Held::Wrong;
+        return None;
     }
     beside(twelve, c, next_line(e, c.len()))
 }
 
 // 50K.
-pub fn payer(c: &[u8]) -> Held
+pub fn payer(c: &[u8]) -> Option<Held>
     ensures { PayerSaid (lines_in c.now) result }
 {
-    if c.len() == 0 {
-        return Held::Wrong;
+    match c {
+        [] => None,
+        [b'/', ..] => customer(true, c),
+        _ => beside(true, c, 0),
     }
-    if c[0] == b'/' {
-        return customer(true, c);
-    }
-    beside(true, c, 0)
 }
 
 // Whether a line begins with the VO code.
@@ -171,27 +152,23 @@ fn is_vo(sign: bool, l: &[u8]) -> bool
     ensures { Says (VoFirst sign l.now) result }
 {
     if sign {
-        if l.len() < SIGNED_CODE {
-            return false;
-        }
-        if !has_word(l, 0, b"'(VO") {
-            return false;
-        }
-        if !has_word(l, SIGNED_SHUT, b")'") {
-            return false;
-        }
-        return are_digits(l, SIGNED_MARK, VO);
+        SIGNED_CODE <= l.len()
+            && has_word(l, 0, b"'(VO")
+            && has_word(l, SIGNED_SHUT, b")'")
+            && are_digits(l, SIGNED_MARK, VO)
+    } else {
+        CODE <= l.len()
+            && has_word(l, 0, b"(VO")
+            && has_word(l, VO_SHUT, b")")
+            && are_digits(l, VO_MARK, VO)
     }
-    if l.len() < CODE {
-        return false;
-    }
-    if !has_word(l, 0, b"(VO") {
-        return false;
-    }
-    if !has_word(l, VO_SHUT, b")") {
-        return false;
-    }
-    are_digits(l, VO_MARK, VO)
+}
+
+// How many bytes the VO code takes.
+fn code_size(sign: bool) -> usize
+    ensures { result ≡ text_at sign }
+{
+    if sign { SIGNED_CODE } else { CODE }
 }
 
 // 70.
@@ -208,20 +185,7 @@ pub fn details(sign: bool, c: &[u8]) -> bool
     if e < c.len() {
         return are_lines(false, c, next_line(e, c.len()), BEHIND_CODE);
     }
-    if sign {
-        return SIGNED_CODE < e;
-    }
-    CODE < e
-}
-
-fn is_no_party(p: Party) -> bool
-    ensures { result ≡ no_party p }
-{
-    match p {
-        Party::Wrong => true,
-        Party::Account => false,
-        Party::Bik(_) => false,
-    }
+    code_size(sign) < e
 }
 
 // Whether one line is left, and it is a BIC.
@@ -230,49 +194,31 @@ fn is_last_bic(c: &[u8], at: usize) -> bool
     ensures { Says (One IsBic (lines_in (drop at c.now))) result }
 {
     let e = mark_at(b'\r', c, at);
-    if e < c.len() {
-        return false;
-    }
-    is_bic(&c[at..e])
+    c.len() <= e && is_bic(&c[at..e])
 }
 
 // 52A, 56A, 57A.
-pub fn bank_by_bic(c: &[u8]) -> Bank
+pub fn bank_by_bic(c: &[u8]) -> Option<Bank>
     ensures { BicSaid (lines_in c.now) result }
 {
     let e = mark_at(b'\r', c, 0);
     if c.len() <= e {
-        if is_bic(&c[..e]) {
-            return Bank::Alone;
-        }
-        return Bank::Wrong;
+        return is_bic(&c[..e]).then_some(Bank::Alone);
     }
-    let p = party_line(&c[..e]);
-    if is_no_party(p) {
-        return Bank::Wrong;
-    }
-    if is_last_bic(c, next_line(e, c.len())) {
-        return Bank::Led(p);
-    }
-    Bank::Wrong
+    let party = party_line(&c[..e])?;
+    is_last_bic(c, next_line(e, c.len())).then_some(Bank::Led(party))
 }
 
-// 56D, 57D.
-pub fn bank_by_name(c: &[u8]) -> Bank
+// 56D, 57D: the party line.
+pub fn bank_by_name(c: &[u8]) -> Option<Party>
     ensures { NameSaid (lines_in c.now) result }
 {
     let e = mark_at(b'\r', c, 0);
-    let p = party_line(&c[..e]);
-    if is_no_party(p) {
-        return Bank::Wrong;
-    }
+    let party = party_line(&c[..e])?;
     if c.len() <= e {
-        return Bank::Wrong;
+        return None;
     }
-    if are_lines(false, c, next_line(e, c.len()), BANK_NAMES) {
-        return Bank::Led(p);
-    }
-    Bank::Wrong
+    are_lines(false, c, next_line(e, c.len()), BANK_NAMES).then_some(party)
 }
 
 // 58A.
@@ -280,23 +226,14 @@ pub fn account_and_bic(c: &[u8]) -> bool
     ensures { Says (Then IsAccount (One IsBic) (lines_in c.now)) result }
 {
     let e = mark_at(b'\r', c, 0);
-    if !is_account(&c[..e]) {
-        return false;
-    }
-    if c.len() <= e {
-        return false;
-    }
-    is_last_bic(c, next_line(e, c.len()))
+    e < c.len() && is_account(&c[..e]) && is_last_bic(c, next_line(e, c.len()))
 }
 
 // 77B.
 pub fn regulatory(c: &[u8]) -> bool
     ensures { Says (Regulatory (lines_in c.now)) result }
 {
-    if c.len() < 1 {
-        return false;
-    }
-    if c[0] != b'/' {
+    if c.is_empty() || c[0] != b'/' {
         return false;
     }
     are_lines(false, c, 0, LINES_77B)
@@ -313,20 +250,7 @@ pub fn is_one_line(c: &[u8]) -> bool
 fn is_nzp(sign: bool, l: &[u8]) -> bool
     ensures { Says (NzpFirst sign l.now) result }
 {
-    if !is_marked(b"/NZP/", l) {
-        return false;
-    }
-    is_vo(sign, &l[NZP..])
-}
-
-// Whether a line of that many bytes has text behind /NZP/ and the code.
-fn has_text(sign: bool, n: usize) -> bool
-    ensures { Says (5 + text_at sign < n) result }
-{
-    if sign {
-        return NZP_SIGNED < n;
-    }
-    NZP_CODE < n
+    is_marked(b"/NZP/", l) && is_vo(sign, &l[NZP..])
 }
 
 fn details_72(sign: bool, c: &[u8], at: usize, most: usize) -> bool
@@ -340,7 +264,7 @@ fn details_72(sign: bool, c: &[u8], at: usize, most: usize) -> bool
     if e < c.len() {
         return are_lines(true, c, next_line(e, c.len()), most - 1);
     }
-    has_text(sign, e - at)
+    NZP + code_size(sign) < e - at
 }
 
 // 72 in 103: the rest of the details, without a code.
@@ -352,64 +276,33 @@ fn rest_72(c: &[u8], at: usize, most: usize) -> bool
     if !is_marked(b"/NZP/", &c[at..e]) {
         return false;
     }
-    if c.len() <= e {
-        return true;
-    }
-    are_lines(true, c, next_line(e, c.len()), most - 1)
-}
-
-// 72: wrong; details, or their rest, alone; or an RPP line first, with the sizes of its number and its value date.
-#[derive(Clone, Copy)]
-pub enum Note {
-    Wrong,
-    Plain,
-    Dated(usize, usize),
+    c.len() <= e || are_lines(true, c, next_line(e, c.len()), most - 1)
 }
 
 // 72 in 202. Where the first line is no RPP line, details alone are left.
-pub fn rpp_and_details(sign: bool, c: &[u8]) -> Note
+pub fn rpp_and_details(sign: bool, c: &[u8]) -> Option<Note>
     ensures { NoteSaid sign (lines_in c.now) result }
 {
     let e = mark_at(b'\r', c, 0);
-    match rpp_line(&c[..e]) {
-        Rpp::Wrong => {
-            if details_72(sign, c, 0, LINES_72) {
-                return Note::Plain;
-            }
-            Note::Wrong
-        }
-        Rpp::Is(n, value) => {
-            if c.len() <= e {
-                return Note::Wrong;
-            }
-            if details_72(sign, c, next_line(e, c.len()), BEHIND_RPP) {
-                return Note::Dated(n, value);
-            }
-            Note::Wrong
-        }
+    let Some(rpp) = rpp_line(&c[..e]) else {
+        return details_72(sign, c, 0, LINES_72).then_some(Note::Plain);
+    };
+    if c.len() <= e {
+        return None;
     }
+    details_72(sign, c, next_line(e, c.len()), BEHIND_RPP).then_some(Note::Dated(rpp))
 }
 
 // 72 in 103: the same with the rest of the details, which may also be missing behind an RPP line.
-pub fn rpp_and_rest(c: &[u8]) -> Note
+pub fn rpp_and_rest(c: &[u8]) -> Option<Note>
     ensures { RestSaid (lines_in c.now) result }
 {
     let e = mark_at(b'\r', c, 0);
-    match rpp_line(&c[..e]) {
-        Rpp::Wrong => {
-            if rest_72(c, 0, LINES_72) {
-                return Note::Plain;
-            }
-            Note::Wrong
-        }
-        Rpp::Is(n, value) => {
-            if c.len() <= e {
-                return Note::Dated(n, value);
-            }
-            if rest_72(c, next_line(e, c.len()), BEHIND_RPP) {
-                return Note::Dated(n, value);
-            }
-            Note::Wrong
-        }
+    let Some(rpp) = rpp_line(&c[..e]) else {
+        return rest_72(c, 0, LINES_72).then_some(Note::Plain);
+    };
+    if c.len() <= e {
+        return Some(Note::Dated(rpp));
     }
+    rest_72(c, next_line(e, c.len()), BEHIND_RPP).then_some(Note::Dated(rpp))
 }

@@ -1,10 +1,11 @@
 -- A day is one of the calendar, and a date's six digits two by two. Assumes nothing.
 use Prim.Native.Nat.{ℕ, ◌+◌, ◌*◌, ◌%◌, ◌≤◌, ◌<◌}
-use mathlib.Core.Path.{◌≡◌, refl, ap, ◌∙◌}
+use mathlib.Core.Path.{◌≡◌, refl, sym, ap, ◌∙◌}
 use mathlib.Core.Bool.{Bool, true, false, not, ◌&&◌, ◌||◌, false≢true}
 use mathlib.Core.List.{[], ◌∷◌, ◌++◌}
-use mathlib.Core.Logic.{◌↔◌}
+use mathlib.Core.Logic.{◌↔◌, ◌⊎◌, inl, inr}
 use native.Mathlib.Omega.{arith}
+use native.Mathlib.Decide.{dec_lt}
 use lib.Dec.{eqb, leb}
 use lib.ListN.{length}
 use borrow.Author.Tests.{eq-eqb, ne_eqb, eqb-true, eqb-false, le-leb, lt-leb, leb-true}
@@ -74,6 +75,29 @@ year_20 yy h = rw (lt-leb 80 yy h)
 pub year_high : (yy : ℕ) → 99 < yy → year_of yy ≡ 2000 + yy
 unfolding year_of
 year_high yy h = let a : 80 ≤ yy = omega arith in rw (le-leb 80 yy a, lt-leb yy 99 h)
+
+pub year_off : (yy : ℕ) → (80 ≤ yy → yy ≤ 99 → ⊥) → year_of yy ≡ 2000 + yy
+year_off yy h = go (dec_lt yy 80)
+  where
+    go : Dec (yy < 80) → year_of yy ≡ 2000 + yy
+    go (yes k) = year_20 yy k
+    go (no k) = high (dec_lt 99 yy)
+      where
+        high : Dec (99 < yy) → year_of yy ≡ 2000 + yy
+        high (yes m) = year_high yy m
+        high (no m) = absurd (h (omega arith) (omega arith))
+
+-- ---- the months of 30 days, and of 31
+pub days_30 : (y m : ℕ) → (m ≡ 4) ⊎ (m ≡ 6) ⊎ (m ≡ 9) ⊎ (m ≡ 11) → 30 ≡ days_in y m
+unfolding days_in is_in
+days_30 y m (inl e) = sym (ap (days_in y) e)
+days_30 y m (inr (inl e)) = sym (ap (days_in y) e)
+days_30 y m (inr (inr (inl e))) = sym (ap (days_in y) e)
+days_30 y m (inr (inr (inr e))) = sym (ap (days_in y) e)
+
+pub days_31 : (y m : ℕ) → (m ≡ 2 → ⊥) → ((m ≡ 4) ⊎ (m ≡ 6) ⊎ (m ≡ 9) ⊎ (m ≡ 11) → ⊥) → 31 ≡ days_in y m
+unfolding days_in is_in
+days_31 y m h k = rw (ne_eqb m 2 h, ne_eqb m 4 (λ e. k (inl e)), ne_eqb m 6 (λ e. k (inr (inl e))), ne_eqb m 9 (λ e. k (inr (inr (inl e)))), ne_eqb m 11 (λ e. k (inr (inr (inr e)))))
 
 -- ---- the two digits from i on
 number_two : (a b : ℕ) → number (a ∷ b ∷ []) ≡ worth a * 10 + worth b

@@ -1,21 +1,20 @@
 -- What is found in a content, from what its reader answered: the parts that it hands on are the grammar's (C32A, Crpp, Cparty, Ctax, N9, N10, N12,
 -- N13). Assumes nothing.
-use Prim.Native.Nat.{ℕ, suc, ◌+◌}
+use Prim.Native.Nat.{ℕ, ◌+◌}
 use mathlib.Core.Path.{◌≡◌, refl, sym, ap, ap₂, ◌∙◌, subst}
-use mathlib.Core.Bool.{Bool, true, false, not, or-false, false≢true, ◌&&◌}
+use mathlib.Core.Bool.{Bool, true, false, not, or-false, false≢true, ◌||◌}
+use Rattle.std.specs.Prelude.{Option, None, Some, is_some}
+use Rattle.std.specs.Bool.{then_some}
 use mathlib.Core.List.{List, [], ◌∷◌}
 use mathlib.Core.Logic.{⊎_elim}
 use native.Mathlib.Omega.{arith}
-use lib.Dec.{eqb}
 use lib.ListN.{length}
-use borrow.Author.Tests.{eq-eqb, ne_eqb, eqb-true}
 use Rattle.fields.specs.Lines.{lines_in}
-use Rattle.base.proofs.Bools.{left, right, isnt}
 use Rattle.base.specs.Choice.{pick}
 use Rattle.base.specs.Bytes.{begins, empty, same}
 use Rattle.base.specs.Quoted.{bytes}
 use Rattle.base.specs.Says.{Says, Not}
-use Rattle.base.proofs.SaysLaws.{says_not, says_same, says_so}
+use Rattle.base.proofs.SaysLaws.{says_not, says_same}
 use Rattle.fields.specs.Places.{lines_size}
 use Rattle.contents.specs.declared.Content.{Content}
 use Rattle.contents.specs.declared.Content.TheVariants as holds
@@ -28,7 +27,8 @@ use Rattle.contents.specs.declared.whole.Note.TheVariants as note
 use Rattle.contents.specs.Words.{Text, Line}
 use Rattle.contents.specs.Fields.{One, Then, Any, Right}
 use Rattle.contents.specs.Parts.{paid_date, paid_currency}
-use Rattle.contents.specs.Answers.{cut, RppWith, BesideSaid, AccountFirst, CustomerSaid, NoAccount, PayerSaid, BicSaid, NameSaid, NoteSaid, RestSaid, is_held, is_bank, is_note, SingleLine}
+use Rattle.contents.specs.Answers.{cut, RppIs, BesideIs, AccountFirst, CustomerSaid, NoAccount, PayerSaid, BicSaid, NameSaid, NoteSaid, RestSaid, SingleLine}
+use Rattle.contents.specs.declared.lines.Party.{Party}
 use Rattle.contents.proofs.LineTests.{begins_says}
 use Rattle.contents.proofs.RightLaws.{customer_is, payer_is, bic_is, name_is, note_is, rest_is}
 use Rattle.values.specs.Day.{real_day}
@@ -36,10 +36,8 @@ use Rattle.values.specs.Values as kinds
 use Rattle.values.specs.Values.{ValueKind, date, tax, Value, at, payment, rpp_dates, parties, of_first, taxes, customer_taxes, payer_taxes, note_dates, values_of}
 use Rattle.values.specs.Judged.{no_day, foreign, bik_differs, has_kpp, has}
 use Rattle.values.specs.Answers.{fault_of, Finding, FoundIn, nothing}
-use Rattle.values.specs.Steps.{finds, held_found, bank_found, LedBy, note_found, DatedBy, is_nothing, made_of, OneLine, NoValues}
+use Rattle.values.specs.Steps.{finds, held_found, party_found, bank_found, note_found, DatedBy, is_something, made_of, OneLine, NoValues}
 use Rattle.values.specs.declared.Finds.{Finds}
-use Rattle.values.specs.declared.Found.{Found}
-use Rattle.values.specs.declared.Found.TheVariants.{Wrong, Has, Plain}
 use Rattle.values.proofs.ValueLaws.{EveryKind, every_first, every_rpp, every_party}
 use Rattle.values.proofs.StepLaws.{has_none, fault_none}
 use Rattle.values.proofs.FrontLaws.{swap}
@@ -47,83 +45,64 @@ use Rattle.values.proofs.GrammarLaws.{note_values, nzp_values, bic_values, tax_v
 
 -- ---- there is one answer
 finds_same : (f g : Finds) → f.day ≡ g.day → f.currency ≡ g.currency → f.party ≡ g.party → f.kpp ≡ g.kpp → f ≡ g
-finds_same f g a b c d = ap₂ (λ (x y : ℕ). finds x y f.party f.kpp) a b ∙ ap₂ (λ (x : ℕ) (y : Bool). finds g.day g.currency x y) c d
+finds_same f g a b c d = ap₂ (λ (x y : Option ℕ). finds x y f.party f.kpp) a b ∙ ap₂ (λ (x : Option ℕ) (y : Bool). finds g.day g.currency x y) c d
 
 same_finds : (content : Content) (ls : List Line) (f g : Finds) → Finding content ls f → Finding content ls g → f ≡ g
 same_finds content ls f g x y =
     finds_same f g (x.day_is [] ∙ sym (y.day_is [])) (x.currency_is [] ∙ sym (y.currency_is [])) (x.party_is [] ∙ sym (y.party_is [])) (x.kpp_is [] ∙ sym (y.kpp_is []))
 
-pub found_once : (content : Content) (sign : Bool) (ls : List Line) (r q : Found) → FoundIn content sign ls r → FoundIn content sign ls q → r ≡ q
-found_once content sign ls Wrong Wrong a b = refl
-found_once content sign ls Wrong Plain a b = absurd (a b.0)
-found_once content sign ls Wrong (Has g) a b = absurd (a b.0)
-found_once content sign ls Plain Wrong a b = absurd (b a.0)
-found_once content sign ls Plain Plain a b = refl
-found_once content sign ls Plain (Has g) a b = absurd (b.2 (same_finds content ls g nothing b.1 a.1))
-found_once content sign ls (Has f) Wrong a b = absurd (b a.0)
-found_once content sign ls (Has f) Plain a b = absurd (a.2 (same_finds content ls f nothing a.1 b.1))
-found_once content sign ls (Has f) (Has g) a b = ap Has (same_finds content ls f g a.1 b.1)
+pub found_once : (content : Content) (sign : Bool) (ls : List Line) (r q : Option (Option Finds)) → FoundIn content sign ls r → FoundIn content sign ls q → r ≡ q
+found_once content sign ls None None a b = refl
+found_once content sign ls None (Some None) a b = absurd (a b.0)
+found_once content sign ls None (Some (Some g)) a b = absurd (a b.0)
+found_once content sign ls (Some None) None a b = absurd (b a.0)
+found_once content sign ls (Some None) (Some None) a b = refl
+found_once content sign ls (Some None) (Some (Some g)) a b = absurd (b.2 (same_finds content ls g nothing b.1 a.1))
+found_once content sign ls (Some (Some f)) None a b = absurd (b a.0)
+found_once content sign ls (Some (Some f)) (Some None) a b = absurd (a.2 (same_finds content ls f nothing a.1 b.1))
+found_once content sign ls (Some (Some f)) (Some (Some g)) a b = ap (λ (x : Finds). Some (Some x)) (same_finds content ls f g a.1 b.1)
 
--- ---- from whether the content is right, and what is found where it is
-abbrev is_has : Found → Bool
-is_has Wrong = false
-is_has Plain = true
-is_has (Has f) = true
+-- ---- what is found where a content is right
+abbrev Good : Content → List Line → Option Finds → Type 0
+Good content ls None = Finding content ls nothing
+Good content ls (Some f) = Finding content ls f × Not (f ≡ nothing)
 
-abbrev Good : Content → List Line → Found → Type 0
-Good content ls Wrong = Unit {0}
-Good content ls Plain = Finding content ls nothing
-Good content ls (Has f) = Finding content ls f × Not (f ≡ nothing)
+pub found_by : (content : Content) (sign : Bool) (ls : List Line) (r : Option Finds) → Right content sign ls → Good content ls r → FoundIn content sign ls (Some r)
+found_by content sign ls None y g = (y, g)
+found_by content sign ls (Some f) y g = (y, g.0, g.1)
 
-found_by : (content : Content) (sign : Bool) (ls : List Line) (r : Found) → Says (Right content sign ls) (is_has r) → Good content ls r → FoundIn content sign ls r
-found_by content sign ls Wrong s g = s.not_so refl
-found_by content sign ls Plain s g = (s.so refl, g)
-found_by content sign ls (Has f) s g = (s.so refl, g.0, g.1)
-
--- what is made of the four
-nothing_is : (x : Finds) → is_nothing x ≡ true → x ≡ nothing
-nothing_is x e =
-    let p = right (eqb x.day 0) _ e in
-    let q = right (eqb x.currency 0) _ p in
-    finds_same x nothing (eqb-true x.day 0 (left (eqb x.day 0) _ e)) (eqb-true x.currency 0 (left (eqb x.currency 0) _ p)) (eqb-true x.party 0 (left (eqb x.party 0) _ q))
-    (isnt x.kpp (right (eqb x.party 0) _ q))
-
-module _ (x : Finds) where
-  pub some_day : (x.day ≡ 0 → ⊥) → is_nothing x ≡ false
-  some_day h = ap (λ (b : Bool). b && (eqb x.currency 0 && (eqb x.party 0 && not x.kpp))) (ne_eqb x.day 0 h)
-
-  module _ (d : x.day ≡ 0) where
-    pub some_currency : (x.currency ≡ 0 → ⊥) → is_nothing x ≡ false
-    some_currency h = ap₂ (λ (a b : Bool). a && (b && (eqb x.party 0 && not x.kpp))) (eq-eqb x.day 0 d) (ne_eqb x.currency 0 h)
-
-    module _ (c : x.currency ≡ 0) where
-      pub some_party : (x.party ≡ 0 → ⊥) → is_nothing x ≡ false
-      some_party h = ap₂ (λ (a b : Bool). a && (b && (eqb x.party 0 && not x.kpp))) (eq-eqb x.day 0 d) (eq-eqb x.currency 0 c) ∙ ap (λ (b : Bool). b && not x.kpp) (ne_eqb x.party 0 h)
-
-      pub some_kpp : x.party ≡ 0 → is_nothing x ≡ not x.kpp
-      some_kpp p = ap₂ (λ (a b : Bool). a && (b && (eqb x.party 0 && not x.kpp))) (eq-eqb x.day 0 d) (eq-eqb x.currency 0 c) ∙ ap (λ (b : Bool). b && not x.kpp) (eq-eqb x.party 0 p)
-
-has_made : (x : Finds) → is_has (made_of x) ≡ true
-has_made x = go (is_nothing x)
+-- a place where a test does not hold
+pub place_unless : (p : ℕ) {r b : Bool} {d : Option ℕ} → d ≡ then_some (not r) p → r ≡ b → d ≡ pick b None (Some p)
+place_unless p {r} e q = e ∙ go r ∙ ap (λ (b : Bool). pick b None (Some p)) q
   where
-    go : (b : Bool) → is_has (pick b Plain (Has x)) ≡ true
+    go : (b : Bool) → then_some (not b) p ≡ pick b None (Some p)
     go true = refl
     go false = refl
 
-good_made : (content : Content) (ls : List Line) (x : Finds) → Finding content ls x → Good content ls (made_of x)
-good_made content ls x w = go (is_nothing x) refl
+-- what is made of the four
+nothing_is : (x : Finds) → is_something x ≡ false → x ≡ nothing
+nothing_is x e = go x.day x.currency x.party x.kpp e
   where
-    go : (b : Bool) → is_nothing x ≡ b → Good content ls (pick b Plain (Has x))
-    go true e = subst (Finding content ls) (nothing_is x e) w
-    go false e = (w, λ q. false≢true (sym e ∙ ap is_nothing q))
+    go : (d c p : Option ℕ) (k : Bool) → (is_some d || (is_some c || (is_some p || k))) ≡ false → finds d c p k ≡ nothing
+    go None None None false e = refl
+    go None None None true e = absurd (false≢true (sym e))
+    go None None (Some p) k e = absurd (false≢true (sym e))
+    go None (Some c) p k e = absurd (false≢true (sym e))
+    go (Some d) c p k e = absurd (false≢true (sym e))
 
-pub made_found : (content : Content) (sign : Bool) (ls : List Line) {x : Finds} {r : Found} → r ≡ made_of x → Right content sign ls → Finding content ls x → FoundIn content sign ls r
-made_found content sign ls {x} {r} e y w =
-    subst (FoundIn content sign ls) (sym e) (found_by content sign ls (made_of x) (subst (Says (Right content sign ls)) (sym (has_made x)) (says_so y)) (good_made content ls x w))
+good_made : (content : Content) (ls : List Line) (x : Finds) → Finding content ls x → Good content ls (made_of x)
+good_made content ls x w = go (is_something x) refl
+  where
+    go : (b : Bool) → is_something x ≡ b → Good content ls (pick b (Some x) None)
+    go true e = (w, λ q. false≢true (sym (ap is_something q) ∙ e))
+    go false e = subst (Finding content ls) (nothing_is x e) w
+
+pub made_found : (content : Content) (sign : Bool) (ls : List Line) {x : Finds} {r : Option Finds} → r ≡ made_of x → Right content sign ls → Finding content ls x → FoundIn content sign ls (Some r)
+made_found content sign ls {x} {r} e y w = found_by content sign ls r y (subst (Good content ls) (sym e) (good_made content ls x w))
 
 module _ (content : Content) (ls : List Line) where
   -- by the content's values, whatever the tag
-  finding_of : (vs : Text → List Value) → ((t : Text) → values_of t content ls ≡ vs t) → {d c p : ℕ} {k : Bool} → ((t : Text) → d ≡ fault_of no_day (vs t)) → ((t : Text) → c ≡ fault_of foreign (vs t))
+  finding_of : (vs : Text → List Value) → ((t : Text) → values_of t content ls ≡ vs t) → {d c p : Option ℕ} {k : Bool} → ((t : Text) → d ≡ fault_of no_day (vs t)) → ((t : Text) → c ≡ fault_of foreign (vs t))
       → ((t : Text) → p ≡ fault_of bik_differs (vs t)) → ((t : Text) → k ≡ has has_kpp (vs t)) → Finding content ls (finds d c p k)
   finding_of vs e a b c d = record {
     day_is = λ t. a t ∙ sym (ap (fault_of no_day) (e t));
@@ -132,16 +111,16 @@ module _ (content : Content) (ls : List Line) where
     kpp_is = λ t. d t ∙ sym (ap (has has_kpp) (e t));
   }
 
-  pub finding_none : ((t : Text) → values_of t content ls ≡ []) → Finding content ls (finds 0 0 0 false)
+  pub finding_none : ((t : Text) → values_of t content ls ≡ []) → Finding content ls (finds None None None false)
   unfolding fault_of
   finding_none e = finding_of (λ t. []) e (λ t. refl) (λ t. refl) (λ t. refl) (λ t. refl)
 
-  finding_tax : (p : ℕ) (inn kpp : Text) → ((t : Text) → values_of t content ls ≡ at p (tax t inn kpp) ∷ []) → {b : Bool} → b ≡ not (empty kpp) → Finding content ls (finds 0 0 0 b)
+  finding_tax : (p : ℕ) (inn kpp : Text) → ((t : Text) → values_of t content ls ≡ at p (tax t inn kpp) ∷ []) → {b : Bool} → b ≡ not (empty kpp) → Finding content ls (finds None None None b)
   unfolding fault_of
   finding_tax p inn kpp e q = finding_of (λ t. at p (tax t inn kpp) ∷ []) e (λ t. refl) (λ t. refl) (λ t. refl) (λ t. q ∙ sym (or-false (not (empty kpp))))
 
   -- an RPP line has dates alone, a party line parties alone
-  finding_rpp : ((t : Text) → values_of t content ls ≡ of_first rpp_dates ls) → Finding content ls (finds (fault_of no_day (of_first rpp_dates ls)) 0 0 false)
+  finding_rpp : ((t : Text) → values_of t content ls ≡ of_first rpp_dates ls) → Finding content ls (finds (fault_of no_day (of_first rpp_dates ls)) None None false)
   finding_rpp e =
       let vs = of_first rpp_dates ls in
       finding_of (λ t. vs) e (λ t. refl) (λ t. sym (fault_none foreign vs (dates foreign (λ s. refl)))) (λ t. sym (fault_none bik_differs vs (dates bik_differs (λ s. refl)))) (λ t. sym (has_none has_kpp vs (dates has_kpp (λ s. refl))))
@@ -149,7 +128,7 @@ module _ (content : Content) (ls : List Line) where
       dates : (u : ValueKind → Bool) → ((s : Text) → u (date s) ≡ false) → EveryKind (λ k. u k ≡ false) (of_first rpp_dates ls)
       dates u h = every_first (λ k. u k ≡ false) rpp_dates (every_rpp (λ k. u k ≡ false) h) ls
 
-  finding_party : ((t : Text) → values_of t content ls ≡ of_first parties ls) → Finding content ls (finds 0 0 (fault_of bik_differs (of_first parties ls)) false)
+  finding_party : ((t : Text) → values_of t content ls ≡ of_first parties ls) → Finding content ls (finds None None (fault_of bik_differs (of_first parties ls)) false)
   finding_party e =
       let vs = of_first parties ls in
       finding_of (λ t. vs) e (λ t. sym (fault_none no_day vs (pairs no_day (λ b a. refl)))) (λ t. sym (fault_none foreign vs (pairs foreign (λ b a. refl)))) (λ t. refl) (λ t. sym (has_none has_kpp vs (pairs has_kpp (λ b a. refl))))
@@ -158,56 +137,48 @@ module _ (content : Content) (ls : List Line) where
       pairs u h = every_first (λ k. u k ≡ false) parties (every_party (λ k. u k ≡ false) h) ls
 
 -- ---- 32A
-pub finding_paid : (l : Line) {d c : ℕ} → length (paid_date l) ≡ 6 → d ≡ pick (real_day (paid_date l)) 0 1 → c ≡ pick (same (cut 6 3 l) (bytes "RUB")) 0 7
-    → Finding holds.Payment (l ∷ []) (finds d c 0 false)
+pub finding_paid : (l : Line) {d c : Option ℕ} → length (paid_date l) ≡ 6 → d ≡ pick (real_day (paid_date l)) None (Some 0) → c ≡ pick (same (cut 6 3 l) (bytes "RUB")) None (Some 6)
+    → Finding holds.Payment (l ∷ []) (finds d c None false)
 unfolding values_of payment fault_of
 finding_paid l z a b = record {
-  day_is = λ t. a ∙ swap (real_day (paid_date l)) 0 1;
-  currency_is = λ t. b ∙ ap (λ (n : ℕ). pick (same (cut n 3 l) (bytes "RUB")) 0 7) (sym z) ∙ swap (same (paid_currency l) (bytes "RUB")) 0 7 ∙ ap (λ (n : ℕ). pick (not (same (paid_currency l) (bytes "RUB"))) (suc n) 0) (sym z);
+  day_is = λ t. a ∙ swap (real_day (paid_date l)) None (Some 0);
+  currency_is = λ t. b ∙ ap (λ (n : ℕ). pick (same (cut n 3 l) (bytes "RUB")) None (Some 6)) (sym z) ∙ swap (same (paid_currency l) (bytes "RUB")) None (Some 6) ∙ ap (λ (n : ℕ). pick (not (same (paid_currency l) (bytes "RUB"))) (Some n) None) (sym z);
   party_is = λ t. refl;
   kpp_is = λ t. refl;
 }
 
 -- ---- Ctax: 50K, 59, 58D
-kpp_size : (kpp : Text) (n : ℕ) → length kpp ≡ n → not (eqb n 0) ≡ not (empty kpp)
-kpp_size [] n e = ap not (eq-eqb n 0 (sym e))
-kpp_size (x ∷ s) n e = ap not (ne_eqb n 0 (λ z. absurd (omega arith)))
+kpp_size : (kpp : Text) (b : Bool) → length kpp ≡ pick b 9 0 → b ≡ not (empty kpp)
+kpp_size [] true e = absurd (omega arith)
+kpp_size [] false e = refl
+kpp_size (x ∷ s) true e = refl
+kpp_size (x ∷ s) false e = absurd (omega arith)
 
 module _ (content : Content) (ls : List Line) where
   -- the lines ms, from n on, have the tax place
-  beside_good : (ms : List Line) (n o : ℕ) (twelve : Bool) → ((t : Text) → values_of t content ls ≡ taxes t n ms) → (h : Held) → BesideSaid twelve o ms h → Good content ls (held_found h)
+  beside_good : (ms : List Line) (n o : ℕ) (twelve : Bool) → ((t : Text) → values_of t content ls ≡ taxes t n ms) → (h : Held) → BesideIs twelve o ms h → Good content ls (held_found h)
   unfolding taxes
-  beside_good ms n o twelve e held.Wrong b = tt
   beside_good [] n o twelve e held.Plain b = finding_none content ls e
   beside_good (m ∷ ms) n o twelve e held.Plain b = finding_none content ls (λ t. e t ∙ untaxed_values t n m ms (λ x. b.0 (x, tt)))
-  beside_good [] n o twelve e (held.Taxed p inn kpp) b = absurd b.1
-  beside_good (m ∷ ms) n o twelve e (held.Taxed p inn kpp) b =
+  beside_good [] n o twelve e (held.Taxed p x) b = absurd b.1
+  beside_good (m ∷ ms) n o twelve e (held.Taxed p x) b =
       let w = b.1.0 in
-      good_made content ls _ (finding_tax content ls n (cut 3 inn m) (cut (4 + (inn + 3)) kpp m) (λ t. e t ∙ tax_values t n m ms w.0) (kpp_size (cut (4 + (inn + 3)) kpp m) kpp w.2))
+      let k : ℕ = pick x.kpp 9 0 in
+      good_made content ls _ (finding_tax content ls n (cut 3 x.inn m) (cut (4 + (x.inn + 3)) k m) (λ t. e t ∙ tax_values t n m ms w.0) (kpp_size (cut (4 + (x.inn + 3)) k m) x.kpp w.2))
 
 account_good : (content : Content) (ls : List Line) (twelve : Bool) → ((t : Text) → values_of t content ls ≡ customer_taxes t ls) → (h : Held) → AccountFirst twelve ls h → Good content ls (held_found h)
 unfolding customer_taxes
 account_good content [] twelve e h b = absurd b
 account_good content (l ∷ ls) twelve e h b = beside_good content (l ∷ ls) ls (lines_size (l ∷ [])) (length l + 2) twelve e h b.1
 
-held_has : (h : Held) → is_has (held_found h) ≡ is_held h
-held_has held.Wrong = refl
-held_has held.Plain = refl
-held_has (held.Taxed p inn kpp) = has_made (finds 0 0 0 (not (eqb kpp 0)))
-
-customer_good : (content : Content) (ls : List Line) (twelve : Bool) → ((t : Text) → values_of t content ls ≡ customer_taxes t ls) → (h : Held) → CustomerSaid twelve ls h → Good content ls (held_found h)
-customer_good content ls twelve e held.Wrong s = tt
-customer_good content ls twelve e held.Plain s = account_good content ls twelve e held.Plain s
-customer_good content ls twelve e (held.Taxed p inn kpp) s = account_good content ls twelve e (held.Taxed p inn kpp) s
-
 module _ (sign : Bool) (ls : List Line) (h : Held) where
-  pub bank_held : CustomerSaid false ls h → FoundIn holds.BeneficiaryBank sign ls (held_found h)
+  pub bank_held : CustomerSaid false ls (Some h) → FoundIn holds.BeneficiaryBank sign ls (Some (held_found h))
   unfolding values_of
-  bank_held s = found_by holds.BeneficiaryBank sign ls (held_found h) (customer_is false ls h (is_has (held_found h)) (held_has h) s) (customer_good holds.BeneficiaryBank ls false (λ t. refl) h s)
+  bank_held s = found_by holds.BeneficiaryBank sign ls (held_found h) ((customer_is false ls (Some h) s).so refl) (account_good holds.BeneficiaryBank ls false (λ t. refl) h s)
 
-  pub customer_held : CustomerSaid true ls h → FoundIn holds.Beneficiary sign ls (held_found h)
+  pub customer_held : CustomerSaid true ls (Some h) → FoundIn holds.Beneficiary sign ls (Some (held_found h))
   unfolding values_of
-  customer_held s = found_by holds.Beneficiary sign ls (held_found h) (customer_is true ls h (is_has (held_found h)) (held_has h) s) (customer_good holds.Beneficiary ls true (λ t. refl) h s)
+  customer_held s = found_by holds.Beneficiary sign ls (held_found h) ((customer_is true ls (Some h) s).so refl) (account_good holds.Beneficiary ls true (λ t. refl) h s)
 
 -- 50K by its first line
 payer_account : (ls : List Line) (h : Held) → AccountFirst true ls h → Good holds.Payer ls (held_found h)
@@ -223,13 +194,8 @@ payer_bare (l ∷ ls) h b =
     beside_good holds.Payer (l ∷ ls) (l ∷ ls) 0 0 true
     (λ t. ap (λ (q : Bool). pick q (customer_taxes t (l ∷ ls)) (taxes t 0 (l ∷ ls))) (says_same (begins_says l) (says_not (λ x. b.0 (x, tt))))) h b.1
 
-payer_good : (ls : List Line) (h : Held) → PayerSaid ls h → Good holds.Payer ls (held_found h)
-payer_good ls held.Wrong s = tt
-payer_good ls held.Plain s = ⊎_elim (payer_account ls held.Plain) (payer_bare ls held.Plain) s
-payer_good ls (held.Taxed p inn kpp) s = ⊎_elim (payer_account ls (held.Taxed p inn kpp)) (payer_bare ls (held.Taxed p inn kpp)) s
-
-pub payer_held : (sign : Bool) (ls : List Line) (h : Held) → PayerSaid ls h → FoundIn holds.Payer sign ls (held_found h)
-payer_held sign ls h s = found_by holds.Payer sign ls (held_found h) (payer_is ls h (is_has (held_found h)) (held_has h) s) (payer_good ls h s)
+pub payer_held : (sign : Bool) (ls : List Line) (h : Held) → PayerSaid ls (Some h) → FoundIn holds.Payer sign ls (Some (held_found h))
+payer_held sign ls h s = found_by holds.Payer sign ls (held_found h) ((payer_is ls (Some h) s).so refl) (⊎_elim (payer_account ls h) (payer_bare ls h) s)
 
 -- ---- the first line, whatever follows
 led : (P : Line → Type 0) (Q : List Line → Type 0) (ls : List Line) → Then P Q ls → Then P Any ls
@@ -237,41 +203,20 @@ led P Q [] s = s
 led P Q (l ∷ ls) s = (s.0, tt)
 
 -- ---- Cparty: 52A, 56, 57
-pub bic_led : (ls : List Line) (b : Bank) → BicSaid ls b → LedBy ls b
-bic_led ls bank.Wrong s = tt
-bic_led ls bank.Alone s = tt
-bic_led ls (bank.Led p) s = led _ _ ls s
 
-pub name_led : (ls : List Line) (b : Bank) → NameSaid ls b → LedBy ls b
-name_led ls bank.Wrong s = tt
-name_led ls bank.Alone s = tt
-name_led ls (bank.Led p) s = led _ _ ls s
-
-bank_has : (ls : List Line) (b : Bank) → is_has (bank_found ls b) ≡ is_bank b
-bank_has ls bank.Wrong = refl
-bank_has ls bank.Alone = refl
-bank_has ls (bank.Led p) = has_made (finds 0 0 (fault_of bik_differs (of_first parties ls)) false)
-
-bic_good : (ls : List Line) (b : Bank) → BicSaid ls b → Good holds.BankByBic ls (bank_found ls b)
+bic_good : (ls : List Line) (b : Bank) → BicSaid ls (Some b) → Good holds.BankByBic ls (bank_found ls b)
 unfolding values_of
-bic_good ls bank.Wrong s = tt
 bic_good [] bank.Alone s = absurd s
 bic_good (l ∷ []) bank.Alone s = finding_none holds.BankByBic (l ∷ []) (λ t. bic_values s)
 bic_good (l ∷ k ∷ ls) bank.Alone s = absurd s
 bic_good ls (bank.Led p) s = good_made holds.BankByBic ls _ (finding_party holds.BankByBic ls (λ t. refl))
 
-name_good : (ls : List Line) (b : Bank) → NameSaid ls b → Good holds.BankByName ls (bank_found ls b)
+pub bank_by_bic : (sign : Bool) (ls : List Line) (b : Bank) → BicSaid ls (Some b) → FoundIn holds.BankByBic sign ls (Some (bank_found ls b))
+bank_by_bic sign ls b s = found_by holds.BankByBic sign ls (bank_found ls b) ((bic_is ls (Some b) s).so refl) (bic_good ls b s)
+
+pub bank_by_name : (sign : Bool) (ls : List Line) (p : Party) → NameSaid ls (Some p) → FoundIn holds.BankByName sign ls (Some (party_found ls))
 unfolding values_of
-name_good ls bank.Wrong s = tt
-name_good ls bank.Alone s = absurd s
-name_good ls (bank.Led p) s = good_made holds.BankByName ls _ (finding_party holds.BankByName ls (λ t. refl))
-
-module _ (sign : Bool) (ls : List Line) (b : Bank) where
-  pub bank_by_bic : BicSaid ls b → FoundIn holds.BankByBic sign ls (bank_found ls b)
-  bank_by_bic s = found_by holds.BankByBic sign ls (bank_found ls b) (bic_is ls b (is_has (bank_found ls b)) (bank_has ls b) s) (bic_good ls b s)
-
-  pub bank_by_name : NameSaid ls b → FoundIn holds.BankByName sign ls (bank_found ls b)
-  bank_by_name s = found_by holds.BankByName sign ls (bank_found ls b) (name_is ls b (is_has (bank_found ls b)) (bank_has ls b) s) (name_good ls b s)
+bank_by_name sign ls p s = found_by holds.BankByName sign ls (party_found ls) ((name_is ls (Some p) s).so refl) (good_made holds.BankByName ls _ (finding_party holds.BankByName ls (λ t. refl)))
 
 -- ---- a content of one line
 module _ (content : Content) (o : OneLine content) (sign : Bool) (s : Text) where
@@ -282,6 +227,9 @@ module _ (content : Content) (o : OneLine content) (sign : Bool) (s : Text) wher
   not_line e n x = n (rw e at ((o sign (lines_in s)).0 x))
 
 -- by the content's name
+pub found_as : (k : Content) (sign : Bool) (ls : List Line) {content : Content} {r s : Option Finds} → content ≡ k → r ≡ s → FoundIn k sign ls (Some s) → FoundIn content sign ls (Some r)
+found_as k sign ls {r = r} e f x = subst (λ (c : Content). FoundIn c sign ls (Some r)) (sym e) (subst (λ (q : Option Finds). FoundIn k sign ls (Some q)) (sym f) x)
+
 pub line_asks : (k : Content) (s : Text) {content : Content} {r : Bool} → content ≡ k → NoValues k → OneLine k → Says (SingleLine k s) r → NoValues content × OneLine content × Says (SingleLine content s) r
 line_asks k s {r = r} e n o h = subst (λ (x : Content). NoValues x × OneLine x × Says (SingleLine x s) r) (sym e) (n, o, h)
 
@@ -289,38 +237,30 @@ pub plain_asks : (k : Content) (sign : Bool) (ls : List Line) {content : Content
 plain_asks k sign ls {r = r} e n h = subst (λ (x : Content). NoValues x × Says (Right x sign ls) r) (sym e) (n, h)
 
 -- ---- Crpp: 72
-pub details_dated : (sign : Bool) (ls : List Line) (n : Note) → NoteSaid sign ls n → DatedBy ls n
-details_dated sign ls note.Wrong s = tt
+pub details_dated : (sign : Bool) (ls : List Line) (n : Note) → NoteSaid sign ls (Some n) → DatedBy ls n
 details_dated sign ls note.Plain s = ap (of_first note_dates) s.3.lines ∙ nzp_values _
-details_dated sign ls (note.Dated k v) s = led _ _ ls s
+details_dated sign ls (note.Dated r) s = led _ _ ls s
 
-pub rest_dated : (ls : List Line) (n : Note) → RestSaid ls n → DatedBy ls n
-rest_dated ls note.Wrong s = tt
+pub rest_dated : (ls : List Line) (n : Note) → RestSaid ls (Some n) → DatedBy ls n
 rest_dated ls note.Plain s = ap (of_first note_dates) s.2.lines ∙ nzp_values _
-rest_dated ls (note.Dated k v) s = ⊎_elim (alone ls) (led _ _ ls) s
+rest_dated ls (note.Dated r) s = ⊎_elim (alone ls) (led _ _ ls) s
   where
-    alone : (ls : List Line) → One (RppWith k v) ls → Then (RppWith k v) Any ls
+    alone : (ls : List Line) → One (RppIs r) ls → Then (RppIs r) Any ls
     alone [] x = x
     alone (l ∷ []) x = (x, tt)
     alone (l ∷ m ∷ ls) x = absurd x
 
-note_has : (ls : List Line) (n : Note) → is_has (note_found ls n) ≡ is_note n
-note_has ls note.Wrong = refl
-note_has ls note.Plain = refl
-note_has ls (note.Dated k v) = has_made (finds (fault_of no_day (of_first rpp_dates ls)) 0 0 false)
-
 note_good : (content : Content) (ls : List Line) → ((t : Text) → values_of t content ls ≡ of_first note_dates ls) → (n : Note) → DatedBy ls n → Good content ls (note_found ls n)
-note_good content ls e note.Wrong d = tt
 note_good content ls e note.Plain d = finding_none content ls (λ t. e t ∙ d)
-note_good content [] e (note.Dated k v) d = absurd d
-note_good content (l ∷ ls) e (note.Dated k v) d = good_made content (l ∷ ls) _ (finding_rpp content (l ∷ ls) (λ t. e t ∙ note_values d.0.0.1))
+note_good content [] e (note.Dated r) d = absurd d
+note_good content (l ∷ ls) e (note.Dated r) d = good_made content (l ∷ ls) _ (finding_rpp content (l ∷ ls) (λ t. e t ∙ note_values d.0.0.1))
 
 module _ (sign : Bool) (ls : List Line) (n : Note) where
-  pub rpp_and_details : NoteSaid sign ls n → FoundIn holds.DocumentAndDetails sign ls (note_found ls n)
+  pub rpp_and_details : NoteSaid sign ls (Some n) → FoundIn holds.DocumentAndDetails sign ls (Some (note_found ls n))
   unfolding values_of
   rpp_and_details s =
-      found_by holds.DocumentAndDetails sign ls (note_found ls n) (note_is sign ls n (is_has (note_found ls n)) (note_has ls n) s) (note_good holds.DocumentAndDetails ls (λ t. refl) n (details_dated sign ls n s))
+      found_by holds.DocumentAndDetails sign ls (note_found ls n) ((note_is sign ls (Some n) s).so refl) (note_good holds.DocumentAndDetails ls (λ t. refl) n (details_dated sign ls n s))
 
-  pub rpp_and_rest : RestSaid ls n → FoundIn holds.DocumentAndRest sign ls (note_found ls n)
+  pub rpp_and_rest : RestSaid ls (Some n) → FoundIn holds.DocumentAndRest sign ls (Some (note_found ls n))
   unfolding values_of
-  rpp_and_rest s = found_by holds.DocumentAndRest sign ls (note_found ls n) (rest_is ls n (is_has (note_found ls n)) (note_has ls n) s) (note_good holds.DocumentAndRest ls (λ t. refl) n (rest_dated ls n s))
+  rpp_and_rest s = found_by holds.DocumentAndRest sign ls (note_found ls n) ((rest_is ls (Some n) s).so refl) (note_good holds.DocumentAndRest ls (λ t. refl) n (rest_dated ls n s))

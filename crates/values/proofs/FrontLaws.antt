@@ -1,5 +1,5 @@
 -- The line that a content begins with: its dates, its BIK and its account by the content's bytes (Cparty, Crpp, N9, N12). Assumes nothing.
-use Prim.Native.Nat.{ℕ, suc, ◌+◌, ◌-◌, ◌≤◌, ◌<◌}
+use Prim.Native.Nat.{ℕ, ◌+◌, ◌-◌, ◌≤◌, ◌<◌}
 use mathlib.Core.Path.{◌≡◌, refl, sym, ap, ap₂, ◌∙◌}
 use mathlib.Core.Bool.{Bool, true, false, not}
 use mathlib.Core.List.{List, [], ◌∷◌}
@@ -8,7 +8,7 @@ use native.Mathlib.Omega.{arith}
 use lib.Dec.{eqb}
 use lib.ListN.{length, take, drop, length-append, length-take, length-drop}
 use lib.Seq.{drop-drop, take-take}
-use borrow.Author.Tests.{eq-eqb, ne_eqb, eqb-true, eqb-false}
+use borrow.Author.Tests.{eqb-true, eqb-false}
 use Rattle.base.specs.Choice.{pick}
 use Rattle.base.specs.Bytes.{count_up_to, empty, same}
 use Rattle.base.specs.Quoted.{bytes}
@@ -16,10 +16,12 @@ use Rattle.base.specs.Says.{Not}
 use Rattle.base.proofs.ByteLaws.{is_empty, is_filled, drop_take}
 use Rattle.fields.specs.Lines.{lines_in}
 use Rattle.contents.specs.declared.lines.Party.TheVariants as party
+use Rattle.contents.specs.declared.lines.Rpp.{Rpp}
+use Rattle.std.specs.Prelude.{Option, None, Some}
 use Rattle.contents.specs.Words.{Text, Line, join, with_mark, Digits, Perhaps}
 use Rattle.contents.specs.Lines.{RppLine}
 use Rattle.contents.specs.Fields.{Then, Any}
-use Rattle.contents.specs.Answers.{cut, Stand, BikWith, RppWith, IsA}
+use Rattle.contents.specs.Answers.{cut, Stand, BikWith, RppWith, RppIs, IsA}
 use Rattle.contents.proofs.FieldLaws.{within_0, taken_0, front_0}
 use Rattle.contents.proofs.Laws.{mark_some}
 use Rattle.contents.proofs.LineTests.{way_size}
@@ -71,26 +73,22 @@ perhaps_size n s (inl e) z = absurd (z (ap length e))
 perhaps_size n s (inr d) z = d.size
 
 -- ---- Cparty, N12: by the bytes of the content
-abbrev party_fault : List Line → ℕ
+abbrev party_fault : List Line → Option ℕ
 party_fault ls = fault_of bik_differs (of_first parties ls)
 
-pub party_wrong : (ls : List Line) → Then (IsA party.Wrong) Any ls → ⊥
-party_wrong [] w = w
-party_wrong (l ∷ ls) w = w.0
-
-pub party_account_lem : (ls : List Line) → Then (IsA party.Account) Any ls → party_fault ls ≡ 0
+pub party_account_lem : (ls : List Line) → Then (IsA party.Account) Any ls → party_fault ls ≡ None
 unfolding fault_of
 party_account_lem [] w = absurd w
 party_account_lem (l ∷ ls) w = ap (fault_of bik_differs) (account_values w.0)
 
-pub party_bik_lem : (n : ℕ) (ls : List Line) → Then (BikWith n) Any ls → n ≡ 0 → party_fault ls ≡ 0
+pub party_bik_lem : (n : ℕ) (ls : List Line) → Then (BikWith n) Any ls → n ≡ 0 → party_fault ls ≡ None
 unfolding fault_of
 party_bik_lem n [] w e = absurd w
 party_bik_lem n (l ∷ ls) w e = ap (fault_of bik_differs) (bik_values w.0.0 ∙ ap (λ (k : ℕ). both_parts (cut 4 9 l) (cut 14 k l)) e)
 
 module _ (c : Text) where
   both_by : (n : ℕ) (ls : List Line) → lines_in c ≡ ls → Then (BikWith n) Any ls → Not (n ≡ 0)
-      → (34 ≤ length c) × (party_fault ls ≡ pick (same (cut 10 3 c) (cut 31 3 c)) 0 1)
+      → (34 ≤ length c) × (party_fault ls ≡ pick (same (cut 10 3 c) (cut 31 3 c)) None (Some 0))
   unfolding fault_of
   both_by n [] q w z = absurd w
   both_by n (l ∷ ls) q w z =
@@ -103,27 +101,35 @@ module _ (c : Text) where
       let f : 14 + (n - 3) ≡ 31 = omega arith in
       let b : last_three (cut 14 n l) ≡ cut 31 3 c = last_cut_lem 14 n l st (omega arith) ∙ ap (λ (i : ℕ). cut i 3 l) f ∙ first_cut c l ls q 31 3 (omega arith) in (
         omega arith,
-        ap (fault_of bik_differs) (bik_values p ∙ both_some (cut 4 9 l) (cut 14 n l) (omega arith)) ∙ ap₂ (λ (x y : Text). pick (not (same x y)) 1 0) a b ∙ sym (swap (same (cut 10 3 c) (cut 31 3 c)) 0 1),
+        ap (fault_of bik_differs) (bik_values p ∙ both_some (cut 4 9 l) (cut 14 n l) (omega arith)) ∙ ap₂ (λ (x y : Text). pick (not (same x y)) (Some 0) None) a b ∙ sym (swap (same (cut 10 3 c) (cut 31 3 c)) None (Some 0)),
       )
 
-  pub party_both : (n : ℕ) → Then (BikWith n) Any (lines_in c) → Not (n ≡ 0) → (34 ≤ length c) × (party_fault (lines_in c) ≡ pick (same (cut 10 3 c) (cut 31 3 c)) 0 1)
+  pub party_both : (n : ℕ) → Then (BikWith n) Any (lines_in c) → Not (n ≡ 0) → (34 ≤ length c) × (party_fault (lines_in c) ≡ pick (same (cut 10 3 c) (cut 31 3 c)) None (Some 0))
   party_both n w z = both_by n (lines_in c) refl w z
 
+  -- as it was read
+  module _ (account : Bool) (w : Then (IsA (party.Bik account)) Any (lines_in c)) where
+    pub party_alone : account ≡ false → party_fault (lines_in c) ≡ None
+    party_alone e = party_bik_lem (pick account 20 0) (lines_in c) w (ap (λ (b : Bool). pick b 20 0) e)
+
+    pub party_pair : account ≡ true → (34 ≤ length c) × (party_fault (lines_in c) ≡ pick (same (cut 10 3 c) (cut 31 3 c)) None (Some 0))
+    party_pair e = let k : pick {A = ℕ} account 20 0 ≡ 20 = ap (λ (b : Bool). pick b 20 0) e in party_both (pick account 20 0) w (λ z. absurd (omega arith))
+
 -- ---- Crpp, N9: by the bytes of the content
-abbrev rpp_fault : List Line → ℕ
+abbrev rpp_fault : List Line → Option ℕ
 rpp_fault ls = fault_of no_day (of_first rpp_dates ls)
 
-two_dates : (p q : ℕ) (d v : Text) → fault_of no_day (at p (date d) ∷ date_if_any q v) ≡ pick (real_day d) (pick (empty v) 0 (pick (real_day v) 0 (suc q))) (suc p)
+two_dates : (p q : ℕ) (d v : Text) → fault_of no_day (at p (date d) ∷ date_if_any q v) ≡ pick (real_day d) (pick (empty v) None (pick (real_day v) None (Some q))) (Some p)
 unfolding fault_of
-two_dates p q d [] = sym (swap (real_day d) 0 (suc p))
-two_dates p q d (x ∷ v) = sym (swap (real_day d) (pick (real_day (x ∷ v)) 0 (suc q)) (suc p) ∙ ap (pick (not (real_day d)) (suc p)) (swap (real_day (x ∷ v)) 0 (suc q)))
+two_dates p q d [] = sym (swap (real_day d) None (Some p))
+two_dates p q d (x ∷ v) = sym (swap (real_day d) (pick (real_day (x ∷ v)) None (Some q)) (Some p) ∙ ap (pick (not (real_day d)) (Some p)) (swap (real_day (x ∷ v)) None (Some q)))
 
 -- a content that begins with such an RPP line: its dates are there, and what 9 says of them
 pub record RppRead (c : Text) (n value : ℕ) (ls : List Line) : Type 0 where
   pub few : n ≤ 6
   pub room : 7 + (n + 5) ≤ length c
   pub due_room : Not (value ≡ 0) → 21 + (n + 5) ≤ length c
-  pub faults : rpp_fault ls ≡ pick (real_day (cut (1 + (n + 5)) 6 c)) (pick (eqb value 0) 0 (pick (real_day (cut (15 + (n + 5)) 6 c)) 0 (16 + (n + 5)))) (2 + (n + 5))
+  pub faults : rpp_fault ls ≡ pick (real_day (cut (1 + (n + 5)) 6 c)) (pick (eqb value 0) None (pick (real_day (cut (15 + (n + 5)) 6 c)) None (Some (15 + (n + 5))))) (Some (1 + (n + 5)))
 
 read_by : (c : Text) (n value : ℕ) (ls : List Line) → lines_in c ≡ ls → Then (RppWith n value) Any ls → RppRead c n value ls
 read_by c n value [] q w = absurd w
@@ -160,38 +166,45 @@ read_by c n value (l ∷ ls) q w = record {
     due : Not (value ≡ 0) → 21 + (n + 5) ≤ length l
     due z = omega (arith, size, six z, ap length (mark_some "." v (omega (arith, six z))))
 
-    mark_at_lem : suc mark ≡ 2 + (n + 5)
+    mark_at_lem : mark ≡ 1 + (n + 5)
     mark_at_lem = simp length-append (omega (arith, w.0.1))
 
-    behind_at_lem : suc (1 + behind) ≡ 16 + (n + 5)
+    behind_at_lem : 1 + behind ≡ 15 + (n + 5)
     behind_at_lem = simp length-append (omega (arith, w.0.1, p.day.size, p.order.size, way_size (cut (10 + (n + 5)) 4 l) p.kind))
 
     first : cut (1 + (n + 5)) 6 l ≡ cut (1 + (n + 5)) 6 c
     first = first_cut c l ls q (1 + (n + 5)) 6 (omega (arith, size))
 
-    second : (b : Bool) → eqb value 0 ≡ b → pick (empty v) 0 (pick (real_day v) 0 (suc (1 + behind))) ≡ pick b 0 (pick (real_day (cut (15 + (n + 5)) 6 c)) 0 (16 + (n + 5)))
+    second : (b : Bool) → eqb value 0 ≡ b → pick (empty v) None (pick (real_day v) None (Some (1 + behind))) ≡ pick b None (pick (real_day (cut (15 + (n + 5)) 6 c)) None (Some (15 + (n + 5))))
     second true e = rw (is_empty v (w.0.2 ∙ eqb-true value 0 e))
     second false e =
         let z = eqb-false value 0 e in
         let k : value ≡ 6 = sym w.0.2 ∙ six z in
         let x : v ≡ cut (15 + (n + 5)) 6 c = ap (λ (i : ℕ). cut (15 + (n + 5)) i l) k ∙ first_cut c l ls q (15 + (n + 5)) 6 (omega (arith, due z)) in
-        ap (λ (b : Bool). pick b 0 (pick (real_day v) 0 (suc (1 + behind)))) (is_filled v (λ y. z (sym w.0.2 ∙ y)))
-        ∙ ap₂ (λ (d : Text) (i : ℕ). pick (real_day d) 0 i) x behind_at_lem
+        ap (λ (b : Bool). pick b None (pick (real_day v) None (Some (1 + behind)))) (is_filled v (λ y. z (sym w.0.2 ∙ y)))
+        ∙ ap₂ (λ (d : Text) (i : ℕ). pick (real_day d) None (Some i)) x behind_at_lem
 
-    places : pick (real_day (cut (1 + (n + 5)) 6 l)) (pick (empty v) 0 (pick (real_day v) 0 (suc (1 + behind)))) (suc mark)
-        ≡ pick (real_day (cut (1 + (n + 5)) 6 c)) (pick (eqb value 0) 0 (pick (real_day (cut (15 + (n + 5)) 6 c)) 0 (16 + (n + 5)))) (2 + (n + 5))
-    places = ap₂ (λ (d : Text) (m : ℕ). pick (real_day d) (pick (empty v) 0 (pick (real_day v) 0 (suc (1 + behind)))) m) first mark_at_lem
-        ∙ ap (λ (k : ℕ). pick (real_day (cut (1 + (n + 5)) 6 c)) k (2 + (n + 5))) (second (eqb value 0) refl)
+    places : pick (real_day (cut (1 + (n + 5)) 6 l)) (pick (empty v) None (pick (real_day v) None (Some (1 + behind)))) (Some mark)
+        ≡ pick (real_day (cut (1 + (n + 5)) 6 c)) (pick (eqb value 0) None (pick (real_day (cut (15 + (n + 5)) 6 c)) None (Some (15 + (n + 5))))) (Some (1 + (n + 5)))
+    places = ap₂ (λ (d : Text) (m : ℕ). pick (real_day d) (pick (empty v) None (pick (real_day v) None (Some (1 + behind)))) (Some m)) first mark_at_lem
+        ∙ ap (λ (k : Option ℕ). pick (real_day (cut (1 + (n + 5)) 6 c)) k (Some (1 + (n + 5)))) (second (eqb value 0) refl)
 
-module _ (c : Text) (n value : ℕ) (w : Then (RppWith n value) Any (lines_in c)) where
-  pub rpp_read : RppRead c n value (lines_in c)
-  rpp_read = read_by c n value (lines_in c) refl w
+-- by the line as it was read
+module _ (c : Text) (r : Rpp) (w : Then (RppIs r) Any (lines_in c)) where
+  abbrev n : ℕ
+  n = r.number
 
-  pub rpp_first : real_day (cut (1 + (n + 5)) 6 c) ≡ false → rpp_fault (lines_in c) ≡ 2 + (n + 5)
+  pub rpp_read : RppRead c r.number (pick r.value 6 0) (lines_in c)
+  rpp_read = read_by c r.number (pick r.value 6 0) (lines_in c) refl w
+
+  pub rpp_due_room : r.value ≡ true → 21 + (n + 5) ≤ length c
+  rpp_due_room e = rpp_read.due_room (λ z. absurd (omega (arith, sym (ap (λ (b : Bool). pick b 6 0) e) ∙ z)))
+
+  pub rpp_first : real_day (cut (1 + (n + 5)) 6 c) ≡ false → rpp_fault (lines_in c) ≡ Some (1 + (n + 5))
   rpp_first e = rpp_read.faults ∙ rw e
 
-  pub rpp_one : real_day (cut (1 + (n + 5)) 6 c) ≡ true → value ≡ 0 → rpp_fault (lines_in c) ≡ 0
-  rpp_one e z = rpp_read.faults ∙ rw (e, eq-eqb value 0 z)
+  pub rpp_one : real_day (cut (1 + (n + 5)) 6 c) ≡ true → r.value ≡ false → rpp_fault (lines_in c) ≡ None
+  rpp_one e f = rpp_read.faults ∙ rw (e, f)
 
-  pub rpp_two : real_day (cut (1 + (n + 5)) 6 c) ≡ true → Not (value ≡ 0) → rpp_fault (lines_in c) ≡ pick (real_day (cut (15 + (n + 5)) 6 c)) 0 (16 + (n + 5))
-  rpp_two e z = rpp_read.faults ∙ rw (e, ne_eqb value 0 z)
+  pub rpp_two : real_day (cut (1 + (n + 5)) 6 c) ≡ true → r.value ≡ true → rpp_fault (lines_in c) ≡ pick (real_day (cut (15 + (n + 5)) 6 c)) None (Some (15 + (n + 5)))
+  rpp_two e f = rpp_read.faults ∙ rw (e, f)

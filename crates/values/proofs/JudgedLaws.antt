@@ -9,8 +9,8 @@ use native.Mathlib.Omega.{arith}
 use native.Mathlib.Nat.{le_trans}
 use Rattle.base.specs.Choice.{pick}
 use Rattle.base.specs.Rules.{then}
-use Rattle.base.specs.declared.Verdict.TheVariants.{Fine, Broken}
-use Rattle.base.proofs.RuleLaws.{fine_broken}
+use Rattle.base.specs.Verdicts.{Fine, Broken}
+use Rattle.base.proofs.RuleLaws.{fine_broken, same_broken}
 use Rattle.values.specs.Values.{ValueKind, Value, place_of, kind_of}
 use Rattle.values.specs.Judged.{first_bad, has}
 use Rattle.values.specs.Sentences.{NoneFails, LeastAt}
@@ -78,9 +78,6 @@ module _ (number : ℕ) (bad : ValueKind → Bool) where
   pub fine_iff : (vs : List Value) → (first_bad number bad vs ≡ Fine) ↔ NoneFails bad vs
   fine_iff vs = (fine_none vs, none_fine vs)
 
-  same_broken : {n p q : ℕ} → Broken number p ≡ Broken n q → (n ≡ number) × (p ≡ q)
-  same_broken e = (cc, cc)
-
   least_head : {o e p : ℕ} {w : Value} {vs : List Value} → Ordered o (w ∷ vs) e → bad (kind_of w) ≡ true → place_of w ≡ p → LeastAt bad (w ∷ vs) p
   least_head {w = w} (next h r) f q =
       record {
@@ -111,7 +108,7 @@ module _ (number : ℕ) (bad : ValueKind → Bool) where
   broken_least n p (next {v = w} {vs = vs} h r) q = go (bad (kind_of w)) refl (broken_least n p r)
     where
       go : (b : Bool) → bad (kind_of w) ≡ b → (first_bad number bad vs ≡ Broken n p → (n ≡ number) × LeastAt bad vs p) → (n ≡ number) × LeastAt bad (w ∷ vs) p
-      go true f rec = let s = same_broken (sym (hit w vs f) ∙ q) in (s.0, least_head (next h r) f s.1)
+      go true f rec = let s = same_broken (sym (hit w vs f) ∙ q) in (sym s.0, least_head (next h r) f s.1)
       go false f rec = let l = rec (sym (miss w vs f) ∙ q) in (l.0, least_tail l.1 f)
 
   least_broken : {o e : ℕ} {vs : List Value} (p : ℕ) → Ordered o vs e → LeastAt bad vs p → first_bad number bad vs ≡ Broken number p

@@ -80,9 +80,6 @@ kopecks_of_small l = go (is_payment l) refl
 
 -- ---- a line of 32A by the sizes of its parts
 module _ {l : Line} {n d : ℕ} (w : PaidWith n d l) where
-  pub paid_size : length l ≡ 1 + (n + 9) + d
-  paid_size = let z = simp length-append at (ap length w.0.line) in omega (arith, w.0.day.size, w.0.money.size, w.1, w.2)
-
   pub paid_few : (n ≤ 14) × (d ≤ 2)
   paid_few = let a = simp length-append at w.0.amount in (omega (arith, w.1), omega (arith, w.2, w.0.parts.most))
 
@@ -101,29 +98,11 @@ module _ {l : Line} {n d : ℕ} (w : PaidWith n d l) where
       let z : 1 + (n + 9) + d - (1 + (n + 9)) ≡ d = omega arith in
       ap₂ (λ (x y : ℕ). x * 100 + y) (e ∙ ap (λ (k : ℕ). number (cut 9 k l)) whole_is) (f ∙ ap (λ (k : ℕ). fraction (cut (1 + (n + 9)) k l)) z) ∙ sym (paid_kopecks w.0)
 
--- ---- the digits behind the comma: none, one, or two
-pub fraction_none : (s : Text) → length s < 1 → fraction s ≡ 0
-fraction_none [] h = refl
-fraction_none (x ∷ s) h = absurd (omega arith)
-
-pub fraction_one : (s : Text) → 1 ≤ length s → length s < 2 → fraction s ≡ worth (byte s 0) * 10
-fraction_one [] h k = absurd (omega arith)
-fraction_one (x ∷ []) h k = refl
-fraction_one (x ∷ y ∷ s) h k = absurd (omega arith)
-
-pub fraction_two : (s : Text) → 2 ≤ length s → fraction s ≡ worth (byte s 0) * 10 + worth (byte s 1)
-fraction_two [] h = absurd (omega arith)
-fraction_two (x ∷ []) h = absurd (omega arith)
-fraction_two (x ∷ y ∷ s) h = refl
-
 -- ---- the loop: n is what the first i digits come to
 pub record Counting (s : Text) (n i : ℕ) : Type 0 where
   pub high : i ≤ length s
   pub most : n ≤ cap i
   pub whole : number s ≡ onward n (drop i s)
-
-pub count_start : (s : Text) → Counting s 0 0
-count_start s = record { high = omega arith; most = omega arith; whole = refl }
 
 module _ {s : Text} {n i : ℕ} (r : Run digit 0 14 s) (k : Counting s n i) where
   -- small enough for one turn more

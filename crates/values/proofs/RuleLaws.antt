@@ -5,7 +5,7 @@ use mathlib.Core.Bool.{Bool}
 use mathlib.Core.List.{List}
 use mathlib.Core.Logic.{◌↔◌}
 use Rattle.types.specs.declared.Form.{Form}
-use Rattle.base.specs.declared.Verdict.TheVariants.{Fine, Broken}
+use Rattle.base.specs.Verdicts.{Fine, Broken}
 use Rattle.fields.specs.Field.{Field}
 use Rattle.values.specs.Values.{ValueKind, values_in}
 use Rattle.values.specs.Judged.{first_bad, no_day, foreign, bik_differs, without_57, tax_broken, rule_9, rule_10, rule_11, rule_12, rule_13}

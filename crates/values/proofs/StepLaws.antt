@@ -1,5 +1,6 @@
 -- The rules 9 to 13 field by field, as a loop over the fields goes: what is answered of one content says what the rule says there. Assumes nothing.
-use Prim.Native.Nat.{ℕ, suc, ◌+◌}
+use Prim.Native.Nat.{ℕ, ◌+◌}
+use Rattle.std.specs.Prelude.{Option, None, Some}
 use mathlib.Core.Path.{◌≡◌, refl, sym, ap, ap₂, ◌∙◌}
 use mathlib.Core.Bool.{Bool, true, false, not, ◌&&◌, ◌||◌, true≢false, and-false, and-true, or-false}
 use mathlib.Core.List.{List, [], ◌∷◌, ◌++◌, map}
@@ -7,8 +8,7 @@ use lib.Dec.{eqb}
 use Rattle.base.specs.Choice.{pick}
 use Rattle.base.specs.Bytes.{same}
 use Rattle.base.specs.Rules.{then}
-use Rattle.base.specs.declared.Verdict.{Verdict}
-use Rattle.base.specs.declared.Verdict.TheVariants.{Fine, Broken}
+use Rattle.base.specs.Verdicts.{Verdict, Fine, Broken}
 use Rattle.fields.specs.Field.{Field, field}
 use Rattle.fields.specs.Places.{start_of, next_of}
 use Rattle.fields.specs.Shapes.{unpack}
@@ -20,7 +20,7 @@ use Rattle.contents.specs.Words.{Text, Line}
 use Rattle.contents.specs.Tags.{held_by}
 use Rattle.values.specs.Values.{ValueKind, tag, Value, at, place_of, kind_of, moved, values_of, values_in}
 use Rattle.values.specs.Judged.{first_bad, has, has_tag, has_kpp, kpp_in, is_56, is_57, is_26T, is_77B, tax_whole, rule_11, rule_13}
-use Rattle.values.specs.Answers.{fault_of, answered}
+use Rattle.values.specs.Answers.{fault_of, fault_verdict}
 use Rattle.values.proofs.JudgedLaws.{first_append, has_append}
 use Rattle.values.proofs.ValueLaws.{EveryKind, every_value}
 
@@ -40,10 +40,10 @@ has_every u w b (v ∷ vs) e = ap₂ ◌||◌ e.0 (has_every u w b vs e.1) ∙ a
 pub has_none : (u : ValueKind → Bool) (vs : List Value) → EveryKind (λ k. u k ≡ false) vs → has u vs ≡ false
 has_none u vs e = has_every u u false vs e
 
-pub fault_none : (bad : ValueKind → Bool) (vs : List Value) → EveryKind (λ k. bad k ≡ false) vs → fault_of bad vs ≡ 0
+pub fault_none : (bad : ValueKind → Bool) (vs : List Value) → EveryKind (λ k. bad k ≡ false) vs → fault_of bad vs ≡ None
 unfolding fault_of
 fault_none bad [] e = refl
-fault_none bad (v ∷ vs) e = ap (λ (b : Bool). pick b (suc (place_of v)) (fault_of bad vs)) e.0 ∙ fault_none bad vs e.1
+fault_none bad (v ∷ vs) e = ap (λ (b : Bool). pick b (Some (place_of v)) (fault_of bad vs)) e.0 ∙ fault_none bad vs e.1
 
 -- ---- no content has a tag, and its tax lines are in its own field
 no_tag : (ts : List Text) (t : Text) (content : Content) (ls : List Line) → EveryKind (λ k. has_tag ts k ≡ false) (values_of t content ls)
@@ -56,13 +56,13 @@ kpp_in_lem u t content ls =
 
 -- ---- a content's answer, as the rule's
 module _ (number : ℕ) (bad : ValueKind → Bool) where
-  first_moved : (n : ℕ) (vs : List Value) → first_bad number bad (map (moved n) vs) ≡ answered number n (fault_of bad vs)
+  first_moved : (n : ℕ) (vs : List Value) → first_bad number bad (map (moved n) vs) ≡ fault_verdict number n (fault_of bad vs)
   unfolding first_bad fault_of
   first_moved n [] = refl
   first_moved n (at p k ∷ vs) = go (bad k) (first_moved n vs)
     where
-      go : (b : Bool) → first_bad number bad (map (moved n) vs) ≡ answered number n (fault_of bad vs)
-          → pick b (Broken number (n + p)) (first_bad number bad (map (moved n) vs)) ≡ answered number n (pick b (suc p) (fault_of bad vs))
+      go : (b : Bool) → first_bad number bad (map (moved n) vs) ≡ fault_verdict number n (fault_of bad vs)
+          → pick b (Broken number (n + p)) (first_bad number bad (map (moved n) vs)) ≡ fault_verdict number n (pick b (Some p) (fault_of bad vs))
       go true h = refl
       go false h = h
 
@@ -83,7 +83,7 @@ module _ (form : Form) (o : ℕ) (t : Text) (ls : List Line) (fs : List Field) w
 
   -- the content's values and the rest
   behind_tag : (number : ℕ) (bad : ValueKind → Bool)
-      → first_bad number bad (map (moved (start_of o (field t ls))) here ++ rest) ≡ then (answered number (start_of o (field t ls)) (fault_of bad here)) (first_bad number bad rest)
+      → first_bad number bad (map (moved (start_of o (field t ls))) here ++ rest) ≡ then (fault_verdict number (start_of o (field t ls)) (fault_of bad here)) (first_bad number bad rest)
   behind_tag number bad =
       first_append number bad (map (moved (start_of o (field t ls))) here) rest
       ∙ ap (λ (v : Verdict). then v (first_bad number bad rest)) (first_moved number bad (start_of o (field t ls)) here)
@@ -92,7 +92,7 @@ module _ (form : Form) (o : ℕ) (t : Text) (ls : List Line) (fs : List Field) w
   has_behind u = has_append u (map (moved (start_of o (field t ls))) here) rest ∙ ap (λ (b : Bool). b || has u rest) (has_moved u (start_of o (field t ls)) here)
 
   pub first_field : (number : ℕ) (bad : ValueKind → Bool) → ((u : Text) → bad (tag u) ≡ false)
-      → first_bad number bad all ≡ then (answered number (start_of o (field t ls)) (fault_of bad here)) (first_bad number bad rest)
+      → first_bad number bad all ≡ then (fault_verdict number (start_of o (field t ls)) (fault_of bad here)) (first_bad number bad rest)
   unfolding first_bad
   first_field number bad h = ap (λ (b : Bool). pick b (Broken number o) (first_bad number bad (map (moved (start_of o (field t ls))) here ++ rest))) (h t) ∙ behind_tag number bad
 
@@ -101,7 +101,7 @@ module _ (form : Form) (o : ℕ) (t : Text) (ls : List Line) (fs : List Field) w
   unfolding first_bad
   first_tag number ts =
       ap (pick (among t ts) (Broken number o))
-      (behind_tag number (has_tag ts) ∙ ap (λ (k : ℕ). then (answered number (start_of o (field t ls)) k) (first_bad number (has_tag ts) rest)) (fault_none (has_tag ts) here (no_tag ts t (held_by form t) ls)))
+      (behind_tag number (has_tag ts) ∙ ap (λ (k : Option ℕ). then (fault_verdict number (start_of o (field t ls)) k) (first_bad number (has_tag ts) rest)) (fault_none (has_tag ts) here (no_tag ts t (held_by form t) ls)))
 
   pub has_tag_lem : (ts : List Text) → has (has_tag ts) all ≡ (among t ts || has (has_tag ts) rest)
   has_tag_lem ts = ap (λ (b : Bool). among t ts || b) (has_behind (has_tag ts) ∙ ap (λ (b : Bool). b || has (has_tag ts) rest) (has_none (has_tag ts) here (no_tag ts t (held_by form t) ls)))

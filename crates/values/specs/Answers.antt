@@ -1,9 +1,8 @@
 -- What the functions answer that look at the content of one field (K3). Assumes nothing.
-use Rattle.std.specs.Prelude.{ℕ, zero, suc, ◌+◌, ◌≡◌, Bool, false, List, [], ◌∷◌}
+use Rattle.std.specs.Prelude.{ℕ, ◌+◌, ◌≡◌, Bool, false, List, [], ◌∷◌, Option, None, Some}
 use Rattle.base.specs.Choice.{pick}
 use Rattle.base.specs.Says.{Not}
-use Rattle.base.specs.declared.Verdict.{Verdict}
-use Rattle.base.specs.declared.Verdict.TheVariants.{Fine, Broken}
+use Rattle.base.specs.Verdicts.{Verdict, Fine, Broken}
 use Rattle.contents.specs.declared.Content.{Content}
 use Rattle.contents.specs.Words.{Text, Line}
 use Rattle.contents.specs.Fields.{Right}
@@ -14,8 +13,6 @@ use Rattle.values.specs.Money.{kopecks}
 use Rattle.values.specs.Values.{ValueKind, Value, place_of, kind_of, values_of}
 use Rattle.values.specs.Judged.{no_day, foreign, bik_differs, has_kpp, has}
 use Rattle.values.specs.declared.Finds.{Finds}
-use Rattle.values.specs.declared.Found.{Found}
-use Rattle.values.specs.declared.Found.TheVariants.{Wrong, Plain, Has}
 
 -- ---- of a content of 32A; 0 for any other
 -- its date as one number
@@ -27,19 +24,19 @@ unfoldable pub kopecks_of : Line → ℕ
 kopecks_of l = pick (is_payment l) (kopecks (paid_whole l) (paid_decimals l)) 0
 
 -- ---- of any content
--- one more than the place of the first value that fails, 0 where none does
-unfoldable pub fault_of : (ValueKind → Bool) → List Value → ℕ
-fault_of bad [] = 0
-fault_of bad (v ∷ vs) = pick (bad (kind_of v)) (suc (place_of v)) (fault_of bad vs)
+-- the place of the first value that fails
+unfoldable pub fault_of : (ValueKind → Bool) → List Value → Option ℕ
+fault_of bad [] = None
+fault_of bad (v ∷ vs) = pick (bad (kind_of v)) (Some (place_of v)) (fault_of bad vs)
 
 -- that answer, of a content that starts at s, as a rule's
-abbrev pub answered : ℕ → ℕ → ℕ → Verdict
-answered number s zero = Fine
-answered number s (suc k) = Broken number (s + k)
+abbrev pub fault_verdict : ℕ → ℕ → Option ℕ → Verdict
+fault_verdict number s None = Fine
+fault_verdict number s (Some k) = Broken number (s + k)
 
 -- nothing
 abbrev pub nothing : Finds
-nothing = record { day = 0; currency = 0; party = 0; kpp = false }
+nothing = record { day = None; currency = None; party = None; kpp = false }
 
 -- what 9, 10, 12 and 13 ask of a right content, whatever its tag
 pub record Finding (content : Content) (ls : List Line) (f : Finds) : Type 0 where
@@ -48,7 +45,7 @@ pub record Finding (content : Content) (ls : List Line) (f : Finds) : Type 0 whe
   pub party_is : (t : Text) → f.party ≡ fault_of bik_differs (values_of t content ls)
   pub kpp_is : (t : Text) → f.kpp ≡ has has_kpp (values_of t content ls)
 
-abbrev pub FoundIn : Content → Bool → List Line → Found → Type 0
-FoundIn content sign ls Wrong = Not (Right content sign ls)
-FoundIn content sign ls Plain = Right content sign ls × Finding content ls nothing
-FoundIn content sign ls (Has f) = Right content sign ls × Finding content ls f × Not (f ≡ nothing)
+abbrev pub FoundIn : Content → Bool → List Line → Option (Option Finds) → Type 0
+FoundIn content sign ls None = Not (Right content sign ls)
+FoundIn content sign ls (Some None) = Right content sign ls × Finding content ls nothing
+FoundIn content sign ls (Some (Some f)) = Right content sign ls × Finding content ls f × Not (f ≡ nothing)

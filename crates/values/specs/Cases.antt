@@ -5,8 +5,7 @@ use Prim.Native.String.{String}
 use Rattle.types.specs.Form.{form_of}
 use Rattle.base.specs.Quoted.{bytes}
 use Rattle.base.specs.Rules.{first}
-use Rattle.base.specs.declared.Verdict.{Verdict}
-use Rattle.base.specs.declared.Verdict.TheVariants.{Fine, Broken}
+use Rattle.base.specs.Verdicts.{Verdict, Fine, Broken}
 use Rattle.fields.specs.Field.{Field}
 use Rattle.fields.specs.Cases.{of}
 use Rattle.values.specs.Day.{days_in, real_day, dated}

@@ -7,7 +7,7 @@ ghost use Rattle.values.specs.Money.{fraction};
 ghost use Rattle.values.specs.Answers.{kopecks_of, date_of};
 
 use super::days::{date_number, worth_of};
-use contents::lines::{COMMA, DATE, MONEY, Paid, payment};
+use contents::lines::{COMMA, DATE, MONEY, payment};
 
 // A rouble in kopecks.
 const ROUBLE: u64 = 100;
@@ -15,7 +15,7 @@ const ROUBLE: u64 = 100;
 fn long_worth(x: u8) -> u64
     ensures { (result ≡ worth x) × (result < 208) }
 {
-    worth_of(x) as u64
+    u64::from(worth_of(x))
 }
 
 // The number that digits stand for.
@@ -24,10 +24,8 @@ fn number_of(s: &[u8]) -> u64
     ensures { result ≡ number s.now }
 {
     let mut n: u64 = 0;
-    let mut i = 0;
-    while i < s.len() {
-        n = n * 10 + long_worth(s[i]);
-        i += 1;
+    for x in s {
+        n = n * 10 + long_worth(*x);
     }
     n
 }
@@ -36,33 +34,31 @@ fn number_of(s: &[u8]) -> u64
 fn fraction_of(s: &[u8]) -> u64
     ensures { (result ≡ fraction s.now) × (result < 2300) }
 {
-    if s.len() < 1 {
-        return 0;
+    match s {
+        [] => 0,
+        [tens] => long_worth(*tens) * 10,
+        [tens, ones, ..] => long_worth(*tens) * 10 + long_worth(*ones),
     }
-    let tens = long_worth(s[0]) * 10;
-    if s.len() < 2 {
-        return tens;
-    }
-    tens + long_worth(s[1])
 }
 
 // The kopecks of a content of 32A; 0 for any other.
 pub fn kopecks_of(content: &[u8]) -> u64
     ensures { result ≡ kopecks_of content.now }
 {
-    let Paid::Is(whole, decimals) = payment(content) else {
+    let Some(paid) = payment(content) else {
         return 0;
     };
-    let comma = whole + MONEY;
+    let comma = paid.whole + MONEY;
     let behind = COMMA + comma;
-    number_of(&content[MONEY..comma]) * ROUBLE + fraction_of(&content[behind..behind + decimals])
+    let decimals = &content[behind..behind + paid.decimals];
+    number_of(&content[MONEY..comma]) * ROUBLE + fraction_of(decimals)
 }
 
 // The date of a content of 32A, YYYYMMDD; 0 for any other.
 pub fn date_of(content: &[u8]) -> u32
     ensures { result ≡ date_of content.now }
 {
-    let Paid::Is(_, _) = payment(content) else {
+    let Some(_) = payment(content) else {
         return 0;
     };
     date_number(&content[..DATE])

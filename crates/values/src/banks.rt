@@ -9,17 +9,11 @@ use types::tags::{TAG_56A, TAG_56D, TAG_57A, TAG_57D};
 pub fn is_56(tag: u32) -> bool
     ensures { result ≡ among (unpack tag) tags_56 }
 {
-    if tag == TAG_56A {
-        return true;
-    }
-    tag == TAG_56D
+    tag == TAG_56A || tag == TAG_56D
 }
 
 pub fn is_57(tag: u32) -> bool
     ensures { result ≡ among (unpack tag) tags_57 }
 {
-    if tag == TAG_57A {
-        return true;
-    }
-    tag == TAG_57D
+    tag == TAG_57A || tag == TAG_57D
 }

@@ -5,8 +5,6 @@ ghost use Rattle.values.specs.Number.{worth};
 ghost use Rattle.values.specs.Day.{leap, days_in, is_day, year_of, real_day, dated};
 ghost use Rattle.values.specs.Steps.{DayRead};
 
-use base::bytes::{ZERO, wide};
-
 // Where the month and the day stand in a date of six digits.
 const MONTH_AT: usize = 2;
 
@@ -27,10 +25,7 @@ struct Day {
 pub(crate) fn worth_of(x: u8) -> u32
     ensures { (result ≡ worth x) × (result < 208) }
 {
-    if x < b'0' {
-        return 0;
-    }
-    wide(x) - ZERO
+    u32::from(x.saturating_sub(b'0'))
 }
 
 fn two_at(s: &[u8], i: usize) -> u32
@@ -44,61 +39,32 @@ fn year_of(yy: u32) -> u32
     requires { yy < 2300 }
     ensures { (result ≡ year_of yy) × (result < 4300) }
 {
-    if yy < 80 {
-        return 2000 + yy;
+    match yy {
+        80..=99 => 1900 + yy,
+        _ => 2000 + yy,
     }
-    if 99 < yy {
-        return 2000 + yy;
-    }
-    1900 + yy
 }
 
 fn is_leap(year: u32) -> bool
     ensures { result ≡ leap year }
 {
-    if year % 4 != 0 {
-        return false;
-    }
-    if year % 100 != 0 {
-        return true;
-    }
-    year % 400 == 0
+    year % 4 == 0 && (year % 100 != 0 || year % 400 == 0)
 }
 
 fn days_in(year: u32, month: u32) -> u32
     ensures { result ≡ days_in year month }
 {
-    if month == FEBRUARY {
-        if is_leap(year) {
-            return 29;
-        }
-        return 28;
+    match month {
+        FEBRUARY => { if is_leap(year) { 29 } else { 28 } }
+        4 | 6 | 9 | 11 => 30,
+        _ => 31,
     }
-    if month == 4 {
-        return 30;
-    }
-    if month == 6 {
-        return 30;
-    }
-    if month == 9 {
-        return 30;
-    }
-    if month == 11 {
-        return 30;
-    }
-    31
 }
 
 fn is_date(year: u32, month: u32, day: u32) -> bool
     ensures { result ≡ is_day year month day }
 {
-    if month < 1 {
-        return false;
-    }
-    if DECEMBER < month {
-        return false;
-    }
-    if day < 1 {
+    if month < 1 || DECEMBER < month || day < 1 {
         return false;
     }
     day <= days_in(year, month)

@@ -1,22 +1,21 @@
 // What 9, 10, 12 and 13 ask of a content, found where 8 reads it: the readers of contents hand on where the parts stand.
 ghost use Rattle.std.specs.Prelude.{◌≡◌, Bool, ◌+◌, ◌≤◌, length};
-ghost use Rattle.base.specs.Choice.{pick};
 ghost use Rattle.base.specs.Says.{Says};
 ghost use Rattle.fields.specs.Lines.{lines_in};
 ghost use Rattle.contents.specs.Fields.{Then, Any, Right};
-ghost use Rattle.contents.specs.Answers.{cut, IsA, RppWith, SingleLine};
+ghost use Rattle.contents.specs.Answers.{cut, IsA, RppIs, SingleLine};
 ghost use Rattle.contents.specs.declared.Content.TheVariants.{Payment};
 ghost use Rattle.values.specs.Day.{real_day};
 ghost use Rattle.values.specs.Values.{of_first, parties, rpp_dates};
 ghost use Rattle.values.specs.Judged.{no_day, bik_differs};
 ghost use Rattle.values.specs.Answers.{fault_of, FoundIn};
-ghost use Rattle.values.specs.Steps.{is_nothing, made_of, held_found, bank_found, LedBy, note_found, DatedBy, NoValues, OneLine};
+ghost use Rattle.values.specs.Steps.{made_of, held_found, party_found, bank_found, LedBy, note_found, DatedBy, NoValues, OneLine};
 
+use super::Finds;
 use super::days::is_day;
-use super::{Finds, Found};
 use contents::Content;
 use contents::lines::{
-    BY_BIK, BY_BOTH, DATE, MONEY, Paid, Party, RPP_DATE, RPP_MARK, RPP_VALUE, is_own_account,
+    BY_BIK, BY_BOTH, DATE, MONEY, Party, RPP_DATE, RPP_MARK, RPP_VALUE, Rpp, is_own_account,
     is_purpose, is_reference, payment,
 };
 use contents::pieces::is_just;
@@ -32,40 +31,12 @@ const BIK_LAST: usize = BY_BIK - LAST;
 
 const ACCOUNT_LAST: usize = BY_BOTH - LAST;
 
-// One more than the place of what is not fine; 0 where it is.
-fn fault(fine: bool, at: usize) -> usize
-    requires { at ≤ 35 }
-    ensures { result ≡ pick fine 0 (at + 1) }
-{
-    if fine {
-        return 0;
-    }
-    at + 1
-}
-
-fn is_nothing(x: Finds) -> bool
-    ensures { result ≡ is_nothing x }
-{
-    if x.day != 0 {
-        return false;
-    }
-    if x.currency != 0 {
-        return false;
-    }
-    if x.party != 0 {
-        return false;
-    }
-    !x.kpp
-}
-
-// What is found in a right content.
-fn made(x: Finds) -> Found
+// What is found in a right content, if anything is.
+fn made(x: Finds) -> Option<Finds>
     ensures { result ≡ made_of x }
 {
-    if is_nothing(x) {
-        return Found::Plain;
-    }
-    Found::Has(x)
+    let some = x.day.is_some() || x.currency.is_some() || x.party.is_some() || x.kpp;
+    if some { Some(x) } else { None }
 }
 
 // Whether the six digits from there on are a day.
@@ -77,146 +48,142 @@ fn is_day_at(c: &[u8], at: usize) -> bool
 }
 
 // 32A.
-fn paid_found(c: &[u8]) -> Found
+fn paid_found(c: &[u8]) -> Option<Option<Finds>>
     ensures { (sign : Bool) → FoundIn Payment sign (lines_in c.now) result }
 {
     if !is_one_line(c) {
-        return Found::Wrong;
+        return None;
     }
-    let Paid::Is(_, _) = payment(c) else {
-        return Found::Wrong;
-    };
-    made(Finds {
-        day: fault(is_day_at(c, 0), 0),
-        currency: fault(is_just(&c[DATE..MONEY], b"RUB"), DATE),
-        party: 0,
+    payment(c)?;
+    Some(made(Finds {
+        day: (!is_day_at(c, 0)).then_some(0),
+        currency: (!is_just(&c[DATE..MONEY], b"RUB")).then_some(DATE),
+        party: None,
         kpp: false,
-    })
+    }))
 }
 
 // 50K, 59, 58D.
-fn held_found(h: Held) -> Found
+fn held_found(h: Held) -> Option<Finds>
     ensures { result ≡ held_found h }
 {
     match h {
-        Held::Wrong => Found::Wrong,
-        Held::Plain => Found::Plain,
-        Held::Taxed(_, _, kpp) => made(Finds {
-            day: 0,
-            currency: 0,
-            party: 0,
-            kpp: kpp != 0,
+        Held::Plain => None,
+        Held::Taxed { at: _, tax } => made(Finds {
+            day: None,
+            currency: None,
+            party: None,
+            kpp: tax.kpp,
         }),
     }
 }
 
-// The party line that a content begins with.
-fn party_fault(c: &[u8], p: Party) -> usize
+// The party line that a content begins with: its start, where its parts differ.
+fn party_fault(c: &[u8], p: Party) -> Option<usize>
     requires { Then (IsA p) Any (lines_in c.now) }
     ensures { result ≡ fault_of bik_differs (of_first parties (lines_in c.now)) }
 {
     match p {
-        Party::Wrong => 0,
-        Party::Account => 0,
-        Party::Bik(account) => {
-            if account == 0 {
-                return 0;
+        Party::Account => None,
+        Party::Bik { account } => {
+            if !account {
+                return None;
             }
-            fault(is_just(&c[BIK_LAST..BY_BIK], &c[ACCOUNT_LAST..BY_BOTH]), 0)
+            let same = is_just(&c[BIK_LAST..BY_BIK], &c[ACCOUNT_LAST..BY_BOTH]);
+            (!same).then_some(0)
         }
     }
 }
 
-// 52A, 56, 57.
-fn bank_found(c: &[u8], b: Bank) -> Found
+fn party_found(c: &[u8], p: Party) -> Option<Finds>
+    requires { Then (IsA p) Any (lines_in c.now) }
+    ensures { result ≡ party_found (lines_in c.now) }
+{
+    made(Finds {
+        day: None,
+        currency: None,
+        party: party_fault(c, p),
+        kpp: false,
+    })
+}
+
+// 52A, 56A, 57A.
+fn bank_found(c: &[u8], b: Bank) -> Option<Finds>
     requires { LedBy (lines_in c.now) b }
     ensures { result ≡ bank_found (lines_in c.now) b }
 {
     match b {
-        Bank::Wrong => Found::Wrong,
-        Bank::Alone => Found::Plain,
-        Bank::Led(p) => made(Finds {
-            day: 0,
-            currency: 0,
-            party: party_fault(c, p),
-            kpp: false,
-        }),
+        Bank::Alone => None,
+        Bank::Led(p) => party_found(c, p),
     }
 }
 
-// The RPP line that a content begins with: the sizes of its number and of its value date.
-fn rpp_fault(c: &[u8], number: usize, value: usize) -> usize
-    requires { Then (RppWith number value) Any (lines_in c.now) }
+// The RPP line that a content begins with: where the first of its dates stands that is no day.
+fn rpp_fault(c: &[u8], rpp: Rpp) -> Option<usize>
+    requires { Then (RppIs rpp) Any (lines_in c.now) }
     ensures { result ≡ fault_of no_day (of_first rpp_dates (lines_in c.now)) }
 {
-    let behind = number + RPP_MARK;
+    let behind = rpp.number + RPP_MARK;
     let date = RPP_DATE + behind;
     if !is_day_at(c, date) {
-        return date + 1;
+        return Some(date);
     }
-    if value == 0 {
-        return 0;
+    if !rpp.value {
+        return None;
     }
     let due = RPP_VALUE + behind;
-    fault(is_day_at(c, due), due)
+    (!is_day_at(c, due)).then_some(due)
 }
 
 // 72.
-fn note_found(c: &[u8], n: Note) -> Found
+fn note_found(c: &[u8], n: Note) -> Option<Finds>
     requires { DatedBy (lines_in c.now) n }
     ensures { result ≡ note_found (lines_in c.now) n }
 {
     match n {
-        Note::Wrong => Found::Wrong,
-        Note::Plain => Found::Plain,
-        Note::Dated(number, value) => made(Finds {
-            day: rpp_fault(c, number, value),
-            currency: 0,
-            party: 0,
+        Note::Plain => None,
+        Note::Dated(rpp) => made(Finds {
+            day: rpp_fault(c, rpp),
+            currency: None,
+            party: None,
             kpp: false,
         }),
     }
 }
 
 // A content of one line in which 9 to 13 ask for nothing; right: whether it would be such a line.
-fn line_found(content: Content, right: bool, c: &[u8]) -> Found
+fn line_found(content: Content, right: bool, c: &[u8]) -> Option<Option<Finds>>
     requires { NoValues content × OneLine content × Says (SingleLine content c.now) right }
     ensures { (sign : Bool) → FoundIn content sign (lines_in c.now) result }
 {
     if !is_one_line(c) {
-        return Found::Wrong;
+        return None;
     }
-    if !right {
-        return Found::Wrong;
-    }
-    Found::Plain
+    if right { Some(None) } else { None }
 }
 
 // Any other content in which they ask for nothing.
-fn plain_found(content: Content, sign: bool, right: bool, c: &[u8]) -> Found
+fn plain_found(content: Content, sign: bool, right: bool, c: &[u8]) -> Option<Option<Finds>>
     requires { NoValues content × Says (Right content sign (lines_in c.now)) right }
     ensures { FoundIn content sign (lines_in c.now) result }
 {
-    if !right {
-        return Found::Wrong;
-    }
-    Found::Plain
+    if right { Some(None) } else { None }
 }
 
-// 8, and what 9, 10, 12 and 13 ask of a right content.
-pub fn found_in(content: Content, sign: bool, c: &[u8]) -> Found
+// 8, and what 9, 10, 12 and 13 ask of a right content: what is found in it, if anything is; none for a content that isn't right.
+pub fn found_in(content: Content, sign: bool, c: &[u8]) -> Option<Option<Finds>>
     ensures { FoundIn content sign (lines_in c.now) result }
 {
     match content {
-        Content::Unknown => Found::Wrong,
+        Content::Unknown => None,
         Content::Payment => paid_found(c),
-        Content::Payer => held_found(payer(c)),
-        Content::BankByBic => bank_found(c, bank_by_bic(c)),
-        Content::BankByName => bank_found(c, bank_by_name(c)),
-        Content::BeneficiaryBank => held_found(customer(false, c)),
-        Content::Beneficiary => held_found(customer(true, c)),
-        Content::DocumentAndRest => note_found(c, rpp_and_rest(c)),
-        Content::DocumentAndDetails => note_found(c, rpp_and_details(sign, c)),
+        Content::Payer => Some(held_found(payer(c)?)),
+        Content::BankByBic => Some(bank_found(c, bank_by_bic(c)?)),
+        Content::BankByName => Some(party_found(c, bank_by_name(c)?)),
+        Content::BeneficiaryBank => Some(held_found(customer(false, c)?)),
+        Content::Beneficiary => Some(held_found(customer(true, c)?)),
+        Content::DocumentAndRest => Some(note_found(c, rpp_and_rest(c)?)),
+        Content::DocumentAndDetails => Some(note_found(c, rpp_and_details(sign, c)?)),
         Content::Reference => line_found(content, is_reference(c), c),
         Content::Related => line_found(content, is_just(c, b"NONREF"), c),
         Content::Operation => line_found(content, is_just(c, b"CRED"), c),

@@ -6,20 +6,12 @@ pub mod banks;
 mod days;
 pub mod findings;
 
-// Of a content: one more than the place, counted from its start, of the first date that is no day, of a currency that isn't the rouble, of a
-// party line whose parts differ, 0 for none; and whether there is a KPP.
+// Of a content: the places, counted from its start, of the first date that is no day, of a currency that isn't the rouble, and of a party line
+// whose parts differ; and whether there is a KPP.
 #[derive(Clone, Copy)]
 pub struct Finds {
-    pub day: usize,
-    pub currency: usize,
-    pub party: usize,
+    pub day: Option<usize>,
+    pub currency: Option<usize>,
+    pub party: Option<usize>,
     pub kpp: bool,
-}
-
-// A content that isn't right; a right one in which nothing is found; or what is found in it.
-#[derive(Clone, Copy)]
-pub enum Found {
-    Wrong,
-    Plain,
-    Has(Finds),
 }

@@ -1,29 +1,30 @@
 -- `contents::lines::is_bic` meets its contract. Assumes nothing.
-use Rattle.base.proofs.SaysLaws.{said, denied, says_so, says_not}
-use native.Mathlib.Omega.{arith}
-use Rattle.contents.proofs.BankLaws.{bic_tests, bic_short, bic_long}
+use Rattle.base.proofs.SaysLaws.{says_not}
+use mathlib.Core.Path.{sym, ◌∙◌}
+use mathlib.Core.Bool.{false≢true}
+use Rattle.contents.proofs.BankLaws.{bic_tests, bic_long}
 use Rattle.contents.proofs.lines.is_bic.Goals as goal
+use Rattle.contents.proofs.lines.is_bic.Goals.{then-are_capitals, else-are_capitals, then-are_capitals-2, else-are_capitals-2}
 
-pub returns-then-l-lt-SHORT_BIC : goal.returns-then-l-lt-SHORT_BIC
-returns-then-l-lt-SHORT_BIC c = says_not (λ t. absurd (omega (arith, (bic_tests c.args.l.now t).least, c.if-l-lt-SHORT_BIC.true)))
+pub returns-then-l-eq-LONG_BIC : goal.returns-then-l-eq-LONG_BIC
+returns-then-l-eq-LONG_BIC c = let l = c.args.l.now in
+    elim c.if-are_capitals-2.branch [
+      | then-are_capitals-2 w ↦ elim c.if-are_capitals.branch [
+        | then-are_capitals v ↦ record {
+          so = λ e. bic_long l (c.are_capitals.ensures.so v.if-are_capitals.true) (v.are_capitals-then-are_capitals.ensures.so (sym v.value-is ∙ w.if-are_capitals-2.true)) (w.are_capitals_or_digits-short.ensures.so (sym w.short-is ∙ c.if-short.true)) c.if-l-eq-LONG_BIC.true (c.are_capitals_or_digits.ensures.so e);
+          not_so = λ e t. c.are_capitals_or_digits.ensures.not_so e ((bic_tests l t).tail c.if-l-eq-SHORT_BIC.false).1;
+        }
+        | else-are_capitals v ↦ absurd (false≢true (sym v.if-are_capitals.false ∙ sym v.value-is ∙ w.if-are_capitals-2.true))
+      ]
+      | else-are_capitals-2 w ↦ absurd (false≢true (sym w.if-are_capitals-2.false ∙ sym w.short-is ∙ c.if-short.true))
+    ]
 
-pub returns-then-not-are_capitals : goal.returns-then-not-are_capitals
-returns-then-not-are_capitals c = says_not (λ t. denied c.are_capitals.ensures c.if-not-are_capitals.true-raw (bic_tests c.args.l.now t).four)
-
-pub returns-then-not-are_capitals-2 : goal.returns-then-not-are_capitals-2
-returns-then-not-are_capitals-2 c = says_not (λ t. denied c.are_capitals-2.ensures c.if-not-are_capitals-2.true-raw (bic_tests c.args.l.now t).two)
-
-pub returns-then-not-are_capitals_or_digits : goal.returns-then-not-are_capitals_or_digits
-returns-then-not-are_capitals_or_digits c = says_not (λ t. denied c.are_capitals_or_digits.ensures c.if-not-are_capitals_or_digits.true-raw (bic_tests c.args.l.now t).town)
-
-pub returns-then-l-eq-SHORT_BIC : goal.returns-then-l-eq-SHORT_BIC
-returns-then-l-eq-SHORT_BIC c = says_so (bic_short c.args.l.now (said c.are_capitals.ensures c.if-not-are_capitals.false-raw) (said c.are_capitals-2.ensures c.if-not-are_capitals-2.false-raw) (said c.are_capitals_or_digits.ensures c.if-not-are_capitals_or_digits.false-raw) c.if-l-eq-SHORT_BIC.true)
-
-pub returns-then-l-ne-LONG_BIC : goal.returns-then-l-ne-LONG_BIC
-returns-then-l-ne-LONG_BIC c = says_not (λ t. c.if-l-ne-LONG_BIC.true ((bic_tests c.args.l.now t).tail c.if-l-eq-SHORT_BIC.false).0)
-
-pub returns : goal.returns
-returns c = record {
-  so = λ e. bic_long c.args.l.now (said c.are_capitals.ensures c.if-not-are_capitals.false-raw) (said c.are_capitals-2.ensures c.if-not-are_capitals-2.false-raw) (said c.are_capitals_or_digits.ensures c.if-not-are_capitals_or_digits.false-raw) c.if-l-ne-LONG_BIC.false (c.are_capitals_or_digits-2.ensures.so e);
-  not_so = λ e t. c.are_capitals_or_digits-2.ensures.not_so e ((bic_tests c.args.l.now t).tail c.if-l-eq-SHORT_BIC.false).1;
-}
+pub returns-else-short : goal.returns-else-short
+returns-else-short c = let l = c.args.l.now in rw c.if-short.false
+    (says_not (λ t. elim c.if-are_capitals.branch [
+      | then-are_capitals v ↦ elim c.if-are_capitals-2.branch [
+        | then-are_capitals-2 w ↦ w.are_capitals_or_digits-short.ensures.not_so (sym w.short-is ∙ c.if-short.false) (bic_tests l t).town
+        | else-are_capitals-2 w ↦ v.are_capitals-then-are_capitals.ensures.not_so (sym v.value-is ∙ w.if-are_capitals-2.false) (bic_tests l t).two
+      ]
+      | else-are_capitals v ↦ c.are_capitals.ensures.not_so v.if-are_capitals.false (bic_tests l t).four
+    ]))

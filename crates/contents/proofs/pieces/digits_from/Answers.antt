@@ -1,37 +1,19 @@
 -- `contents::pieces::digits_from` meets its contract. Assumes nothing.
-use mathlib.Core.Path.{refl, sym, ◌∙◌}
-use native.Mathlib.Omega.{arith}
+use mathlib.Core.Path.{◌∙◌}
+use lib.ListN.{take, drop}
+use Rattle.std.proofs.Common.{rules, tests}
+use Rattle.std.proofs.lemmas.Iterator.{YieldsList-from_slice, YieldsList-from_take}
+use Rattle.std.proofs.lemmas.Iterator.Consumers.{count_from_yields_List}
+use Rattle.std.proofs.lemmas.Iterator.Search.{YieldsList-from_take_while}
+use Rattle.std.proofs.lemmas.List.Folds.{length-prefix_len}
 use Rattle.base.specs.Bytes.{digit}
-use Rattle.contents.proofs.Laws.{kind_on}
+use Rattle.base.proofs.ByteLaws.{past_in}
+use Rattle.contents.proofs.PieceLaws.{leads_by}
 use Rattle.contents.proofs.pieces.digits_from.Goals as goal
 
-pub loop-k-init : goal.loop-k-init
-loop-k-init c = (omega arith, omega arith, refl)
-
-pub overflow_sub-s : goal.overflow_sub-s
-overflow_sub-s c = omega arith
-
-pub returns-then-s-i : goal.returns-then-s-i
-returns-then-s-i c = record { within = c.loop-k.invariant.1; most = c.loop-k.invariant.0; each = c.loop-k.invariant.2; stop = λ x y. absurd (omega arith) }
-
-pub overflow_add-i : goal.overflow_add-i
-overflow_add-i c = omega arith
-
-pub bounds-s-i : goal.bounds-s-i
-bounds-s-i c = omega arith
-
-pub returns-then-not-is_digit : goal.returns-then-not-is_digit
-returns-then-not-is_digit c = record { within = c.loop-k.invariant.1; most = c.loop-k.invariant.0; each = c.loop-k.invariant.2; stop = λ x y. sym c.is_digit.ensures ∙ c.if-not-is_digit.true }
-
-pub overflow_add-k : goal.overflow_add-k
-overflow_add-k c = omega arith
-
-pub loop-k-smaller : goal.loop-k-smaller
-loop-k-smaller c = omega arith
-
-pub loop-k-preserved : goal.loop-k-preserved
-loop-k-preserved c = let a = c.args in
-    (omega arith, omega arith, kind_on digit a.i a.s.now c.loop-k.k (omega arith) c.loop-k.invariant.2 (sym c.is_digit.ensures ∙ c.if-not-is_digit.false))
-
 pub returns : goal.returns
-returns c = record { within = c.loop-k.invariant.1; most = c.loop-k.invariant.0; each = c.loop-k.invariant.2; stop = λ x y. absurd (omega (arith, c.loop-k-test.false)) }
+returns c = let a = c.args in
+    leads_by a.i a.n a.s.now c.requires
+    (count_from_yields_List c.take_while.result _ c.count.ensures.ran
+    (YieldsList-from_take_while _ digit (YieldsList-from_take a.n (YieldsList-from_slice (drop a.i a.s.now) (rw (c.take_while.ensures.source, c.take.ensures.source) (c.iter.ensures.rest ∙ past_in a.s.now a.i))) (rw c.take_while.ensures.source c.take.ensures.count)) c.take_while.ensures.closure c.take_while.ensures.done (λ x b q k. search (rules, tests)))
+    ∙ length-prefix_len digit (take a.n (drop a.i a.s.now)))

@@ -1,5 +1,4 @@
 -- `contents::pieces::is_just` meets its contract. Assumes nothing.
-use Rattle.base.proofs.SaysLaws.{says_not}
 use Prim.Native.Nat.{ℕ}
 use mathlib.Core.Path.{◌≡◌, sym, ap, ◌∙◌}
 use lib.ListN.{length}
@@ -12,8 +11,5 @@ whole : (s w : Text) → length s ≡ length w → cut 0 (length w) s ≡ s
 whole s w z = ap (λ (k : ℕ). cut 0 k s) (sym z) ∙ take-length s
 
 pub returns-then-s-w : goal.returns-then-s-w
-returns-then-s-w c = says_not (λ e. absurd (c.if-s-w.true (ap length e)))
-
-pub returns : goal.returns
-returns c = let s = c.args.s.now in let w = c.args.w.now in let z : length s ≡ length w = c.if-s-w.false in
+returns-then-s-w c = let s = c.args.s.now in let w = c.args.w.now in let z : length s ≡ length w = c.if-s-w.true in
     record { so = λ e. sym (whole s w z) ∙ c.has_word.ensures.so e; not_so = λ e q. c.has_word.ensures.not_so e (whole s w z ∙ q) }

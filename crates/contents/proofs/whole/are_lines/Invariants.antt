@@ -6,8 +6,5 @@ use Rattle.contents.specs.Fields.{Several}
 use Rattle.contents.specs.Answers.{LaterOrName}
 use Rattle.contents.proofs.whole.are_lines.Given as goal
 
-abbrev pub invariant-loop-left : goal.invariant-loop-left
-invariant-loop-left l = (l.at ≤ length l.c) × (Several (LaterOrName l.marked) l.left (lines_in (drop l.at l.c)) → Several (LaterOrName l.marked) l.most (lines_in (drop l.from l.c))) × (Several (LaterOrName l.marked) l.most (lines_in (drop l.from l.c)) → Several (LaterOrName l.marked) l.left (lines_in (drop l.at l.c)))
-
-abbrev pub decreases-loop-left : goal.decreases-loop-left
-decreases-loop-left l = length l.c - l.at
+abbrev pub invariant-loop : goal.invariant-loop
+invariant-loop l = (l.at ≤ length l.c) × (Several (LaterOrName l.marked) (l.most - l.counter) (lines_in (drop l.at l.c)) → Several (LaterOrName l.marked) l.most (lines_in (drop l.from l.c))) × (Several (LaterOrName l.marked) l.most (lines_in (drop l.from l.c)) → Several (LaterOrName l.marked) (l.most - l.counter) (lines_in (drop l.at l.c)))

@@ -1,7 +1,6 @@
 -- `contents::whole::details` meets its contract. Assumes nothing.
 use Rattle.base.proofs.SaysLaws.{said, denied, says_not}
-use Rattle.contents.specs.Answers.{text_at}
-use mathlib.Core.Path.{refl, ap}
+use mathlib.Core.Path.{refl}
 use native.Mathlib.Omega.{arith}
 use borrow.Author.Tests.{ltb-true, ltb-false}
 use Rattle.contents.proofs.FieldLaws.{taken_0, front_0, last_0, on_0}
@@ -27,18 +26,10 @@ returns-then-e-c c = let s = c.args.c.now in let g = on_0 s c.mark_at-e.result c
       not_so = λ e d. c.are_lines.ensures.not_so e (in_70_names c.args.sign _ _ (rw g.0 at d) g.2);
     }
 
-pub returns-then-sign : goal.returns-then-sign
-returns-then-sign c = let s = c.args.c.now in let g = last_0 s c.mark_at-e.result c.mark_at-e.ensures c.if-e-c.false in
-    let w = taken_0 s c.mark_at-e.result c.mark_at-e.ensures in let t = ap text_at c.if-sign.true in
-    record {
-      so = λ e. rw g (in_70_one c.args.sign _ (said c.is_vo.ensures c.if-not-is_vo.false-raw) (omega (arith, w, c.if-e-gt-WIDTH.false)) (omega (arith, w, t, ltb-true 11 c.mark_at-e.result e)));
-      not_so = λ e d. absurd (omega (arith, w, t, ltb-false 11 c.mark_at-e.result e, in_70_text c.args.sign _ _ (rw g at d) refl));
-    }
-
 pub returns : goal.returns
-returns c = let s = c.args.c.now in let g = last_0 s c.mark_at-e.result c.mark_at-e.ensures c.if-e-c.false in
-    let w = taken_0 s c.mark_at-e.result c.mark_at-e.ensures in let t = ap text_at c.if-sign.false in
+returns c = let s = c.args.c.now in let n = c.code_size.result in let t = c.code_size.ensures in let g = last_0 s c.mark_at-e.result c.mark_at-e.ensures c.if-e-c.false in
+    let w = taken_0 s c.mark_at-e.result c.mark_at-e.ensures in
     record {
-      so = λ e. rw g (in_70_one c.args.sign _ (said c.is_vo.ensures c.if-not-is_vo.false-raw) (omega (arith, w, c.if-e-gt-WIDTH.false)) (omega (arith, w, t, ltb-true 9 c.mark_at-e.result e)));
-      not_so = λ e d. absurd (omega (arith, w, t, ltb-false 9 c.mark_at-e.result e, in_70_text c.args.sign _ _ (rw g at d) refl));
+      so = λ e. rw g (in_70_one c.args.sign _ (said c.is_vo.ensures c.if-not-is_vo.false-raw) (omega (arith, w, c.if-e-gt-WIDTH.false)) (omega (arith, w, t, ltb-true n c.mark_at-e.result e)));
+      not_so = λ e d. absurd (omega (arith, w, t, ltb-false n c.mark_at-e.result e, in_70_text c.args.sign _ _ (rw g at d) refl));
     }

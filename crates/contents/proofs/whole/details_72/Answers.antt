@@ -2,8 +2,9 @@
 use Rattle.base.proofs.SaysLaws.{said, denied, says_not}
 use mathlib.Core.Path.{◌≡◌, refl}
 use native.Mathlib.Omega.{arith}
+use borrow.Author.Tests.{ltb-true, ltb-false}
 use lib.ListN.{length, take, drop, length-drop}
-use Prim.Native.Nat.{◌-◌}
+use Prim.Native.Nat.{◌-◌, ◌+◌}
 use Rattle.base.proofs.MarkLaws.{up_rest}
 use lib.Seq.{length-take-le}
 use Rattle.fields.proofs.ContentLaws.{lines_last}
@@ -26,9 +27,10 @@ returns-then-e-c c = let g = lines_on c.args.c.now c.args.at c.mark_at-e.result 
     }
 
 pub returns : goal.returns
-returns c = let s = c.args.c.now in let e = c.mark_at-e.result in let a = c.args.at in let g = lines_last s a e c.requires.0 c.mark_at-e.ensures c.if-e-c.false in
+returns c = let s = c.args.c.now in let e = c.mark_at-e.result in let a = c.args.at in let n = c.code_size.result in let t = c.code_size.ensures in
+    let g = lines_last s a e c.requires.0 c.mark_at-e.ensures c.if-e-c.false in
     let z : length (take (e - a) (drop a s)) ≡ e - a = length-take-le (e - a) (drop a s) (omega (arith, length-drop a s, up_rest 13 s a c.requires.0, c.mark_at-e.ensures)) in
     record {
-      so = λ x. rw g (in_72_one c.args.sign c.args.most _ c.requires.1 (said c.is_nzp.ensures c.if-not-is_nzp.false-raw) (rw z (c.has_text.ensures.so x)));
-      not_so = λ x d. c.has_text.ensures.not_so x (rw z at (in_72_text c.args.sign c.args.most _ _ (rw g at d) refl));
+      so = λ x. rw g (in_72_one c.args.sign c.args.most _ c.requires.1 (said c.is_nzp.ensures c.if-not-is_nzp.false-raw) (omega (arith, z, t, ltb-true (5 + n) (e - a) x)));
+      not_so = λ x d. absurd (omega (arith, z, t, ltb-false (5 + n) (e - a) x, in_72_text c.args.sign c.args.most _ _ (rw g at d) refl));
     }

@@ -1,17 +1,16 @@
 -- `values::days::is_leap` meets its contract. Assumes nothing.
 use borrow.Author.Tests.{eq-eqb, ne_eqb}
-use Rattle.base.proofs.Flags.{flags}
 use Rattle.values.specs.Day.{leap}
 use Rattle.values.proofs.days.is_leap.Goals as goal
 
 pub returns-then-year-ne0 : goal.returns-then-year-ne0
 unfolding leap
-returns-then-year-ne0 c = search flags depth 12
+returns-then-year-ne0 c = simp (eq-eqb _ _ c.if-year-eq0.true, ne_eqb _ _ c.if-year-ne0.true)
 
-pub returns-then-year-ne0-2 : goal.returns-then-year-ne0-2
+pub returns-else-year-ne0 : goal.returns-else-year-ne0
 unfolding leap
-returns-then-year-ne0-2 c = simp (eq-eqb _ _ c.if-year-ne0.false, ne_eqb _ _ c.if-year-ne0-2.true)
+returns-else-year-ne0 c = simp (eq-eqb _ _ c.if-year-eq0.true, eq-eqb _ _ c.if-year-ne0.false)
 
-pub returns : goal.returns
+pub returns-else-year-eq0 : goal.returns-else-year-eq0
 unfolding leap
-returns c = simp (eq-eqb _ _ c.if-year-ne0.false, eq-eqb _ _ c.if-year-ne0-2.false)
+returns-else-year-eq0 c = simp (ne_eqb _ _ c.if-year-eq0.false)

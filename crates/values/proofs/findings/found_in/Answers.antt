@@ -3,20 +3,14 @@ use mathlib.Core.Path.{refl}
 use Rattle.fields.specs.Lines.{lines_in}
 use Rattle.contents.specs.declared.Content.TheVariants as holds
 use Rattle.values.specs.Values.{values_of}
-use Rattle.values.proofs.FoundLaws.{line_asks, plain_asks, bank_held, customer_held, payer_held, bic_led, name_led, bank_by_bic, bank_by_name, rest_dated, details_dated, rpp_and_rest, rpp_and_details}
+use Rattle.values.proofs.FoundLaws.{found_as, line_asks, plain_asks, bank_held, customer_held, payer_held, bank_by_bic, bank_by_name, rest_dated, details_dated, rpp_and_rest, rpp_and_details}
 use Rattle.values.proofs.findings.found_in.Goals as goal
 
-pub bank_found-requires : goal.bank_found-requires
-bank_found-requires c = bic_led (lines_in c.args.c.now) c.bank_by_bic.result c.bank_by_bic.ensures
-
-pub bank_found-requires-in-BankByName : goal.bank_found-requires-in-BankByName
-bank_found-requires-in-BankByName c = name_led (lines_in c.args.c.now) c.bank_by_name.result c.bank_by_name.ensures
-
 pub note_found-requires : goal.note_found-requires
-note_found-requires c = rest_dated (lines_in c.args.c.now) c.rpp_and_rest.result c.rpp_and_rest.ensures
+note_found-requires c = let r = c.in_ok-rpp_and_rest-in-DocumentAndRest in rest_dated (lines_in c.args.c.now) r.field-0 r.ensures
 
 pub note_found-requires-in-DocumentAndDetails : goal.note_found-requires-in-DocumentAndDetails
-note_found-requires-in-DocumentAndDetails c = let a = c.args in details_dated a.sign (lines_in a.c.now) c.rpp_and_details.result c.rpp_and_details.ensures
+note_found-requires-in-DocumentAndDetails c = let a = c.args in let r = c.in_ok-rpp_and_details-in-DocumentAndDetails in details_dated a.sign (lines_in a.c.now) r.field-0 r.ensures
 
 pub line_found-requires : goal.line_found-requires
 unfolding values_of
@@ -54,32 +48,36 @@ pub plain_found-requires-in-Regulatory : goal.plain_found-requires-in-Regulatory
 unfolding values_of
 plain_found-requires-in-Regulatory c = let a = c.args in plain_asks holds.Regulatory a.sign (lines_in a.c.now) c.in-Regulatory.is (λ t ls. refl) c.regulatory.ensures
 
-pub returns-in-Unknown : goal.returns-in-Unknown
-returns-in-Unknown c = rw c.in-Unknown.is (λ x. x)
-
 pub returns-in-Payment : goal.returns-in-Payment
 returns-in-Payment c = rw c.in-Payment.is (c.paid_found.ensures c.args.sign)
 
-pub returns-in-Payer : goal.returns-in-Payer
-returns-in-Payer c = let a = c.args in rw (c.in-Payer.is, c.held_found.ensures) (payer_held a.sign (lines_in a.c.now) c.payer.result c.payer.ensures)
+pub returns-in_ok-payer-in-Payer : goal.returns-in_ok-payer-in-Payer
+returns-in_ok-payer-in-Payer c = let a = c.args in let ls = lines_in a.c.now in let r = c.in_ok-payer-in-Payer in
+    found_as holds.Payer a.sign ls c.in-Payer.is c.held_found.ensures (payer_held a.sign ls r.field-0 r.ensures)
 
-pub returns-in-BankByBic : goal.returns-in-BankByBic
-returns-in-BankByBic c = let a = c.args in rw (c.in-BankByBic.is, c.bank_found.ensures) (bank_by_bic a.sign (lines_in a.c.now) c.bank_by_bic.result c.bank_by_bic.ensures)
+pub returns-in_ok-bank_by_bic-in-BankByBic : goal.returns-in_ok-bank_by_bic-in-BankByBic
+returns-in_ok-bank_by_bic-in-BankByBic c = let a = c.args in let ls = lines_in a.c.now in let r = c.in_ok-bank_by_bic-in-BankByBic in
+    found_as holds.BankByBic a.sign ls c.in-BankByBic.is c.bank_found.ensures (bank_by_bic a.sign ls r.field-0 r.ensures)
 
-pub returns-in-BankByName : goal.returns-in-BankByName
-returns-in-BankByName c = let a = c.args in rw (c.in-BankByName.is, c.bank_found-in-BankByName.ensures) (bank_by_name a.sign (lines_in a.c.now) c.bank_by_name.result c.bank_by_name.ensures)
+pub returns-in_ok-bank_by_name-in-BankByName : goal.returns-in_ok-bank_by_name-in-BankByName
+returns-in_ok-bank_by_name-in-BankByName c = let a = c.args in let ls = lines_in a.c.now in let r = c.in_ok-bank_by_name-in-BankByName in
+    found_as holds.BankByName a.sign ls c.in-BankByName.is c.party_found.ensures (bank_by_name a.sign ls r.field-0 r.ensures)
 
-pub returns-in-BeneficiaryBank : goal.returns-in-BeneficiaryBank
-returns-in-BeneficiaryBank c = let a = c.args in rw (c.in-BeneficiaryBank.is, c.held_found-in-BeneficiaryBank.ensures) (bank_held a.sign (lines_in a.c.now) c.customer.result c.customer.ensures)
+pub returns-in_ok-customer-in-BeneficiaryBank : goal.returns-in_ok-customer-in-BeneficiaryBank
+returns-in_ok-customer-in-BeneficiaryBank c = let a = c.args in let ls = lines_in a.c.now in let r = c.in_ok-customer-in-BeneficiaryBank in
+    found_as holds.BeneficiaryBank a.sign ls c.in-BeneficiaryBank.is c.held_found-in-BeneficiaryBank.ensures (bank_held a.sign ls r.field-0 r.ensures)
 
-pub returns-in-Beneficiary : goal.returns-in-Beneficiary
-returns-in-Beneficiary c = let a = c.args in rw (c.in-Beneficiary.is, c.held_found-in-Beneficiary.ensures) (customer_held a.sign (lines_in a.c.now) c.customer-in-Beneficiary.result c.customer-in-Beneficiary.ensures)
+pub returns-in_ok-customer-in-Beneficiary : goal.returns-in_ok-customer-in-Beneficiary
+returns-in_ok-customer-in-Beneficiary c = let a = c.args in let ls = lines_in a.c.now in let r = c.in_ok-customer-in-Beneficiary in
+    found_as holds.Beneficiary a.sign ls c.in-Beneficiary.is c.held_found-in-Beneficiary.ensures (customer_held a.sign ls r.field-0 r.ensures)
 
-pub returns-in-DocumentAndRest : goal.returns-in-DocumentAndRest
-returns-in-DocumentAndRest c = let a = c.args in rw (c.in-DocumentAndRest.is, c.note_found.ensures) (rpp_and_rest a.sign (lines_in a.c.now) c.rpp_and_rest.result c.rpp_and_rest.ensures)
+pub returns-in_ok-rpp_and_rest-in-DocumentAndRest : goal.returns-in_ok-rpp_and_rest-in-DocumentAndRest
+returns-in_ok-rpp_and_rest-in-DocumentAndRest c = let a = c.args in let ls = lines_in a.c.now in let r = c.in_ok-rpp_and_rest-in-DocumentAndRest in
+    found_as holds.DocumentAndRest a.sign ls c.in-DocumentAndRest.is c.note_found.ensures (rpp_and_rest a.sign ls r.field-0 r.ensures)
 
-pub returns-in-DocumentAndDetails : goal.returns-in-DocumentAndDetails
-returns-in-DocumentAndDetails c = let a = c.args in rw (c.in-DocumentAndDetails.is, c.note_found-in-DocumentAndDetails.ensures) (rpp_and_details a.sign (lines_in a.c.now) c.rpp_and_details.result c.rpp_and_details.ensures)
+pub returns-in_ok-rpp_and_details-in-DocumentAndDetails : goal.returns-in_ok-rpp_and_details-in-DocumentAndDetails
+returns-in_ok-rpp_and_details-in-DocumentAndDetails c = let a = c.args in let ls = lines_in a.c.now in let r = c.in_ok-rpp_and_details-in-DocumentAndDetails in
+    found_as holds.DocumentAndDetails a.sign ls c.in-DocumentAndDetails.is c.note_found-in-DocumentAndDetails.ensures (rpp_and_details a.sign ls r.field-0 r.ensures)
 
 pub returns-in-Reference : goal.returns-in-Reference
 returns-in-Reference c = c.line_found.ensures c.args.sign
