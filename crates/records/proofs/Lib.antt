@@ -7,4 +7,3 @@ pub mod PartLaws
 pub mod PieceLaws
 pub mod SheetLaws
 pub mod Examples
-mod TypeLaws

@@ -1,45 +1,30 @@
 -- One part, byte by byte: a part that goes on, digits, a tag as one number, two bytes. Assumes nothing.
-use Prim.Native.Nat.{ℕ, ◌+◌, ◌*◌, ◌<◌, ◌≤◌}
+use Prim.Native.Nat.{ℕ, ◌+◌, ◌*◌, ◌<◌}
 use mathlib.Core.Path.{◌≡◌, refl, sym, ap, ◌∙◌}
-use mathlib.Core.Bool.{Bool, true, false, not, ◌&&◌, and-true, and-false}
+use mathlib.Core.Bool.{Bool, true, false, ◌&&◌, and-false}
 use mathlib.Core.List.{List, [], ◌∷◌}
 use native.Mathlib.Omega.{arith}
-use native.Mathlib.Numerals.{add-one}
-use lib.Dec.{eqb}
-use lib.ListN.{length, get_or, drop, drop_of_length-le}
-use lib.Seq.{drop-cons}
+use lib.ListN.{length}
 use borrow.Author.Tests.{eq-eqb, ne_eqb}
+use Rattle.std.specs.List.{list_all}
 use Rattle.base.specs.Choice.{pick, all}
-use Rattle.base.specs.Bytes.{byte, digit, capital, same}
+use Rattle.base.specs.Bytes.{digit, capital}
 use Rattle.base.proofs.ByteLaws.{digit_range}
-use Rattle.fields.specs.Shapes.{shaped, pack, unpack, goes_on}
+use Rattle.fields.specs.Shapes.{shaped, pack, unpack}
 use Rattle.fields.proofs.PackLaws.{unpack_pack}
 use Rattle.records.specs.Found.{tag_number}
 use Rattle.records.specs.Rule19.{is_digits}
 
--- ---- a part that may stand behind the first
-pub goes_none : (p : List ℕ) → length p ≡ 0 → false ≡ goes_on p
-goes_none [] h = refl
-goes_none (x ∷ p) h = absurd (omega arith)
+-- ---- a test of every element, and of two things
+pub all_is : {A : Type 0} (t : A → Bool) (xs : List A) → all t xs ≡ list_all t xs
+all_is t [] = refl
+all_is t (x ∷ xs) = ap (λ (q : Bool). t x && q) (all_is t xs)
 
-pub goes_dash : (p : List ℕ) → byte p 0 ≡ 45 → false ≡ goes_on p
-goes_dash [] e = refl
-goes_dash (x ∷ p) e = rw (eq-eqb x 45 e)
+pub and_on : {r q a b : Bool} → q ≡ a → q ≡ true → r ≡ b → r ≡ (a && b)
+and_on {b = b} p h e = e ∙ sym (ap (λ (u : Bool). u && b) (sym p ∙ h))
 
-pub goes_last : (p : List ℕ) → (length p ≡ 0 → ⊥) → (byte p 0 ≡ 45 → ⊥) → not (eqb (byte p 0) 58) ≡ goes_on p
-goes_last [] h e = absurd (h refl)
-goes_last (x ∷ p) h e = rw (ne_eqb x 45 e)
-
--- ---- a test of every byte, from k on
-module _ (t : ℕ → Bool) (p : List ℕ) (k : ℕ) where
-  pub all_hit : k < length p → t (get_or p k 0) ≡ false → all t (drop k p) ≡ false
-  all_hit h e = rw (drop-cons p k 0, e)
-
-  pub all_miss : k < length p → t (get_or p k 0) ≡ true → all t (drop k p) ≡ all t (drop (k + 1) p)
-  all_miss h e = rw (add-one, drop-cons p k 0, e)
-
-  pub all_end : length p ≤ k → all t (drop k p) ≡ true
-  all_end h = rw (drop_of_length-le p h)
+pub and_off : {q a : Bool} (b : Bool) → q ≡ a → q ≡ false → q ≡ (a && b)
+and_off b p h = h ∙ sym (ap (λ (u : Bool). u && b) (sym p ∙ h))
 
 pub digits_size : (n : ℕ) (p : List ℕ) → (length p ≡ n → ⊥) → false ≡ is_digits n p
 unfolding is_digits
@@ -48,25 +33,6 @@ digits_size n p h = rw (ne_eqb (length p) n h)
 pub digits_all : {r : Bool} (n : ℕ) (p : List ℕ) → length p ≡ n → all digit p ≡ r → r ≡ is_digits n p
 unfolding is_digits
 digits_all n p h e = sym (ap (λ (q : Bool). q && all digit p) (eq-eqb (length p) n h) ∙ e)
-
--- ---- two bytes
-pub two_size : (p : List ℕ) (a b : ℕ) → (length p ≡ 2 → ⊥) → false ≡ same p (a ∷ b ∷ [])
-unfolding same
-two_size [] a b h = refl
-two_size (x ∷ []) a b h = sym (and-false (eqb x a))
-two_size (x ∷ y ∷ []) a b h = absurd (h refl)
-two_size (x ∷ y ∷ z ∷ p) a b h = go (eqb x a) (eqb y b)
-  where
-    go : (q r : Bool) → false ≡ (q && (r && false))
-    go true r = sym (and-false r)
-    go false r = refl
-
-pub two_bytes : {r : Bool} (p : List ℕ) (a b : ℕ) → length p ≡ 2 → r ≡ (eqb (byte p 0) a && eqb (byte p 1) b) → r ≡ same p (a ∷ b ∷ [])
-unfolding same
-two_bytes [] a b h e = absurd (omega arith)
-two_bytes (x ∷ []) a b h e = absurd (omega arith)
-two_bytes (x ∷ y ∷ []) a b h e = e ∙ ap (λ (q : Bool). eqb x a && q) (sym (and-true (eqb y b)))
-two_bytes (x ∷ y ∷ z ∷ p) a b h e = absurd (omega arith)
 
 -- ---- a tag as one number
 module _ (a b : ℕ) where
@@ -117,19 +83,6 @@ module _ (a b : ℕ) where
         go true true e = omega arith
         go true false e = absurd (z e)
         go false q e = absurd (z e)
-
-pub of_two : (t : List ℕ) → length t ≡ 2 → byte t 0 ∷ byte t 1 ∷ [] ≡ t
-of_two [] h = absurd (omega arith)
-of_two (x ∷ []) h = absurd (omega arith)
-of_two (x ∷ y ∷ []) h = refl
-of_two (x ∷ y ∷ z ∷ t) h = absurd (omega arith)
-
-pub of_three : (t : List ℕ) → length t ≡ 3 → byte t 0 ∷ byte t 1 ∷ byte t 2 ∷ [] ≡ t
-of_three [] h = absurd (omega arith)
-of_three (x ∷ []) h = absurd (omega arith)
-of_three (x ∷ y ∷ []) h = absurd (omega arith)
-of_three (x ∷ y ∷ z ∷ []) h = refl
-of_three (x ∷ y ∷ z ∷ w ∷ t) h = absurd (omega arith)
 
 pub tag_other : (t : List ℕ) → (length t ≡ 2 → ⊥) → (length t ≡ 3 → ⊥) → 0 ≡ tag_number t
 unfolding tag_number shaped digit

@@ -13,9 +13,13 @@ use Rattle.base.specs.Choice.{pick}
 use Rattle.base.specs.Bytes.{other, without, count_up_to}
 use Rattle.base.proofs.Bools.{left, right, isnt}
 use Rattle.base.proofs.MarkLaws.{up_within}
-use Rattle.fields.specs.Field.{onto}
-use Rattle.records.specs.Record.{pieces}
-use Rattle.records.specs.Found.{pieces_at}
+use Rattle.std.specs.Prelude.{Option, None, Some, IsSome}
+use Rattle.std.specs.Borrow.{Bor}
+use Rattle.std.specs.Iterator.{YieldsFirstRef}
+use Rattle.fields.specs.Field.{field, onto}
+use Rattle.records.specs.Record.{pieces, parted, record_of}
+use Rattle.records.specs.Found.{pieces_at, pieces_left}
+use Rattle.records.specs.declared.pieces.Pieces.{Pieces}
 
 module _ (c : ℕ) where
   -- ---- the first piece and the others
@@ -120,3 +124,40 @@ module _ (c : ℕ) where
 
 pub piece_length : (s : List ℕ) (i e : ℕ) → i ≤ e → e ≤ length s → length (take (e - i) (drop i s)) ≡ e - i
 piece_length s i e h l = length-take-le (e - i) (drop i s) (omega (arith, length-drop i s))
+
+-- ---- the piece from i on, and those behind it
+module _ (c : ℕ) (s : List ℕ) (i : ℕ) (l : List ℕ) {ls : List (List ℕ)} (w : pieces_at c s i ≡ l ∷ ls) where
+  pub starts_within : i ≤ length s
+  starts_within = go (dec_le i (length s))
+    where
+      go : Dec (i ≤ length s) → i ≤ length s
+      go (yes h) = h
+      go (no h) = let z = past_end c s i (omega arith) in absurd cc
+
+  parts_as : l ∷ ls ≡ take (i + count_up_to c (drop i s) - i) (drop i s) ∷ pieces_at c s (i + count_up_to c (drop i s) + 1)
+  parts_as = sym w ∙ pieces_at_lem c s i (i + count_up_to c (drop i s)) starts_within refl
+
+  pub piece_end : i + length l ≡ i + count_up_to c (drop i s)
+  piece_end =
+      let e : ℕ = i + count_up_to c (drop i s) in
+      let p : l ≡ take (e - i) (drop i s) = let z = parts_as in cc in
+      let n : length (take (e - i) (drop i s)) ≡ e - i = piece_length s i e (omega arith) (end_within c s i e starts_within refl) in
+      omega (arith, ap length p, n)
+
+  pub piece_within : i + length l ≤ length s
+  piece_within = end_within c s i (i + length l) starts_within piece_end
+
+  pub piece_this : take (i + length l - i) (drop i s) ≡ l
+  piece_this = let z = parts_as in let p : l ≡ take (i + count_up_to c (drop i s) - i) (drop i s) = cc in ap (λ (e : ℕ). take (e - i) (drop i s)) piece_end ∙ sym p
+
+  pub piece_behind : ls ≡ pieces_at c s (i + length l + 1)
+  piece_behind = let z = parts_as in let p : ls ≡ pieces_at c s (i + count_up_to c (drop i s) + 1) = cc in p ∙ sym (ap (λ (e : ℕ). pieces_at c s (e + 1)) piece_end)
+
+-- the first piece is there, and the tag of a record is the first
+pub first_there : (c : ℕ) (l : List ℕ) (s t : Pieces) (r : Option (Bor (List ℕ))) → pieces_left s ≡ pieces c l → YieldsFirstRef pieces_left s r t → IsSome r
+first_there c l s t None e y = absurd (some_piece c l (sym e ∙ y.0))
+first_there c l s t (Some x) e y = refl
+
+pub parted_is : (l : List ℕ) (s t : Pieces) {r : Option (Bor (List ℕ))} {x : Bor (List ℕ)} → pieces_left s ≡ pieces 9 l → YieldsFirstRef pieces_left s r t → r ≡ Some x → record_of l ≡ field x.now (pieces_left t)
+unfolding record_of
+parted_is l s t e y h = let z = rw h at y in ap parted (sym e ∙ z)

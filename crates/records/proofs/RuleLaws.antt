@@ -8,12 +8,12 @@ use native.Mathlib.Omega.{arith}
 use lib.Dec.{eqb}
 use lib.ListN.{length, length-append}
 use borrow.Author.Tests.{eqb-true}
+use Rattle.std.specs.Prelude.{Err}
 use Rattle.base.specs.Choice.{pick, all}
 use Rattle.base.specs.Bytes.{empty, same}
 use Rattle.base.specs.Quoted.{bytes}
 use Rattle.base.specs.Rules.{then}
-use Rattle.base.specs.declared.Verdict.{Verdict}
-use Rattle.base.specs.declared.Verdict.TheVariants.{Fine, Broken}
+use Rattle.base.specs.Verdicts.{Verdict, Fine, Broken}
 use Rattle.base.proofs.Bools.{left, right, both, isnt}
 use Rattle.base.proofs.ByteLaws.{same_is}
 use Rattle.base.proofs.RuleLaws.{fine_broken, then_fine, then_clean}
@@ -114,11 +114,11 @@ pub data Spot (form : Form) (g : Bool) (o : ℕ) (rs : List Record) (w : List �
 
 abbrev place_of : Verdict → ℕ
 place_of Fine = 0
-place_of (Broken n p) = p
+place_of (Err r) = r.place
 
 abbrev number_of : Verdict → ℕ
 number_of Fine = 0
-number_of (Broken n p) = n
+number_of (Err r) = r.number
 
 module _ (form : Form) (g : Bool) where
   pub from_fine : (o : ℕ) (rs : List Record) (w : List ℕ) → bad_from form g o rs w ≡ Fine → (all (good form g) rs ≡ true) × (w ≡ [])

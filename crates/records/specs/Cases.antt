@@ -2,7 +2,7 @@
 use Rattle.std.specs.Prelude.{ℕ, ◌≡◌, Bool, true, false, List, [], ◌∷◌, ◌++◌}
 use Prim.Native.String.{String}
 use Rattle.base.specs.Quoted.{desk}
-use Rattle.base.specs.declared.Verdict.TheVariants.{Fine, Broken}
+use Rattle.base.specs.Verdicts.{Fine, Broken}
 use Rattle.fields.specs.Field.{field}
 use Rattle.types.specs.Form.{form_of}
 use Rattle.records.specs.Record.{Record, sheet, records, rest}

@@ -4,8 +4,7 @@ use Rattle.base.specs.Choice.{pick, all}
 use Rattle.base.specs.Bytes.{byte, digit, begins, empty, same}
 use Rattle.base.specs.Quoted.{bytes, ascii}
 use Rattle.base.specs.Rules.{first}
-use Rattle.base.specs.declared.Verdict.{Verdict}
-use Rattle.base.specs.declared.Verdict.TheVariants.{Fine, Broken}
+use Rattle.base.specs.Verdicts.{Verdict, Fine, Broken}
 use Rattle.fields.specs.Field.{field}
 use Rattle.fields.specs.Shapes.{shaped, goes_on}
 use Rattle.types.specs.declared.Form.{Form}

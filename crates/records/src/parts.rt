@@ -1,16 +1,14 @@
 // The parts of a record: one by one, and by the shape of its tag.
 ghost use Rattle.std.specs.Prelude.{◌≡◌};
-ghost use Rattle.base.specs.Choice.{all};
 ghost use Rattle.fields.specs.Shapes.{goes_on};
-ghost use Rattle.types.specs.Sign.{first_line};
 ghost use Rattle.roles.specs.declared.Shape.TheVariants.{Payer, Payee};
 ghost use Rattle.records.specs.Record.{record_of};
-ghost use Rattle.records.specs.Found.{pieces_at};
-ghost use Rattle.records.specs.Rule19.{is_digits, general, sole, detailed, rpp_and_detailed, untaxed, sound, good};
+ghost use Rattle.records.specs.Found.{pieces_left};
+ghost use Rattle.records.specs.Rule19.{is_digits, general, sole, detailed, rpp_and_detailed, tax_part, untaxed, sound, good};
 
+use super::pieces::{Pieces, parted};
 use super::tags::tag_number;
 use base::bytes::is_digit;
-use base::marks::mark_at;
 use roles::Shape;
 use roles::clauses::is_inn;
 use roles::shapes::shape_of;
@@ -20,145 +18,79 @@ use types::Form;
 fn goes_on(p: &[u8]) -> bool
     ensures { result ≡ goes_on p.now }
 {
-    if p.len() == 0 {
-        return false;
-    }
-    if p[0] == b'-' {
-        return false;
-    }
-    p[0] != b':'
-}
-
-fn all_go_on(l: &[u8], from: usize) -> bool
-    ensures { result ≡ all goes_on (pieces_at 9 l.now from) }
-{
-    let mut i = from;
-    while i <= l.len() {
-        let e = mark_at(b'\t', l, i);
-        if !goes_on(&l[i..e]) {
-            return false;
-        }
-        i = e + 1;
-    }
-    true
-}
-
-// The parts from a place on meet the general rules.
-fn is_general(l: &[u8], i: usize) -> bool
-    ensures { result ≡ general (pieces_at 9 l.now i) }
-{
-    if l.len() < i {
-        return false;
-    }
-    let e = mark_at(b'\t', l, i);
-    if e == i {
-        return false;
-    }
-    all_go_on(l, e + 1)
-}
-
-// There is one part, and it is not empty.
-fn is_sole(l: &[u8], i: usize) -> bool
-    ensures { result ≡ sole (pieces_at 9 l.now i) }
-{
-    if l.len() < i {
-        return false;
-    }
-    let e = mark_at(b'\t', l, i);
-    if e == i {
-        return false;
-    }
-    e == l.len()
+    p.first().is_some_and(|b| *b != b'-' && *b != b':')
 }
 
 pub(crate) fn is_digits(n: usize, p: &[u8]) -> bool
     ensures { result ≡ is_digits n p.now }
 {
-    if p.len() != n {
-        return false;
-    }
-    let mut k = 0;
-    while k < p.len() {
-        if !is_digit(p[k]) {
-            return false;
-        }
-        k += 1;
-    }
-    true
+    p.len() == n && p.iter().all(|b| is_digit(*b))
 }
 
-fn is_detailed(l: &[u8], i: usize) -> bool
-    ensures { result ≡ detailed (pieces_at 9 l.now i) }
+// The parts meet the general rules.
+fn is_general(mut parts: Pieces) -> bool
+    ensures { result ≡ general (pieces_left parts.entry) }
 {
-    if l.len() < i {
-        return false;
-    }
-    let e = mark_at(b'\t', l, i);
-    if !is_digits(5, &l[i..e]) {
-        return false;
-    }
-    is_sole(l, e + 1)
+    parts.next().is_some_and(|p| !p.is_empty()) && parts.all(|p| goes_on(p))
 }
 
-fn is_rpp_and_detailed(l: &[u8], i: usize) -> bool
-    ensures { result ≡ rpp_and_detailed (pieces_at 9 l.now i) }
+// There is one part, and it is not empty.
+fn is_sole(mut parts: Pieces) -> bool
+    ensures { result ≡ sole (pieces_left parts.entry) }
 {
-    if l.len() < i {
-        return false;
-    }
-    let e = mark_at(b'\t', l, i);
-    is_detailed(l, e + 1)
+    parts.next().is_some_and(|p| !p.is_empty()) && parts.next().is_none()
 }
 
-// The part from a place on may stand in the tax place: it does not begin with Cyrillic INN and a digit.
-fn is_untaxed(sign: bool, l: &[u8], i: usize) -> bool
-    ensures { result ≡ untaxed sign (first_line (pieces_at 9 l.now i)) }
+fn is_detailed(mut parts: Pieces) -> bool
+    ensures { result ≡ detailed (pieces_left parts.entry) }
 {
-    if !sign {
-        return true;
-    }
-    if l.len() < i {
-        return true;
-    }
-    let e = mark_at(b'\t', l, i);
-    !is_inn(&l[i..e])
+    parts.next().is_some_and(|p| is_digits(5, p)) && is_sole(parts)
 }
 
-fn is_payer(sign: bool, l: &[u8], i: usize) -> bool
-    ensures { result ≡ sound sign Payer (pieces_at 9 l.now i) }
+fn is_rpp_and_detailed(mut parts: Pieces) -> bool
+    ensures { result ≡ rpp_and_detailed (pieces_left parts.entry) }
 {
-    if !is_general(l, i) {
-        return false;
-    }
-    let e = mark_at(b'\t', l, i);
-    if l[i] == b'/' {
-        return is_untaxed(sign, l, e + 1);
-    }
-    is_untaxed(sign, l, i)
+    parts.next().is_some() && is_detailed(parts)
 }
 
-fn is_payee(sign: bool, l: &[u8], i: usize) -> bool
-    ensures { result ≡ sound sign Payee (pieces_at 9 l.now i) }
+// The part in the tax place of a payer, empty where there is none: the one behind an account, or the first.
+fn payer_part(mut parts: Pieces<'_>) -> &[u8]
+    ensures { result.now ≡ tax_part Payer (pieces_left parts.entry) }
 {
-    if !is_general(l, i) {
-        return false;
+    let first = parts.next().unwrap_or(&[]);
+    if first.first() == Some(&b'/') {
+        parts.next().unwrap_or(&[])
+    } else {
+        first
     }
-    let e = mark_at(b'\t', l, i);
-    is_untaxed(sign, l, e + 1)
 }
 
-// The parts from a place on are right for the shape of their tag.
-fn is_sound(shape: Shape, sign: bool, l: &[u8], i: usize) -> bool
-    ensures { result ≡ sound sign shape (pieces_at 9 l.now i) }
+// The same of a payee: the second.
+fn payee_part(mut parts: Pieces<'_>) -> &[u8]
+    ensures { result.now ≡ tax_part Payee (pieces_left parts.entry) }
+{
+    parts.next();
+    parts.next().unwrap_or(&[])
+}
+
+// A part may stand in the tax place: it does not begin with Cyrillic INN and a digit.
+fn is_untaxed(sign: bool, part: &[u8]) -> bool
+    ensures { result ≡ untaxed sign part.now }
+{
+    !sign || !is_inn(part)
+}
+
+// The parts are right for the shape of their tag.
+fn is_sound(shape: Shape, sign: bool, parts: Pieces) -> bool
+    ensures { result ≡ sound sign shape (pieces_left parts.entry) }
 {
     match shape {
-        Shape::Plain => is_general(l, i),
-        Shape::Payer => is_payer(sign, l, i),
-        Shape::Payee => is_payee(sign, l, i),
-        Shape::Agent => is_general(l, i),
-        Shape::Details => is_detailed(l, i),
-        Shape::Note103 => is_sole(l, i),
-        Shape::Note202 => is_rpp_and_detailed(l, i),
+        Shape::Plain | Shape::Agent => is_general(parts),
+        Shape::Payer => is_general(parts) && is_untaxed(sign, payer_part(parts)),
+        Shape::Payee => is_general(parts) && is_untaxed(sign, payee_part(parts)),
+        Shape::Details => is_detailed(parts),
+        Shape::Note103 => is_sole(parts),
+        Shape::Note202 => is_rpp_and_detailed(parts),
     }
 }
 
@@ -166,10 +98,7 @@ fn is_sound(shape: Shape, sign: bool, l: &[u8], i: usize) -> bool
 pub(crate) fn is_good(form: Form, sign: bool, l: &[u8]) -> bool
     ensures { result ≡ good form sign (record_of l.now) }
 {
-    let t = mark_at(b'\t', l, 0);
-    let tag = tag_number(&l[..t]);
-    if tag == 0 {
-        return false;
-    }
-    is_sound(shape_of(form, tag), sign, l, t + 1)
+    let (t, parts) = parted(l);
+    let tag = tag_number(t);
+    tag != 0 && is_sound(shape_of(form, tag), sign, parts)
 }

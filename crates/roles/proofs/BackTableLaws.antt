@@ -7,18 +7,18 @@ use native.Mathlib.Omega.{arith}
 use lib.Dec.{eqb, ltb}
 use lib.ListN.{length, get_or, drop}
 use borrow.Author.Tests.{ne_eqb}
+use Rattle.std.specs.Prelude.{Some}
 use Rattle.types.specs.declared.Form.{Form}
 use Rattle.base.specs.Choice.{pick, all}
-use Rattle.base.specs.Bytes.{byte, digit, is_in, begins, empty, same, without}
+use Rattle.base.specs.Bytes.{byte, digit, is_in, begins, same, without}
 use Rattle.base.specs.Rules.{then}
 use Rattle.base.specs.Calls.{Answer, said, stuck, text_of}
-use Rattle.base.specs.declared.Verdict.TheVariants.{Broken}
+use Rattle.base.specs.Verdicts.{Broken}
 use Rattle.alphabets.specs.Bank.{reads, reading}
 use Rattle.alphabets.specs.Steps.{back_table}
-use Rattle.alphabets.specs.Pieces.{piece_in, whole, characters_from}
+use Rattle.std.specs.Prelude.{Ok, Err}
+use Rattle.alphabets.specs.Pieces.{Piece, Read, piece_in, whole, characters_from}
 use Rattle.alphabets.specs.Parts.{spoken as heard}
-use Rattle.alphabets.specs.declared.pieces.Piece.{Piece}
-use Rattle.alphabets.specs.declared.pieces.Piece.TheVariants.{Read, Stops}
 use Rattle.alphabets.proofs.PieceLaws.{reads_piece, characters_said}
 use Rattle.alphabets.proofs.SpokenLaws.{counted}
 use Rattle.fields.specs.Field.{Field, field}
@@ -35,7 +35,6 @@ use Rattle.roles.specs.Found.{mute_in, breaks_14_in, found, broken_in}
 use Rattle.roles.specs.Places.{verdict_at}
 use Rattle.roles.specs.declared.Shape.{Shape}
 use Rattle.roles.specs.declared.Shape.TheVariants.{Plain, Payer, Payee, Agent, Details, Note103, Note202}
-use Rattle.roles.specs.declared.Spot.TheVariants.{At}
 use Rattle.roles.proofs.BreachLaws.{first_clause, unheard_append, unheard_within, speeches_within}
 
 -- ---- the clauses look at four signs of a reading
@@ -68,13 +67,13 @@ pub mute_back : (b : List ℕ) → mute_in (piece_in back_table false b) ≡ mut
 mute_back b = go (piece_in back_table false b) (counted back_table false b) ∙ ap mute (sym (reads_piece false b))
   where
     go : (p : Piece) → ((n : ℕ) (z : Bool) → p ≡ Read n z → n ≡ length (heard back_table false b)) → mute_in p ≡ mute (whole (length b) p (heard back_table false b))
-    go (Stops k) h = refl
-    go (Read n true) h = refl
-    go (Read n false) h = by (heard back_table false b) (h n false refl)
+    go (Err k) h = refl
+    go (Ok p) h = side p.latin (heard back_table false b) p.units (h p.units p.latin refl)
       where
-        by : (u : List ℕ) → n ≡ length u → eqb n 0 ≡ empty u
-        by [] e = rw e
-        by (x ∷ u) e = ne_eqb n 0 (λ z. omega arith)
+        side : (z : Bool) (u : List ℕ) (n : ℕ) → n ≡ length u → (z || eqb n 0) ≡ mute (pick z (stuck (length b)) (said u))
+        side true u n e = refl
+        side false [] n e = rw e
+        side false (x ∷ u) n e = ne_eqb n 0 (λ z. omega arith)
 
 pub breaks_back : (m : Manner) (b : List ℕ) → breaks_14_in back_table m b ≡ breaks_14 m b
 unfolding breaks_14_in breaks_14
@@ -143,7 +142,7 @@ unfolding unheard found
 found_unheard o [] = refl
 found_unheard o (speech m p b ∷ xs) = ap (λ (q : Bool). pick q (Broken 14 (o + p)) (unheard (map (moved o) xs))) (sym (breaks_back m b)) ∙ go (breaks_14_in back_table m b) (found_unheard o xs)
   where
-    go : (q : Bool) → unheard (map (moved o) xs) ≡ verdict_at 14 o (found back_table xs) → pick q (Broken 14 (o + p)) (unheard (map (moved o) xs)) ≡ verdict_at 14 o (pick q (At p) (found back_table xs))
+    go : (q : Bool) → unheard (map (moved o) xs) ≡ verdict_at 14 o (found back_table xs) → pick q (Broken 14 (o + p)) (unheard (map (moved o) xs)) ≡ verdict_at 14 o (pick q (Some p) (found back_table xs))
     go true e = refl
     go false e = e
 
@@ -161,7 +160,7 @@ field_found form o t l ls e =
 
 -- the place found lies in the content, or just behind it
 pub spot_within : (form : Form) (t l : List ℕ) (ls : List (List ℕ)) (p : ℕ) → all (without 13) (l ∷ ls) ≡ true
-    → broken_in back_table form t (joined (l ∷ ls)) ≡ At p → p ≤ length (joined (l ∷ ls)) + 4
+    → broken_in back_table form t (joined (l ∷ ls)) ≡ Some p → p ≤ length (joined (l ∷ ls)) + 4
 spot_within form t l ls p e u =
     let n : ℕ = start_of 0 (field t (l ∷ ls)) in
     let z = joined_length l ls in

@@ -12,8 +12,8 @@ use Rattle.base.specs.Choice.{pick}
 use Rattle.base.specs.Bytes.{empty, begins}
 use Rattle.base.specs.Rules.{then}
 use Rattle.base.specs.Calls.{Answer, said, stuck, text_of}
-use Rattle.base.specs.declared.Verdict.TheVariants.{Fine, Broken}
-use Rattle.base.proofs.RuleLaws.{fine_broken}
+use Rattle.base.specs.Verdicts.{Fine, Broken}
+use Rattle.base.proofs.RuleLaws.{fine_broken, same_broken}
 use Rattle.alphabets.specs.Bank.{reading}
 use Rattle.fields.specs.Field.{Field, field, lined, lines_of}
 use Rattle.fields.specs.Places.{lines_size, next_of}
@@ -105,8 +105,8 @@ broken_first (speech m o b ∷ xs) n p e = go (breaks_14 m b) refl e (broken_fir
   where
     go : (q : Bool) → breaks_14 m b ≡ q → pick q (Broken 14 o) (unheard xs) ≡ Broken n p → (unheard xs ≡ Broken n p → (n ≡ 14) × FirstBreach xs p) → (n ≡ 14) × FirstBreach (speech m o b ∷ xs) p
     go true h e r =
-        let f : n ≡ 14 = cc in
-        let g : o ≡ p = cc in
+        let f : n ≡ 14 = sym (same_broken e).0 in
+        let g : o ≡ p = (same_broken e).1 in
         (f, record { before = []; after = xs; manner = m; text = b; list = ap (λ (k : ℕ). speech m k b ∷ xs) g; heard = tt; breach = breaks_breach m b h })
     go false h e r =
         let w : (n ≡ 14) × FirstBreach xs p = r e in
@@ -138,7 +138,7 @@ least [] a e n p w u = tt
 least (speech m q b ∷ xs) a e n p w u = go (breaks_14 m b) refl u (least xs q e n p w.1)
   where
     go : (t : Bool) → breaks_14 m b ≡ t → pick t (Broken 14 q) (unheard xs) ≡ Broken n p → (unheard xs ≡ Broken n p → NoneBefore p xs) → NoneBefore p (speech m q b ∷ xs)
-    go true h u r = let g : q ≡ p = cc in (λ z. omega arith, later xs q p e (omega arith) w.1)
+    go true h u r = let g : q ≡ p = (same_broken u).1 in (λ z. omega arith, later xs q p e (omega arith) w.1)
     go false h u r = (λ z. absurd (false≢true (sym h ∙ z)), r u)
 
 within_through : (xs : List Speech) (a e : ℕ) → Rising a e xs → a ≤ e
@@ -152,7 +152,7 @@ unheard_within [] a e n p w u = absurd (fine_broken n p u)
 unheard_within (speech m q b ∷ xs) a e n p w u = go (breaks_14 m b) u (unheard_within xs q e n p w.1)
   where
     go : (t : Bool) → pick t (Broken 14 q) (unheard xs) ≡ Broken n p → (unheard xs ≡ Broken n p → p ≤ e) → p ≤ e
-    go true u r = let g : q ≡ p = cc in omega (arith, within_through xs q e w.1)
+    go true u r = let g : q ≡ p = (same_broken u).1 in omega (arith, within_through xs q e w.1)
     go false u r = r u
 
 pub within_end : (xs : List Speech) (a e f : ℕ) → Rising a e xs → e ≤ f → Rising a f xs

@@ -1,11 +1,9 @@
 -- The tests of one line, byte by byte, and the clauses one after another. Assumes nothing.
-use Prim.Native.Nat.{ℕ, ◌<◌}
-use mathlib.Core.Path.{◌≡◌, refl, sym, ap₂, ◌∙◌}
-use mathlib.Core.Bool.{Bool, true, false, ◌&&◌, ◌||◌, or-false}
+use Prim.Native.Nat.{ℕ}
+use mathlib.Core.Path.{◌≡◌, refl}
+use mathlib.Core.Logic.{◌⊎◌, inl, inr}
+use mathlib.Core.Bool.{Bool, true, false, ◌&&◌, ◌||◌}
 use mathlib.Core.List.{List, [], ◌∷◌}
-use native.Mathlib.Omega.{arith}
-use lib.Dec.{eqb}
-use lib.ListN.{length}
 use borrow.Author.Tests.{ne_eqb}
 use Rattle.base.specs.Choice.{pick}
 use Rattle.base.specs.Bytes.{byte, is_in, begins}
@@ -41,15 +39,13 @@ tax_is t b = go (mute_in (piece_in t false b)) (hidden b (characters_from t 4 fa
     go false false true = refl
     go false false false = refl
 
--- ---- small steps of the code
-pub starts_none : (x : ℕ) (l : List ℕ) → length l ≡ 0 → false ≡ begins x l
-starts_none x [] e = refl
-starts_none x (y ∷ l) e = absurd (omega arith)
-
-pub starts_some : (x : ℕ) (l : List ℕ) → 0 < length l → eqb (byte l 0) x ≡ begins x l
-starts_some x [] h = absurd (omega arith)
-starts_some x (y ∷ l) h = refl
-
-pub in_last : (x : ℕ) → (x ≡ 47 → ⊥) → (x ≡ 58 → ⊥) → eqb x 45 ≡ is_in x (47 ∷ 58 ∷ 45 ∷ [])
+-- ---- the marks / : and -
+pub mark_in : (x : ℕ) → (x ≡ 45) ⊎ ((x ≡ 47) ⊎ (x ≡ 58)) → true ≡ is_in x (47 ∷ 58 ∷ 45 ∷ [])
 unfolding is_in
-in_last x a b = sym (ap₂ (λ (p q : Bool). p || (q || (eqb x 45 || false))) (ne_eqb x 47 a) (ne_eqb x 58 b) ∙ or-false (eqb x 45))
+mark_in x (inl p) = rw p
+mark_in x (inr (inl p)) = rw p
+mark_in x (inr (inr p)) = rw p
+
+pub mark_out : (x : ℕ) → ((x ≡ 45) ⊎ ((x ≡ 47) ⊎ (x ≡ 58)) → ⊥) → false ≡ is_in x (47 ∷ 58 ∷ 45 ∷ [])
+unfolding is_in
+mark_out x h = rw (ne_eqb x 45 (λ p. h (inl p)), ne_eqb x 47 (λ p. h (inr (inl p))), ne_eqb x 58 (λ p. h (inr (inr p))))

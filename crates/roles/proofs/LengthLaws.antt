@@ -1,15 +1,15 @@
 -- 21 over two contents, line by line. Assumes nothing.
-use Prim.Native.Nat.{ℕ, suc, ◌+◌, ◌*◌, ◌-◌, ◌≤◌, ◌<◌, min}
+use Prim.Native.Nat.{ℕ, suc, ◌+◌, ◌*◌, ◌≤◌, ◌<◌}
 use mathlib.Core.Path.{◌≡◌, refl, sym, ap, ap₂, ◌∙◌}
 use mathlib.Core.Bool.{Bool, true, false}
 use mathlib.Core.List.{List, [], ◌∷◌}
 use native.Mathlib.Omega.{arith}
 use lib.Dec.{eqb, ltb}
-use lib.ListN.{length, take, drop, length-append, length-take, length-drop}
+use lib.ListN.{length, take, drop, length-append, length-drop}
 use borrow.Author.Tests.{lt-ltb, le-ltb}
+use Rattle.std.specs.Prelude.{None, Some}
 use Rattle.base.specs.Choice.{pick}
 use Rattle.base.specs.Bytes.{count_up_to}
-use Rattle.base.proofs.MarkLaws.{up_rest}
 use Rattle.fields.specs.Field.{onto}
 use Rattle.fields.specs.Lines.{split, lines_in}
 use Rattle.base.specs.Examples.{AllHold}
@@ -19,29 +19,8 @@ use Rattle.contents.specs.Parts.{opens_rpp}
 use Rattle.roles.specs.Speech.{later_text, details_text}
 use Rattle.roles.specs.Found.{lines_past}
 use Rattle.roles.specs.Rule21.{most, size_70, size_72, over_from, over_most}
-use Rattle.roles.specs.declared.Spot.TheVariants.{Nowhere, At}
-use Rattle.roles.proofs.LineLaws.{past_none, past_some, past_at, lines_from, lines_head, head_size}
-use Rattle.roles.proofs.FoundLaws.{later_details, text_line, text_past}
-
--- ---- how many bytes a text has
--- from behind the end on there are none
-pub none_past : (c : List ℕ) (from front mark : ℕ) → length c < from → 0 ≡ length (details_text front mark (lines_in (drop from c)))
-none_past c from front mark h = sym (ap length (text_past c from front mark h))
-
--- the line from at on ends at e, its text begins at b
-module _ (c : List ℕ) (at d mark e b : ℕ) (q : e ≡ at + count_up_to 13 (drop at c)) (r : b ≡ at + min d (e - at)) (i : at ≤ length c) where
-  size_line : length (details_text d mark (lines_in (drop at c))) ≡ (e - b) + length (details_text mark mark (lines_past c e))
-  size_line =
-      let l : length (take (e - b) (drop b c)) ≡ e - b = omega (arith, length-take (e - b) (drop b c), length-drop b c, up_rest 13 c at i) in
-      ap length (text_line c at d mark e b q r) ∙ length-append (take (e - b) (drop b c)) (details_text mark mark (lines_past c e)) ∙ ap (λ (k : ℕ). k + length (details_text mark mark (lines_past c e))) l
-
-  pub size_last : length c ≤ e → length (details_text d mark (lines_in (drop at c))) ≡ e - b
-  size_last h =
-      let z : length (details_text mark mark (lines_past c e)) ≡ 0 = ap (λ (ls : List (List ℕ)). length (details_text mark mark ls)) (past_none c e h) in
-      omega (arith, size_line)
-
-  pub size_on_lem : (k : ℕ) → e < length c → k ≡ min (e + 2) (length c) → length (details_text d mark (lines_in (drop at c))) ≡ (e - b) + length (details_text mark mark (lines_in (drop k c)))
-  size_on_lem k h p = size_line ∙ ap (λ (ls : List (List ℕ)). (e - b) + length (details_text mark mark ls)) (past_at c e k h p)
+use Rattle.roles.proofs.LineLaws.{past_none, past_some, lines_from, lines_head, head_size}
+use Rattle.roles.proofs.FoundLaws.{later_details}
 
 -- what stands in 70 is a text without a front or a mark
 pub whole_70 : (c : List ℕ) → length (details_text 0 0 (lines_in (drop 0 c))) ≡ size_70 (lines_in c)
@@ -49,15 +28,15 @@ whole_70 c = ap length (sym (later_details 0 (lines_in c)))
 
 -- ---- over the two
 module _ (n at : ℕ) (c : List ℕ) where
-  over_by : (b : Bool) → ltb most (n + size_72 (lines_in (drop at c))) ≡ b → over_from n at (lines_in (drop at c)) ≡ pick b (At at) Nowhere
+  over_by : (b : Bool) → ltb most (n + size_72 (lines_in (drop at c))) ≡ b → over_from n at (lines_in (drop at c)) ≡ pick b (Some at) None
   over_by b e =
       let g = lines_from c at (at + count_up_to 13 (drop at c)) refl in
-      ap (over_from n at) g ∙ ap (λ (ls : List (List ℕ)). pick (ltb most (n + size_72 ls)) (At at) Nowhere) (sym g) ∙ ap (λ (q : Bool). pick q (At at) Nowhere) e
+      ap (over_from n at) g ∙ ap (λ (ls : List (List ℕ)). pick (ltb most (n + size_72 ls)) (Some at) None) (sym g) ∙ ap (λ (q : Bool). pick q (Some at) None) e
 
-  pub over_here : most < n + size_72 (lines_in (drop at c)) → At at ≡ over_from n at (lines_in (drop at c))
+  pub over_here : most < n + size_72 (lines_in (drop at c)) → Some at ≡ over_from n at (lines_in (drop at c))
   over_here h = sym (over_by true (lt-ltb most (n + size_72 (lines_in (drop at c))) h))
 
-  pub over_none : n + size_72 (lines_in (drop at c)) ≤ most → Nowhere ≡ over_from n at (lines_in (drop at c))
+  pub over_none : n + size_72 (lines_in (drop at c)) ≤ most → None ≡ over_from n at (lines_in (drop at c))
   over_none h = sym (over_by false (le-ltb most (n + size_72 (lines_in (drop at c))) h))
 
 -- 72: its first line ends at e
@@ -72,7 +51,7 @@ module _ (n : ℕ) (c : List ℕ) (e : ℕ) (q : e ≡ 0 + count_up_to 13 (drop 
   pub rpp_none : false ≡ opens_rpp (take e c) → over_from n 0 (lines_in (drop 0 c)) ≡ over_most n (lines_in c)
   rpp_none b = sym (rpp_by false b)
 
-  pub rpp_alone : true ≡ opens_rpp (take e c) → length c ≤ e → Nowhere ≡ over_most n (lines_in c)
+  pub rpp_alone : true ≡ opens_rpp (take e c) → length c ≤ e → None ≡ over_most n (lines_in c)
   rpp_alone b h = sym (rpp_by true b ∙ ap (over_from n (e + 2)) (past_none c e h))
 
   pub rpp_more : true ≡ opens_rpp (take e c) → e < length c → over_from n (e + 2) (lines_in (drop (e + 2) c)) ≡ over_most n (lines_in c)
@@ -85,21 +64,21 @@ unfolding later_text
 later_shorter mark [] = omega arith
 later_shorter mark (l ∷ ls) = omega (arith, length-append (drop mark l) (later_text mark ls), length-append l (later_text 0 ls), length-drop mark l, later_shorter mark ls)
 
-text_shorter : (front mark : ℕ) (ls : List (List ℕ)) → length (details_text front mark ls) ≤ size_70 ls
+pub text_shorter : (front mark : ℕ) (ls : List (List ℕ)) → length (details_text front mark ls) ≤ size_70 ls
 unfolding later_text
 text_shorter front mark [] = omega arith
 text_shorter front mark (l ∷ ls) = omega (arith, length-append (drop front l) (later_text mark ls), length-append l (later_text 0 ls), length-drop front l, later_shorter mark ls)
 
-from_short : (n o : ℕ) (ls : List (List ℕ)) → n + size_70 ls ≤ most → over_from n o ls ≡ Nowhere
+from_short : (n o : ℕ) (ls : List (List ℕ)) → n + size_70 ls ≤ most → over_from n o ls ≡ None
 from_short n o [] h = refl
-from_short n o (l ∷ ls) h = ap (λ (b : Bool). pick b (At o) Nowhere) (le-ltb most (n + size_72 (l ∷ ls)) (omega (arith, text_shorter 5 2 (l ∷ ls))))
+from_short n o (l ∷ ls) h = ap (λ (b : Bool). pick b (Some o) None) (le-ltb most (n + size_72 (l ∷ ls)) (omega (arith, text_shorter 5 2 (l ∷ ls))))
 
-pub over_short : (n : ℕ) (ls : List (List ℕ)) → n + size_70 ls ≤ most → over_most n ls ≡ Nowhere
+pub over_short : (n : ℕ) (ls : List (List ℕ)) → n + size_70 ls ≤ most → over_most n ls ≡ None
 unfolding over_most later_text
 over_short n [] h = refl
 over_short n (l ∷ ls) h = go (opens_rpp l)
   where
-    go : (b : Bool) → pick b (over_from n (length l + 2) ls) (over_from n 0 (l ∷ ls)) ≡ Nowhere
+    go : (b : Bool) → pick b (over_from n (length l + 2) ls) (over_from n 0 (l ∷ ls)) ≡ None
     go true = from_short n (length l + 2) ls (omega (arith, length-append l (later_text 0 ls)))
     go false = from_short n 0 (l ∷ ls) h
 

@@ -4,6 +4,7 @@ pub mod LineLaws
 pub mod ClauseLaws
 pub mod FoundLaws
 pub mod LengthLaws
+mod TextLaws
 pub mod OverTheorems
 pub mod BackTableLaws
 pub mod CastLaws

@@ -9,12 +9,12 @@ use native.Mathlib.Omega.{arith}
 use lib.Dec.{ltb}
 use lib.ListN.{length, length-append}
 use borrow.Author.Tests.{ltb-true, lt-ltb}
+use Rattle.std.specs.Prelude.{Err, Option, None, Some}
 use Rattle.base.specs.Choice.{pick}
 use Rattle.base.specs.Bytes.{same}
 use Rattle.base.specs.Examples.{AllHold}
 use Rattle.base.specs.Quoted.{bytes}
-use Rattle.base.specs.declared.Verdict.{Verdict}
-use Rattle.base.specs.declared.Verdict.TheVariants.{Fine, Broken}
+use Rattle.base.specs.Verdicts.{Verdict, Fine, Broken}
 use Rattle.base.proofs.ByteLaws.{same_is}
 use Rattle.base.proofs.RuleLaws.{fine_broken, same_broken}
 use Rattle.fields.specs.Field.{Field, field, tag_of, lined, lines_of}
@@ -27,8 +27,6 @@ use Rattle.contents.specs.Parts.{opens_rpp}
 use Rattle.roles.specs.Places.{verdict_at}
 use Rattle.roles.specs.Rule21.{most, size_72, over_from, over_most, of_first, bytes_in_70, rule_21}
 use Rattle.roles.specs.Sentences.{Rest, alone, behind_rpp, Over}
-use Rattle.roles.specs.declared.Spot.{Spot}
-use Rattle.roles.specs.declared.Spot.TheVariants.{Nowhere, At}
 
 -- ---- over the lines of a 72
 record OverIn (n : ℕ) (ls : List (List ℕ)) (q : ℕ) : Type 0 where
@@ -36,35 +34,35 @@ record OverIn (n : ℕ) (ls : List (List ℕ)) (q : ℕ) : Type 0 where
   has : Rest ls q rest
   many : most < n + size_72 rest
 
-nowhere_at : (q : ℕ) → Nowhere ≡ At q → ⊥
+nowhere_at : (q : ℕ) → None ≡ Some q → ⊥
 nowhere_at q e = let z : ◌≡◌ {A = ℕ} 0 1 = cc in omega arith
 
-same_at : {p q : ℕ} → At p ≡ At q → p ≡ q
+same_at : {p q : ℕ} → Some p ≡ Some q → p ≡ q
 same_at e = cc
 
-from_over : (n o : ℕ) (l : List ℕ) (ls : List (List ℕ)) (q : ℕ) → over_from n o (l ∷ ls) ≡ At q → (o ≡ q) × (most < n + size_72 (l ∷ ls))
+from_over : (n o : ℕ) (l : List ℕ) (ls : List (List ℕ)) (q : ℕ) → over_from n o (l ∷ ls) ≡ Some q → (o ≡ q) × (most < n + size_72 (l ∷ ls))
 from_over n o l ls q e = go (ltb most (n + size_72 (l ∷ ls))) refl e
   where
-    go : (b : Bool) → ltb most (n + size_72 (l ∷ ls)) ≡ b → pick b (At o) Nowhere ≡ At q → (o ≡ q) × (most < n + size_72 (l ∷ ls))
+    go : (b : Bool) → ltb most (n + size_72 (l ∷ ls)) ≡ b → pick b (Some o) None ≡ Some q → (o ≡ q) × (most < n + size_72 (l ∷ ls))
     go true g e = (same_at e, ltb-true most (n + size_72 (l ∷ ls)) g)
     go false g e = absurd (nowhere_at q e)
 
-over_in : (n : ℕ) (ls : List (List ℕ)) (q : ℕ) → over_most n ls ≡ At q → OverIn n ls q
+over_in : (n : ℕ) (ls : List (List ℕ)) (q : ℕ) → over_most n ls ≡ Some q → OverIn n ls q
 unfolding over_most
 over_in n [] q e = absurd (nowhere_at q e)
 over_in n (l ∷ ls) q e = go (opens_rpp l) refl ls e
   where
-    go : (b : Bool) → opens_rpp l ≡ b → (ks : List (List ℕ)) → pick b (over_from n (length l + 2) ks) (over_from n 0 (l ∷ ks)) ≡ At q → OverIn n (l ∷ ks) q
+    go : (b : Bool) → opens_rpp l ≡ b → (ks : List (List ℕ)) → pick b (over_from n (length l + 2) ks) (over_from n 0 (l ∷ ks)) ≡ Some q → OverIn n (l ∷ ks) q
     go false g ks e = let w = from_over n 0 l ks q e in rw (← w.0) (record { rest = l ∷ ks; has = alone l ks g; many = w.1 })
     go true g [] e = absurd (nowhere_at q e)
     go true g (k ∷ ks) e = let w = from_over n (length l + 2) k ks q e in rw (← w.0) (record { rest = k ∷ ks; has = behind_rpp l k ks g; many = w.1 })
 
-in_over : (n : ℕ) {ls rs : List (List ℕ)} {q : ℕ} → Rest ls q rs → most < n + size_72 rs → over_most n ls ≡ At q
+in_over : (n : ℕ) {ls rs : List (List ℕ)} {q : ℕ} → Rest ls q rs → most < n + size_72 rs → over_most n ls ≡ Some q
 unfolding over_most
 in_over n (alone l ls g) h =
-    ap (λ (b : Bool). pick b (over_from n (length l + 2) ls) (over_from n 0 (l ∷ ls))) g ∙ ap (λ (b : Bool). pick b (At 0) Nowhere) (lt-ltb most (n + size_72 (l ∷ ls)) h)
+    ap (λ (b : Bool). pick b (over_from n (length l + 2) ls) (over_from n 0 (l ∷ ls))) g ∙ ap (λ (b : Bool). pick b (Some 0) None) (lt-ltb most (n + size_72 (l ∷ ls)) h)
 in_over n (behind_rpp r l ls g) h =
-    ap (λ (b : Bool). pick b (over_from n (length r + 2) (l ∷ ls)) (over_from n 0 (r ∷ l ∷ ls))) g ∙ ap (λ (b : Bool). pick b (At (length r + 2)) Nowhere) (lt-ltb most (n + size_72 (l ∷ ls)) h)
+    ap (λ (b : Bool). pick b (over_from n (length r + 2) (l ∷ ls)) (over_from n 0 (r ∷ l ∷ ls))) g ∙ ap (λ (b : Bool). pick b (Some (length r + 2)) None) (lt-ltb most (n + size_72 (l ∷ ls)) h)
 
 -- the rest begins in the content
 rest_within : {ls rs : List (List ℕ)} {q : ℕ} → Rest ls q rs → q + 2 ≤ lines_size ls
@@ -75,15 +73,15 @@ rest_within (behind_rpp r l ls g) = omega arith
 abbrev over_72 : ℕ → ℕ → List Field → Verdict
 over_72 n o fs = of_first (bytes "72") Fine (λ s ls. verdict_at 21 s (over_most n ls)) o fs
 
-record Spotted (s : ℕ) (v : Spot) (k p : ℕ) : Type 0 where
+record Spotted (s : ℕ) (v : Option ℕ) (k p : ℕ) : Type 0 where
   at : ℕ
-  is : v ≡ At at
+  is : v ≡ Some at
   number : k ≡ 21
   place : p ≡ s + at
 
-spotted : (s : ℕ) (v : Spot) (k p : ℕ) → verdict_at 21 s v ≡ Broken k p → Spotted s v k p
-spotted s Nowhere k p e = absurd (fine_broken k p e)
-spotted s (At q) k p e = let w = same_broken e in record { at = q; is = refl; number = sym w.0; place = sym w.1 }
+spotted : (s : ℕ) (v : Option ℕ) (k p : ℕ) → verdict_at 21 s v ≡ Broken k p → Spotted s v k p
+spotted s None k p e = absurd (fine_broken k p e)
+spotted s (Some q) k p e = let w = same_broken e in record { at = q; is = refl; number = sym w.0; place = sym w.1 }
 
 over_says : (n o : ℕ) (fs : List Field) (k p : ℕ) → over_72 n o fs ≡ Broken k p → (k ≡ 21) × Over n o fs p
 over_says n o [] k p e = absurd (fine_broken k p e)
@@ -149,7 +147,7 @@ rule_21_fine fs = (λ e p w. fine_broken 21 p (sym e ∙ (rule_21_iff fs 21 p).1
   where
     go : (v : Verdict) → rule_21 Mt103 fs ≡ v → ((p : ℕ) → Over (bytes_in_70 fs) 5 fs p → ⊥) → v ≡ Fine
     go Fine e h = refl
-    go (Broken k p) e h = absurd (h p ((rule_21_iff fs k p).0 e).1)
+    go (Err r) e h = absurd (h r.place ((rule_21_iff fs r.number r.place).0 e).1)
 
 -- of no other type
 pub rule_21_other : (form : Form) (fs : List Field) (k p : ℕ) → rule_21 form fs ≡ Broken k p → form ≡ Mt103

@@ -1,8 +1,8 @@
 -- What a part is by its role, as code finds it; and parts from one on are cast as the first by its role and those behind by theirs. Assumes
 -- nothing.
 use Prim.Native.Nat.{ℕ}
-use mathlib.Core.Path.{◌≡◌, refl, sym, ap, ap₂, ◌∙◌}
-use mathlib.Core.Bool.{Bool, true, false, not, ◌&&◌}
+use mathlib.Core.Path.{◌≡◌, refl}
+use mathlib.Core.Bool.{Bool, true, false}
 use mathlib.Core.List.{List, [], ◌∷◌}
 use types.Run.{OneOf, miss}
 use denote.Enum.Declared.{tag_of}
@@ -10,29 +10,12 @@ use Rattle.base.specs.Choice.{pick}
 use Rattle.base.specs.Bytes.{begins}
 use Rattle.contents.specs.Tests.{looks_tax}
 use Rattle.roles.specs.Role.{Part, copy, name, tax_name, line_of, taxed, cast}
-use Rattle.roles.specs.Parts.{cast_by, is_name_by, next_role}
+use Rattle.roles.specs.Parts.{cast_by, next_role}
 use Rattle.roles.specs.declared.Role.{Role}
 use Rattle.roles.specs.declared.Role.TheVariants.{Copies, OfPayer, OfPayee, OfAgent, Taxed, Names}
 use Rattle.roles.specs.declared.Shape.{Shape}
 use Rattle.roles.specs.declared.Shape.TheVariants.{Plain, Payer, Payee, Agent, Details, Note103, Note202}
 use Rattle.roles.specs.contracts.Shape.{the_type}
-
-pub payer_slash : (p : List ℕ) → begins 47 p ≡ true → false ≡ is_name_by OfPayer p
-payer_slash p e = sym (ap (λ (b : Bool). not b && not (looks_tax p)) e)
-
-pub payer_tax : (p : List ℕ) {r : Bool} → begins 47 p ≡ false → r ≡ looks_tax p → not r ≡ is_name_by OfPayer p
-payer_tax p e f = ap not f ∙ sym (ap (λ (b : Bool). not b && not (looks_tax p)) e)
-
--- with the sign, and without it
-pub sign_off : (s : Bool) (role : Role) (p : List ℕ) → s ≡ false → false ≡ (s && is_name_by role p)
-sign_off s role p e = sym (ap (λ (b : Bool). b && is_name_by role p) e)
-
-pub sign_on : (s : Bool) (role to : Role) (p : List ℕ) {r : Bool} → s ≡ true → role ≡ to → r ≡ is_name_by to p → r ≡ (s && is_name_by role p)
-sign_on s role to p e f g = g ∙ sym (ap₂ (λ (b : Bool) (x : Role). b && is_name_by x p) e f)
-
--- behind a payer's first part
-pub payer_next : (role : Role) (p : List ℕ) (b : Bool) → role ≡ OfPayer → b ≡ begins 47 p → pick b Taxed Names ≡ next_role role p
-payer_next role p b e f = ap (λ (c : Bool). pick c Taxed Names) f ∙ sym (ap (λ (x : Role). next_role x p) e)
 
 -- ---- the parts as they are cast
 abbrev pub first_part : Role → List ℕ → Part

@@ -4,7 +4,7 @@ use Prim.Native.String.{String}
 use Rattle.types.specs.Form.{form_of}
 use Rattle.base.specs.Quoted.{bytes}
 use Rattle.base.specs.Calls.{stuck}
-use Rattle.base.specs.declared.Verdict.TheVariants.{Fine, Broken}
+use Rattle.base.specs.Verdicts.{Fine, Broken}
 use Rattle.alphabets.specs.Bank.{reading}
 use Rattle.fields.specs.Field.{Field}
 use Rattle.fields.specs.Cases.{of, texts}

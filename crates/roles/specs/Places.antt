@@ -1,11 +1,8 @@
 -- A place inside a content as a refusal of the message. Assumes nothing.
-use Rattle.std.specs.Prelude.{ℕ, ◌+◌}
-use Rattle.base.specs.declared.Verdict.{Verdict}
-use Rattle.base.specs.declared.Verdict.TheVariants.{Fine, Broken}
-use Rattle.roles.specs.declared.Spot.{Spot}
-use Rattle.roles.specs.declared.Spot.TheVariants.{Nowhere, At}
+use Rattle.std.specs.Prelude.{ℕ, ◌+◌, Option, None, Some}
+use Rattle.base.specs.Verdicts.{Verdict, Fine, Broken}
 
 -- the number of the refusal; the content starts at o
-abbrev pub verdict_at : ℕ → ℕ → Spot → Verdict
-verdict_at number o Nowhere = Fine
-verdict_at number o (At p) = Broken number (o + p)
+abbrev pub verdict_at : ℕ → ℕ → Option ℕ → Verdict
+verdict_at number o None = Fine
+verdict_at number o (Some p) = Broken number (o + p)

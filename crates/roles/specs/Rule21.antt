@@ -1,11 +1,10 @@
 -- 21: details of a 103 that run on into 72, of more bytes than they may have (N21, B7). What counts are the code and the text of 70 and the text of
 -- 72 as they stand; no mark, no tag, no line end, and not the RPP line. Assumes nothing.
-use Rattle.std.specs.Prelude.{ℕ, ◌+◌, List, [], ◌∷◌, ltb, length}
+use Rattle.std.specs.Prelude.{ℕ, ◌+◌, List, [], ◌∷◌, ltb, length, Option, None, Some}
 use Rattle.base.specs.Choice.{pick}
 use Rattle.base.specs.Bytes.{same}
 use Rattle.base.specs.Quoted.{bytes}
-use Rattle.base.specs.declared.Verdict.{Verdict}
-use Rattle.base.specs.declared.Verdict.TheVariants.{Fine}
+use Rattle.base.specs.Verdicts.{Verdict, Fine}
 use Rattle.fields.specs.Field.{Field, field}
 use Rattle.fields.specs.Places.{start_of, next_of}
 use Rattle.types.specs.declared.Form.{Form}
@@ -13,8 +12,6 @@ use Rattle.types.specs.declared.Form.TheVariants.{Other, Mt103, Mt202}
 use Rattle.contents.specs.Parts.{opens_rpp}
 use Rattle.roles.specs.Speech.{later_text, details_text, nzp_size, later_size}
 use Rattle.roles.specs.Places.{verdict_at}
-use Rattle.roles.specs.declared.Spot.{Spot}
-use Rattle.roles.specs.declared.Spot.TheVariants.{Nowhere, At}
 
 -- the most bytes of details that run on
 abbrev pub most : ℕ
@@ -30,13 +27,13 @@ abbrev pub size_72 : List (List ℕ) → ℕ
 size_72 ls = length (details_text nzp_size later_size ls)
 
 -- n bytes and the text of these lines, the first a /NZP/ line at o, are too many: the place is that line's
-abbrev pub over_from : ℕ → ℕ → List (List ℕ) → Spot
-over_from n o [] = Nowhere
-over_from n o (l ∷ ls) = pick (ltb most (n + size_72 (l ∷ ls))) (At o) Nowhere
+abbrev pub over_from : ℕ → ℕ → List (List ℕ) → Option ℕ
+over_from n o [] = None
+over_from n o (l ∷ ls) = pick (ltb most (n + size_72 (l ∷ ls))) (Some o) None
 
 -- the same of the lines of a 72, which may have an RPP line in front
-unfoldable pub over_most : ℕ → List (List ℕ) → Spot
-over_most n [] = Nowhere
+unfoldable pub over_most : ℕ → List (List ℕ) → Option ℕ
+over_most n [] = None
 over_most n (l ∷ ls) = pick (opens_rpp l) (over_from n (length l + 2) ls) (over_from n 0 (l ∷ ls))
 
 -- ---- over fields

@@ -1,35 +1,27 @@
 // The clauses of 14 for one name.
-ghost use Rattle.std.specs.Prelude.{◌≡◌, false, [], ◌∷◌};
+ghost use Rattle.std.specs.Prelude.{◌≡◌, false};
+ghost use Rattle.base.specs.Quoted.{bytes};
 ghost use Rattle.base.specs.Bytes.{is_in, begins};
 ghost use Rattle.alphabets.specs.Pieces.{piece_in};
 ghost use Rattle.roles.specs.Speech.{as_name, as_tax_name};
 ghost use Rattle.roles.specs.Rule14.{is_cyrillic_inn};
 ghost use Rattle.roles.specs.Found.{mute_in, breaks_14_in, line_breaks};
 
-use alphabets::pieces::{Piece, first_characters, read_piece};
+use alphabets::pieces::{first_characters, read_piece};
 use contents::lines::looks_tax;
 use contents::pieces::is_numbered;
 
 fn is_mark(b: u8) -> bool
-    ensures { result ≡ is_in b (47 ∷ 58 ∷ 45 ∷ []) }
+    ensures { result ≡ is_in b (bytes "/:-") }
 {
-    if b == 47 {
-        return true;
-    }
-    if b == 58 {
-        return true;
-    }
-    b == 45
+    matches!(b, b'/' | b':' | b'-')
 }
 
 // Whether a line begins with that byte.
 pub(crate) fn starts(c: u8, line: &[u8]) -> bool
     ensures { result ≡ begins c line.now }
 {
-    if line.len() == 0 {
-        return false;
-    }
-    line[0] == c
+    line.first() == Some(&c)
 }
 
 // No reading, or an empty one.
@@ -37,27 +29,15 @@ fn is_mute(back: &[u8; 256], text: &[u8]) -> bool
     ensures { result ≡ mute_in (piece_in back.now false text.now) }
 {
     match read_piece(back, false, text) {
-        Piece::Stops(_) => true,
-        Piece::Read { units, latin } => {
-            if latin {
-                return true;
-            }
-            units == 0
-        }
+        Ok(heard) => heard.latin || heard.units == 0,
+        Err(_) => true,
     }
 }
 
 pub(crate) fn breaks_name(back: &[u8; 256], name: &[u8]) -> bool
     ensures { result ≡ breaks_14_in back.now as_name name.now }
 {
-    if is_mute(back, name) {
-        return true;
-    }
-    if !starts(39, name) {
-        return false;
-    }
-    let f = first_characters(back, name);
-    is_mark(f[0])
+    is_mute(back, name) || starts(b'\'', name) && is_mark(first_characters(back, name)[0])
 }
 
 // INN in Cyrillic.
@@ -78,21 +58,17 @@ fn breaks_tax(back: &[u8; 256], name: &[u8]) -> bool
         return true;
     }
     let f = first_characters(back, name);
-    if looks_tax(&f) {
-        return true;
-    }
-    is_inn(&f)
+    looks_tax(&f) || is_inn(&f)
 }
 
 // A line from the tax place on: a tax line there is no text.
+// Stays: `tax`, here and in texts, says one thing, that the line stands in the tax place; an enum of two cases says no more.
 pub(crate) fn breaks_line(back: &[u8; 256], tax: bool, line: &[u8]) -> bool
     ensures { result ≡ line_breaks back.now tax line.now }
 {
-    if !tax {
-        return breaks_name(back, line);
+    if tax {
+        !looks_tax(line) && breaks_tax(back, line)
+    } else {
+        breaks_name(back, line)
     }
-    if looks_tax(line) {
-        return false;
-    }
-    breaks_tax(back, line)
 }

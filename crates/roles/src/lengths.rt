@@ -4,12 +4,10 @@ ghost use Rattle.fields.specs.Lines.{lines_in};
 ghost use Rattle.roles.specs.Speech.{details_text};
 ghost use Rattle.roles.specs.Rule21.{size_70, over_from, over_most};
 
-use super::Spot;
-use super::texts::cut_at;
+use super::lines::TextLines;
 use base::marks::mark_at;
 use contents::pieces::opens_rpp;
 use contents::whole::{LATER, NZP};
-use fields::lines::next_line;
 
 // The most bytes of details that run on.
 pub const MOST: usize = 210;
@@ -18,36 +16,26 @@ pub const MOST: usize = 210;
 fn text_size(c: &[u8], from: usize, front: usize, mark: usize) -> usize
     ensures { (result ≡ length (details_text front mark (lines_in (drop from c.now)))) × (result ≤ length c.now) }
 {
-    if c.len() < from {
-        return 0;
-    }
-    let mut at = from;
-    let mut d = front;
     let mut n = 0;
-    loop {
-        let e = mark_at(b'\r', c, at);
-        n += e - cut_at(at, d, e);
-        if c.len() <= e {
-            return n;
-        }
-        d = mark;
-        at = next_line(e, c.len());
+    for part in TextLines::new(c, from, front, mark) {
+        n += part.len();
     }
+    n
 }
 
 // The text of 72 from its /NZP/ line on, at a place, and what stands in 70.
-fn over_from(in70: &[u8], in72: &[u8], at: usize) -> Spot
+fn over_from(in70: &[u8], in72: &[u8], at: usize) -> Option<usize>
     ensures { result ≡ over_from (size_70 (lines_in in70.now)) at (lines_in (drop at in72.now)) }
 {
     let n = text_size(in70, 0, 0, 0) + text_size(in72, at, NZP, LATER);
     if n <= MOST {
-        return Spot::Nowhere;
+        return None;
     }
-    Spot::At(at)
+    Some(at)
 }
 
 // Whether the details in the contents of a 70 and a 72 are too many: where /NZP/ stands in 72 if they are.
-pub fn over_most(in70: &[u8], in72: &[u8]) -> Spot
+pub fn over_most(in70: &[u8], in72: &[u8]) -> Option<usize>
     ensures { result ≡ over_most (size_70 (lines_in in70.now)) (lines_in in72.now) }
 {
     let e = mark_at(b'\r', in72, 0);
@@ -55,7 +43,7 @@ pub fn over_most(in70: &[u8], in72: &[u8]) -> Spot
         return over_from(in70, in72, 0);
     }
     if in72.len() <= e {
-        return Spot::Nowhere;
+        return None;
     }
     over_from(in70, in72, e + 2)
 }

@@ -3,6 +3,7 @@
 
 pub mod clauses;
 pub mod lengths;
+mod lines;
 pub mod parts;
 pub mod shapes;
 pub mod texts;
@@ -29,11 +30,4 @@ pub enum Role {
     OfAgent,
     Taxed,
     Names,
-}
-
-// A place in a content: of the first text that breaks 14, or of the /NZP/ of 21.
-#[derive(Clone, Copy)]
-pub enum Spot {
-    Nowhere,
-    At(usize),
 }

@@ -1,37 +1,29 @@
 // What a part is by its role, and what the parts behind it are.
 ghost use Rattle.std.specs.Prelude.{◌≡◌, ◌&&◌};
-ghost use Rattle.roles.specs.declared.Role.TheVariants.{OfPayer};
 ghost use Rattle.roles.specs.Parts.{is_name_by, next_role, first_role};
 
 use super::clauses::starts;
 use super::{Role, Shape};
 use contents::lines::looks_tax;
 
-// A payer's first part is an account, or stands in the tax place.
-fn is_payer_name(p: &[u8]) -> bool
-    ensures { result ≡ is_name_by OfPayer p.now }
+// Whether a part is a name. A payer's first part is an account, or stands in the tax place.
+fn is_name(role: Role, p: &[u8]) -> bool
+    ensures { result ≡ is_name_by role p.now }
 {
-    if starts(47, p) {
-        return false;
+    match role {
+        Role::Copies | Role::OfAgent => false,
+        Role::OfPayer => !starts(b'/', p) && !looks_tax(p),
+        Role::OfPayee => !starts(b'/', p),
+        Role::Taxed => !looks_tax(p),
+        Role::Names => true,
     }
-    !looks_tax(p)
 }
 
 // Whether a part is a name that the sign makes a text of.
 pub fn is_spoken(sign: bool, role: Role, p: &[u8]) -> bool
     ensures { result ≡ (sign && is_name_by role p.now) }
 {
-    if !sign {
-        return false;
-    }
-    match role {
-        Role::Copies => false,
-        Role::OfPayer => is_payer_name(p),
-        Role::OfPayee => !starts(47, p),
-        Role::OfAgent => false,
-        Role::Taxed => !looks_tax(p),
-        Role::Names => true,
-    }
+    sign && is_name(role, p)
 }
 
 // What the parts behind this one are.
@@ -40,16 +32,9 @@ pub fn next_role(role: Role, p: &[u8]) -> Role
 {
     match role {
         Role::Copies => Role::Copies,
-        Role::OfPayer => {
-            if starts(47, p) {
-                return Role::Taxed;
-            }
-            Role::Names
-        }
+        Role::OfPayer if starts(b'/', p) => Role::Taxed,
         Role::OfPayee => Role::Taxed,
-        Role::OfAgent => Role::Names,
-        Role::Taxed => Role::Names,
-        Role::Names => Role::Names,
+        Role::OfPayer | Role::OfAgent | Role::Taxed | Role::Names => Role::Names,
     }
 }
 
@@ -58,12 +43,9 @@ pub fn first_role(shape: Shape) -> Role
     ensures { result ≡ first_role shape }
 {
     match shape {
-        Shape::Plain => Role::Copies,
+        Shape::Plain | Shape::Details | Shape::Note103 | Shape::Note202 => Role::Copies,
         Shape::Payer => Role::OfPayer,
         Shape::Payee => Role::OfPayee,
         Shape::Agent => Role::OfAgent,
-        Shape::Details => Role::Copies,
-        Shape::Note103 => Role::Copies,
-        Shape::Note202 => Role::Copies,
     }
 }

@@ -12,24 +12,23 @@ fn shape_for(content: Content) -> Shape
     ensures { result ≡ shape_for content }
 {
     match content {
-        Content::Unknown => Shape::Plain,
-        Content::Reference => Shape::Plain,
-        Content::Related => Shape::Plain,
-        Content::Operation => Shape::Plain,
-        Content::Purpose => Shape::Plain,
-        Content::Payment => Shape::Plain,
         Content::Payer => Shape::Payer,
-        Content::BankByBic => Shape::Plain,
+        Content::Beneficiary | Content::BeneficiaryBank => Shape::Payee,
         Content::BankByName => Shape::Agent,
-        Content::OwnAccount => Shape::Plain,
-        Content::AccountAndBic => Shape::Plain,
-        Content::BeneficiaryBank => Shape::Payee,
-        Content::Beneficiary => Shape::Payee,
         Content::Details => Shape::Details,
-        Content::Charges => Shape::Plain,
         Content::DocumentAndRest => Shape::Note103,
         Content::DocumentAndDetails => Shape::Note202,
-        Content::Regulatory => Shape::Plain,
+        Content::Unknown
+        | Content::Reference
+        | Content::Related
+        | Content::Operation
+        | Content::Purpose
+        | Content::Payment
+        | Content::BankByBic
+        | Content::OwnAccount
+        | Content::AccountAndBic
+        | Content::Charges
+        | Content::Regulatory => Shape::Plain,
     }
 }
 

@@ -1,32 +1,17 @@
--- `records::parts::is_digits` meets its contract: from k on as from the start. Assumes nothing.
-use mathlib.Core.Path.{refl, sym, ◌∙◌}
-use native.Mathlib.Omega.{arith}
+-- `records::parts::is_digits` meets its contract. Assumes nothing.
+use mathlib.Core.Path.{sym, ◌∙◌}
+use borrow.Author.Tests.{ne_eqb}
+use Rattle.std.proofs.Common.{rules, tests}
+use Rattle.std.proofs.lemmas.Iterator.{YieldsList-from_slice}
+use Rattle.std.proofs.lemmas.Iterator.Search.{all_from_yields_List}
 use Rattle.base.specs.Bytes.{digit}
-use Rattle.records.proofs.PartLaws.{all_hit, all_miss, all_end, digits_size, digits_all}
+use Rattle.records.proofs.PartLaws.{all_is, digits_size, digits_all}
 use Rattle.records.proofs.parts.is_digits.Goals as goal
 
 pub returns-then-p-n : goal.returns-then-p-n
-returns-then-p-n c = digits_size c.args.n c.args.p.now c.if-p-n.true
+returns-then-p-n c = let p = c.args.p.now in
+    digits_all c.args.n p c.if-p-n.true
+    (all_is digit p ∙ sym (all_from_yields_List digit _ _ _ c.all.ensures.ran (YieldsList-from_slice p c.iter.ensures.rest) (λ x b q k. search (rules, tests))))
 
-pub loop-k-init : goal.loop-k-init
-loop-k-init c = (c.if-p-n.false, refl)
-
-pub bounds-p-k : goal.bounds-p-k
-bounds-p-k c = omega arith
-
-pub returns-then-not-is_digit : goal.returns-then-not-is_digit
-returns-then-not-is_digit c = let a = c.args in
-    digits_all a.n a.p.now c.loop-k.invariant.0 (c.loop-k.invariant.1 ∙ all_hit digit a.p.now c.loop-k.k c.loop-k-test.true (sym c.is_digit.ensures ∙ c.if-not-is_digit.true))
-
-pub overflow_add-k : goal.overflow_add-k
-overflow_add-k c = omega arith
-
-pub loop-k-smaller : goal.loop-k-smaller
-loop-k-smaller c = omega arith
-
-pub loop-k-preserved : goal.loop-k-preserved
-loop-k-preserved c = let a = c.args in
-    (c.loop-k.invariant.0, c.loop-k.invariant.1 ∙ all_miss digit a.p.now c.loop-k.k c.loop-k-test.true (sym c.is_digit.ensures ∙ c.if-not-is_digit.false))
-
-pub returns : goal.returns
-returns c = let a = c.args in digits_all a.n a.p.now c.loop-k.invariant.0 (c.loop-k.invariant.1 ∙ all_end digit a.p.now c.loop-k.k c.loop-k-test.false)
+pub returns-else-p-n : goal.returns-else-p-n
+returns-else-p-n c = ne_eqb _ _ c.if-p-n.false ∙ digits_size c.args.n c.args.p.now c.if-p-n.false

@@ -1,52 +1,28 @@
 -- `records::sheets::bad_record` meets its contract: from each record on as from the start. Assumes nothing.
-use Prim.Native.Nat.{◌≤◌}
-use mathlib.Core.Path.{refl, sym, ◌∙◌}
+use mathlib.Core.Path.{refl, ap, sym, ◌∙◌}
 use native.Mathlib.Omega.{arith}
-use borrow.Author.Rules.{rules}
-use lib.ListN.{length}
-use Rattle.records.proofs.PieceLaws.{end_within}
-use Rattle.records.proofs.WalkLaws.{bad_last, bad_hit, bad_miss, bad_end}
+use Rattle.base.proofs.Flags.{pick_eq, pick_ne}
+use Rattle.records.specs.Found.{pieces_left}
+use Rattle.records.proofs.PieceLaws.{piece_within, piece_behind}
+use Rattle.records.proofs.WalkLaws.{sized_empty, bad_on, bad_off, bad_done}
+use Rattle.records.proofs.sheets.bad_record.Goals.{then-end-s, else-end-s}
 use Rattle.records.proofs.sheets.bad_record.Goals as goal
 
-pub loop-at-init : goal.loop-at-init
-loop-at-init c = (search rules, refl)
+pub loop-l-init : goal.loop-l-init
+loop-l-init c = (omega arith, ap pieces_left c.into_iter-l-iterator.ensures.into_iter_gives ∙ c.new-l-items.ensures, refl)
 
-pub returns-then-e-s : goal.returns-then-e-s
-returns-then-e-s c = let a = c.args in
-    bad_last a.s.now c.loop-at.at c.mark_at-e.result c.loop-at.invariant.0 c.mark_at-e.ensures a.form a.sign c.loop-at-test.true c.if-e-s.true ∙ sym c.loop-at.invariant.1
-
-pub slice_bounds-is_good-count : goal.slice_bounds-is_good-count
-slice_bounds-is_good-count c = omega arith
-
-pub slice_bounds-is_good-start : goal.slice_bounds-is_good-start
-slice_bounds-is_good-start c =
-    let within : c.mark_at-e.result ≤ length c.args.s.now = let a = c.args in end_within 10 a.s.now c.loop-at.at c.mark_at-e.result c.loop-at.invariant.0 c.mark_at-e.ensures in
-    omega (arith, within)
-
-pub slice_bounds-is_good-end : goal.slice_bounds-is_good-end
-slice_bounds-is_good-end c =
-    let within : c.mark_at-e.result ≤ length c.args.s.now = let a = c.args in end_within 10 a.s.now c.loop-at.at c.mark_at-e.result c.loop-at.invariant.0 c.mark_at-e.ensures in
-    omega (arith, within)
-
-pub returns-then-not-is_good : goal.returns-then-not-is_good
-returns-then-not-is_good c = let a = c.args in
-    bad_hit a.s.now c.loop-at.at c.mark_at-e.result c.loop-at.invariant.0 c.mark_at-e.ensures a.form a.sign c.if-e-s.false (sym c.is_good.ensures ∙ c.if-not-is_good.true) ∙ sym c.loop-at.invariant.1
+pub returns-then-not-fine : goal.returns-then-not-fine
+returns-then-not-fine c = bad_off c.args.s.now c.loop-l.at c.args.form c.args.sign (sym c.loop-l.invariant.1 ∙ c.in-Some.ensures.steps) (elim c.if-end-s.branch [ then-end-s w ↦ pick_eq _ refl w.if-end-s.true (w.fine-is ∙ w.is_empty-fine.ensures ∙ sized_empty c.in-Some.l.now) | else-end-s w ↦ pick_ne _ refl w.if-end-s.false (w.fine-is ∙ w.is_good-fine.ensures) ]) c.if-not-fine.true ∙ sym c.loop-l.invariant.2
 
 pub overflow_add-at : goal.overflow_add-at
 overflow_add-at c =
-    let within : c.mark_at-e.result ≤ length c.args.s.now = let a = c.args in end_within 10 a.s.now c.loop-at.at c.mark_at-e.result c.loop-at.invariant.0 c.mark_at-e.ensures in
-    omega (arith, within)
+    let w = piece_within 10 c.args.s.now c.loop-l.at c.in-Some.l.now (sym c.loop-l.invariant.1 ∙ c.in-Some.ensures.steps) in
+    omega (arith, w)
 
-pub loop-at-smaller : goal.loop-at-smaller
-loop-at-smaller c =
-    let within : c.mark_at-e.result ≤ length c.args.s.now = let a = c.args in end_within 10 a.s.now c.loop-at.at c.mark_at-e.result c.loop-at.invariant.0 c.mark_at-e.ensures in
-    omega (arith, within, c.mark_at-e.ensures, c.loop-at-test.true)
-
-pub loop-at-preserved : goal.loop-at-preserved
-loop-at-preserved c =
-    let within : c.mark_at-e.result ≤ length c.args.s.now = let a = c.args in end_within 10 a.s.now c.loop-at.at c.mark_at-e.result c.loop-at.invariant.0 c.mark_at-e.ensures in
-    let a = c.args in
-    (omega (arith, within, c.if-e-s.false), c.loop-at.invariant.1 ∙ bad_miss a.s.now c.loop-at.at c.mark_at-e.result c.loop-at.invariant.0 c.mark_at-e.ensures a.form a.sign c.if-e-s.false (sym c.is_good.ensures ∙ c.if-not-is_good.false))
+pub loop-l-preserved : goal.loop-l-preserved
+loop-l-preserved c =
+    let w = piece_within 10 c.args.s.now c.loop-l.at c.in-Some.l.now (sym c.loop-l.invariant.1 ∙ c.in-Some.ensures.steps) in
+    (omega (arith, w), piece_behind 10 c.args.s.now c.loop-l.at c.in-Some.l.now (sym c.loop-l.invariant.1 ∙ c.in-Some.ensures.steps), c.loop-l.invariant.2 ∙ bad_on c.args.s.now c.loop-l.at c.args.form c.args.sign (sym c.loop-l.invariant.1 ∙ c.in-Some.ensures.steps) (elim c.if-end-s.branch [ then-end-s w ↦ pick_eq _ refl w.if-end-s.true (w.fine-is ∙ w.is_empty-fine.ensures ∙ sized_empty c.in-Some.l.now) | else-end-s w ↦ pick_ne _ refl w.if-end-s.false (w.fine-is ∙ w.is_good-fine.ensures) ]) c.if-not-fine.false)
 
 pub returns : goal.returns
-returns c = let a = c.args in bad_end a.s.now c.loop-at.at a.form a.sign c.loop-at.invariant.0 c.loop-at-test.false ∙ sym c.loop-at.invariant.1
+returns c = bad_done c.args.s.now c.loop-l.at c.args.form c.args.sign (sym c.loop-l.invariant.1 ∙ c.in-None.ensures.steps.0) ∙ sym c.loop-l.invariant.2

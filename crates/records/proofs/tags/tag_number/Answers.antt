@@ -1,14 +1,10 @@
 -- `records::tags::tag_number` meets its contract: by the tag's length. Assumes nothing.
-use mathlib.Core.Path.{ap, ◌∙◌}
-use Rattle.records.specs.Found.{tag_number}
-use Rattle.records.proofs.PartLaws.{of_two, of_three, tag_other}
+use native.Mathlib.Omega.{arith}
+use Rattle.records.proofs.PartLaws.{tag_other}
 use Rattle.records.proofs.tags.tag_number.Goals as goal
 
-pub returns-then-t-eq2 : goal.returns-then-t-eq2
-returns-then-t-eq2 c = c.two_digits.ensures ∙ ap tag_number (of_two c.args.t.now c.if-t-eq2.true)
+pub returns-in_default : goal.returns-in_default
+returns-in_default c = let h = c.in_default.len_below in tag_other c.args.t.now (λ e. omega (arith, h, e)) (λ e. omega (arith, h, e))
 
-pub returns-then-t-eq3 : goal.returns-then-t-eq3
-returns-then-t-eq3 c = c.with_capital.ensures ∙ ap tag_number (of_three c.args.t.now c.if-t-eq3.true)
-
-pub returns : goal.returns
-returns c = tag_other c.args.t.now c.if-t-eq2.false c.if-t-eq3.false
+pub returns-in_default-2 : goal.returns-in_default-2
+returns-in_default-2 c = let h = c.in_default.len_at_least in tag_other c.args.t.now (λ e. omega (arith, h, e)) (λ e. omega (arith, h, e))

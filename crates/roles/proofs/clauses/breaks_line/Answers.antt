@@ -3,14 +3,14 @@ use Rattle.base.proofs.Flags.{flags}
 use Rattle.roles.specs.Found.{line_breaks}
 use Rattle.roles.proofs.clauses.breaks_line.Goals as goal
 
-pub returns-then-not-tax : goal.returns-then-not-tax
+pub returns-then-not-looks_tax : goal.returns-then-not-looks_tax
 unfolding line_breaks
-returns-then-not-tax c = search flags depth 9
+returns-then-not-looks_tax c = search flags depth 9
 
-pub returns-then-looks_tax : goal.returns-then-looks_tax
+pub returns-else-not-looks_tax : goal.returns-else-not-looks_tax
 unfolding line_breaks
-returns-then-looks_tax c = search flags depth 9
+returns-else-not-looks_tax c = search flags depth 9
 
-pub returns : goal.returns
+pub returns-else-tax : goal.returns-else-tax
 unfolding line_breaks
-returns c = search flags depth 9
+returns-else-tax c = search flags depth 9

@@ -12,8 +12,9 @@ returns-then-breaks_name c = let a = c.args in pick_yes _ c.breaks_name.ensures 
 
 pub returns-then-looks_tax : goal.returns-then-looks_tax
 returns-then-looks_tax c = let a = c.args in
-    pick_no true c.breaks_name.ensures c.if-breaks_name.false (pick_yes _ (c.looks_tax.ensures ∙ ap looks_tax c.first_characters-f.ensures) c.if-looks_tax.true refl) ∙ tax_is a.back.now a.name.now
+    c.if-looks_tax.true
+    ∙ pick_no true c.breaks_name.ensures c.if-breaks_name.false (pick_yes _ (c.looks_tax.ensures ∙ ap looks_tax c.first_characters-f.ensures) c.if-looks_tax.true refl) ∙ tax_is a.back.now a.name.now
 
-pub returns : goal.returns
-returns c = let a = c.args in
+pub returns-else-looks_tax : goal.returns-else-looks_tax
+returns-else-looks_tax c = let a = c.args in
     pick_no true c.breaks_name.ensures c.if-breaks_name.false (pick_no true (c.looks_tax.ensures ∙ ap looks_tax c.first_characters-f.ensures) c.if-looks_tax.false (c.is_inn.ensures ∙ ap is_cyrillic_inn c.first_characters-f.ensures)) ∙ tax_is a.back.now a.name.now
