@@ -8,13 +8,15 @@ use native.Mathlib.Omega.{arith}
 use lib.Count.{ones}
 use lib.ListN.{length, take, drop, get_or-append}
 use lib.Seq.{drop_at}
+use Rattle.std.specs.Prelude.{Result, Ok, Err, Option, None, Some}
+use Rattle.base.specs.declared.Refusal.{Refusal}
+use Rattle.message.specs.declared.Accepted.{Accepted}
 use Rattle.base.specs.Rules.{first, Clean, FirstOf}
 use Rattle.base.specs.Bits.{bit}
 use Rattle.base.specs.Bytes.{byte, empty}
 use Rattle.base.specs.Calls.{short, over, room}
-use Rattle.base.specs.declared.Verdict.{Verdict}
-use Rattle.base.specs.declared.Verdict.TheVariants.{Fine, Broken}
-use Rattle.base.proofs.RuleLaws.{then_clean, first_last, first_clean, accepted_iff, refused_iff}
+use Rattle.base.specs.Verdicts.{Verdict, Fine, Broken, Refused, answered}
+use Rattle.base.proofs.RuleLaws.{as_broken, then_clean, first_last, first_clean, accepted_iff, refused_iff}
 use Rattle.base.proofs.CallLaws.{one_answer, short_within}
 use Rattle.fields.specs.Field.{fields}
 use Rattle.fields.specs.Places.{listed}
@@ -23,16 +25,12 @@ use Rattle.types.specs.declared.Form.{Form}
 use Rattle.types.specs.Form.{places_of}
 use Rattle.types.specs.Walk.{present}
 use Rattle.types.proofs.WordLaws.{present_iff, ones_before}
-use Rattle.message.specs.declared.Checked.{Checked}
-use Rattle.message.specs.declared.Checked.TheVariants.{Accepted, Refused}
 use Rattle.message.specs.declared.Span.{Span}
-use Rattle.message.specs.declared.Span.TheVariants.{Part, Nothing}
 use Rattle.frame.specs.Frame.{word_of}
 use Rattle.message.specs.Message.{message_rules, verdict_of}
-use Rattle.message.specs.Lists.{part_at}
-use Rattle.message.specs.declared.Amount.{Amount}
+use Rattle.message.specs.Lists.{part_at, Part}
 use Rattle.message.specs.declared.Day.{Day}
-use Rattle.message.specs.Calls.{check_rules, checked_by, Checks, Listed, span_by, span_of, part_of, content_of, amount_of, day_of}
+use Rattle.message.specs.Calls.{check_rules, Checks, Listed, span_by, span_of, part_of, content_of, amount_of, day_of, counted}
 use Rattle.message.proofs.PartLaws.{content_some}
 use Rattle.frame.proofs.CallLaws.{taken}
 use Rattle.message.proofs.VerdictTheorems.{frame_clean}
@@ -40,17 +38,17 @@ use Rattle.message.proofs.SpanLaws.{listed_part, part_absent, part_listed}
 use Rattle.types.specs.Sentences.{place_of_field, Present}
 
 -- ---- any two outcomes are equal, lent units counted
-pub checks_one : {form : Form} {m list : List ℕ} {r s : Checked} {a b : List ℕ} → Checks form m list r a → Checks form m list s b → (r ≡ s) × (a ≡ b)
+pub checks_one : {form : Form} {m list : List ℕ} {r s : Result Accepted Refusal} {a b : List ℕ} → Checks form m list r a → Checks form m list s b → (r ≡ s) × (a ≡ b)
 checks_one p q = (one_answer p.answers q.answers, one_answer p.leaves q.leaves)
 
-pub span_one : (form : Form) (m : List ℕ) (place : ℕ) {r s : Span} → r ≡ span_of form m place → s ≡ span_of form m place → r ≡ s
+pub span_one : (form : Form) (m : List ℕ) (place : ℕ) {r s : Option Span} → r ≡ span_of form m place → s ≡ span_of form m place → r ≡ s
 span_one form m place p q = one_answer p q
 
 -- ---- the call that fills the list
-same_refused : {n p k q : ℕ} → Refused n p ≡ Refused k q → Broken n p ≡ Broken k q
-same_refused {n} {p} {k} {q} e = let a : n ≡ k = cc in let b : p ≡ q = cc in ap₂ Broken a b
+same_counted : {n w k v : ℕ} → ◌≡◌ {A = Result Accepted Refusal} (Ok (counted n w)) (Ok (counted k v)) → (n ≡ k) × (w ≡ v)
+same_counted {n} {w} {k} {v} e = let z : counted n w ≡ counted k v = cc in (ap (λ (a : Accepted). a.fields) z, ap (λ (a : Accepted). a.present) z)
 
-not_both : (n w k p : ℕ) → Accepted n w ≡ Refused k p → ⊥
+not_both : (n w k p : ℕ) → ◌≡◌ {A = Result Accepted Refusal} (Ok (counted n w)) (Refused k p) → ⊥
 not_both n w k p e = let z : ◌≡◌ {A = ℕ} 0 1 = cc in omega arith
 
 module _ (form : Form) (m list : List ℕ) where
@@ -76,38 +74,39 @@ module _ (form : Form) (m list : List ℕ) where
         behind = ap (drop (3 * length (fields m))) l ∙ drop_at (listed 5 (fields m)) (drop (length (listed 5 (fields m))) list) (3 * length (fields m)) n ∙ ap (λ (k : ℕ). drop k list) n;
       }
 
-  module _ {r : Checked} {after : List ℕ} (g : Checks form m list r after) where
-    pub checks_accepted : {n w : ℕ} → r ≡ Accepted n w → Listed form m list n w after
+  module _ {r : Result Accepted Refusal} {after : List ℕ} (g : Checks form m list r after) where
+    pub checks_accepted : {n w : ℕ} → r ≡ Ok (counted n w) → Listed form m list n w after
     checks_accepted {n} {w} q = go (first (check_rules form m list)) refl (sym q ∙ g.answers) g.leaves
       where
-        go : (v : Verdict) → first (check_rules form m list) ≡ v → Accepted n w ≡ checked_by v (length (fields m)) (word_of form m) → after ≡ room v (listed 5 (fields m)) list
+        go : (v : Verdict) → first (check_rules form m list) ≡ v → Ok (counted n w) ≡ answered v (counted (length (fields m)) (word_of form m)) → after ≡ room v (listed 5 (fields m)) list
             → Listed form m list n w after
         go Fine e a l =
-            let x : length (fields m) ≡ n = cc in
-            let y : word_of form m ≡ w = cc in
+            let s = same_counted a in
+            let x : length (fields m) ≡ n = sym s.0 in
+            let y : word_of form m ≡ w = sym s.1 in
             subst (λ (k : ℕ). Listed form m list k w after) x (subst (λ (k : ℕ). Listed form m list (length (fields m)) k after) y (fine_listed after e l))
-        go (Broken k p) e a l = absurd (not_both n w k p a)
+        go (Err r) e a l = absurd (not_both n w r.number r.place a)
 
     -- a refused call leaves the list
     pub checks_refused : {n p : ℕ} → r ≡ Refused n p → FirstOf (check_rules form m list) n p × (after ≡ list)
     checks_refused {n} {p} q = go (first (check_rules form m list)) refl (sym q ∙ g.answers) g.leaves
       where
-        go : (v : Verdict) → first (check_rules form m list) ≡ v → Refused n p ≡ checked_by v (length (fields m)) (word_of form m) → after ≡ room v (listed 5 (fields m)) list
+        go : (v : Verdict) → first (check_rules form m list) ≡ v → Refused n p ≡ answered v (counted (length (fields m)) (word_of form m)) → after ≡ room v (listed 5 (fields m)) list
             → FirstOf (check_rules form m list) n p × (after ≡ list)
         go Fine e a l = absurd (not_both (length (fields m)) (word_of form m) n p (sym a))
-        go (Broken k j) e a l = ((refused_iff (check_rules form m list) n p).0 (e ∙ sym (same_refused a)), l)
+        go (Err r) e a l = ((refused_iff (check_rules form m list) n p).0 (e ∙ as_broken a), l)
 
     -- accepted exactly if no rule is broken, and refused exactly by the first that is
-    pub checks_accepts : (r ≡ Accepted (length (fields m)) (word_of form m)) ↔ Clean (check_rules form m list)
+    pub checks_accepts : (r ≡ Ok (counted (length (fields m)) (word_of form m))) ↔ Clean (check_rules form m list)
     checks_accepts = (
       λ q. (checks_accepted q).clean,
-      λ c. g.answers ∙ ap (λ (v : Verdict). checked_by v (length (fields m)) (word_of form m)) ((accepted_iff (check_rules form m list)).1 c),
+      λ c. g.answers ∙ ap (λ (v : Verdict). answered v (counted (length (fields m)) (word_of form m))) ((accepted_iff (check_rules form m list)).1 c),
     )
 
     pub checks_refuses : (n p : ℕ) → (r ≡ Refused n p) ↔ FirstOf (check_rules form m list) n p
     checks_refuses n p = (
       λ q. (checks_refused q).0,
-      λ f. g.answers ∙ ap (λ (v : Verdict). checked_by v (length (fields m)) (word_of form m)) ((refused_iff (check_rules form m list) n p).1 f),
+      λ f. g.answers ∙ ap (λ (v : Verdict). answered v (counted (length (fields m)) (word_of form m))) ((refused_iff (check_rules form m list) n p).1 f),
     )
 
 -- ---- the part of a place
@@ -125,27 +124,27 @@ module _ (form : Form) (m : List ℕ) (place : ℕ) where
   pub span_listed : verdict_of form m ≡ Fine → (k : ℕ) → k < length (fields m) → place_of_field (places_of form) (fields m) k ≡ place → span_of form m place ≡ listed_part (listed 5 (fields m)) k
   span_listed e k h q = clean_span e ∙ part_listed (places_of form) 0 5 (fields m) k place (taken form m (frame_clean form m e)).right h q
 
-  not_nothing : (s t : ℕ) → Part s t ≡ Nothing → ⊥
+  not_nothing : (s t : ℕ) → Part s t ≡ None → ⊥
   not_nothing s t e = let z : ◌≡◌ {A = ℕ} 0 1 = cc in omega arith
 
   -- and nothing exactly if there is none
-  pub span_nothing : (span_of form m place ≡ Nothing) ↔ Without form m place
+  pub span_nothing : (span_of form m place ≡ None) ↔ Without form m place
   unfolding span_of
   span_nothing = (λ e. go (verdict_of form m) refl e, back)
     where
-      go : (v : Verdict) → verdict_of form m ≡ v → span_of form m place ≡ Nothing → Without form m place
+      go : (v : Verdict) → verdict_of form m ≡ v → span_of form m place ≡ None → Without form m place
       go Fine q e = absent (λ p. not_nothing _ _ (sym (span_listed q p.number p.within p.place) ∙ e))
-      go (Broken n p) q e = refused n p q
+      go (Err r) q e = refused r.number r.place q
 
       none : (b : Bool) → present (places_of form) (fields m) place ≡ b → (Present (places_of form) (fields m) place → ⊥) → b ≡ false
       none true q h = absurd (h ((present_iff (places_of form) (fields m) place).0 q))
       none false q h = refl
 
-      at : (v : Verdict) → verdict_of form m ≡ v → (Present (places_of form) (fields m) place → ⊥) → span_of form m place ≡ Nothing
+      at : (v : Verdict) → verdict_of form m ≡ v → (Present (places_of form) (fields m) place → ⊥) → span_of form m place ≡ None
       at Fine q h = clean_span q ∙ part_absent (places_of form) place 5 (fields m) (none (present (places_of form) (fields m) place) refl h)
-      at (Broken n p) q h = ap (λ (v : Verdict). span_by v (part_at (places_of form) place 5 (fields m))) q
+      at (Err r) q h = ap (λ (v : Verdict). span_by v (part_at (places_of form) place 5 (fields m))) q
 
-      back : Without form m place → span_of form m place ≡ Nothing
+      back : Without form m place → span_of form m place ≡ None
       back (refused n p q) = ap (λ (v : Verdict). span_by v (part_at (places_of form) place 5 (fields m))) q
       back (absent h) = at (verdict_of form m) refl h
 
@@ -172,9 +171,9 @@ pub content_empty : (form : Form) (m : List ℕ) (place : ℕ) → (content_of f
 unfolding content_of
 content_empty form m place = (λ e. (span_nothing form m place).0 (go (span_of form m place) refl e), λ w. ap (part_of m) ((span_nothing form m place).1 w))
   where
-    go : (s : Span) → span_of form m place ≡ s → part_of m s ≡ [] → span_of form m place ≡ Nothing
-    go Nothing q e = q
-    go (Part a b) q e = absurd (true≢false (sym (ap empty (ap (part_of m) q ∙ e)) ∙ content_some form m place (λ z. not_nothing form m place a b (sym q ∙ z))))
+    go : (s : Option Span) → span_of form m place ≡ s → part_of m s ≡ [] → span_of form m place ≡ None
+    go None q e = q
+    go (Some p) q e = absurd (true≢false (sym (ap empty (ap (part_of m) q ∙ e)) ∙ content_some form m place (λ z. not_nothing form m place p.start p.end (sym q ∙ z))))
 
 -- and else the part between the start and the end that the list has for that place
 pub content_listed : {form : Form} {m list : List ℕ} {n w : ℕ} {after : List ℕ} → Listed form m list n w after → (place : ℕ) → bit w place ≡ 1
@@ -183,8 +182,8 @@ unfolding content_of
 content_listed {m = m} l place b = ap (part_of m) (span_agrees l place b)
 
 -- ---- kopecks and date
-pub amount_one : (form : Form) (m : List ℕ) {r s : Amount} → r ≡ amount_of form m → s ≡ amount_of form m → r ≡ s
+pub amount_one : (form : Form) (m : List ℕ) {r s : Result ℕ Refusal} → r ≡ amount_of form m → s ≡ amount_of form m → r ≡ s
 amount_one form m p q = one_answer p q
 
-pub day_one : (form : Form) (m : List ℕ) {r s : Day} → r ≡ day_of form m → s ≡ day_of form m → r ≡ s
+pub day_one : (form : Form) (m : List ℕ) {r s : Result Day Refusal} → r ≡ day_of form m → s ≡ day_of form m → r ≡ s
 day_one form m p q = one_answer p q

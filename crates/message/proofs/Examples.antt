@@ -7,8 +7,7 @@ use lib.ListN.{length}
 use Rattle.base.specs.Examples.{AllHold, ◌also◌}
 use Rattle.base.specs.Quoted.{bytes}
 use Rattle.base.specs.Rules.{then}
-use Rattle.base.specs.declared.Verdict.{Verdict}
-use Rattle.base.specs.declared.Verdict.TheVariants.{Fine, Broken}
+use Rattle.base.specs.Verdicts.{Verdict, Fine, Broken, answered}
 use Rattle.base.specs.Calls.{long, short, over, room}
 use Rattle.base.specs.Bytes.{is_in, digit, capital, letter, marks, shared, xset, same}
 use Rattle.fields.specs.Field.{Field, message, body, cut_lines, upto, past, grouped, fields}
@@ -47,10 +46,9 @@ use Rattle.alphabets.specs.Grid as alphabets_grid
 use Rattle.alphabets.specs.Bank.{reads}
 use Rattle.alphabets.specs.Best.{latin_next, best, bad}
 use Rattle.alphabets.proofs.Back.{reads_best}
-use Rattle.message.specs.declared.Checked.TheVariants as checked
-use Rattle.message.specs.declared.Amount.TheVariants as amount
-use Rattle.message.specs.declared.Day.TheVariants as day
-use Rattle.message.specs.Calls.{checked_by, answer_of, left_of, span_by, span_of, part_of, content_of, paid, amount_by, amount_of, day_split, day_by, day_of}
+use Rattle.message.specs.declared.Day.{Day}
+use Rattle.std.specs.Prelude.{Ok, Option}
+use Rattle.message.specs.Calls.{answer_of, left_of, span_by, span_of, part_of, content_of, paid, amount_of, day_split, day_of, counted, on}
 use Rattle.message.specs.Cases.{Case, accepts, refuses, narrow, spans, shows, lent, Holds, signed_202, cases}
 use Rattle.message.proofs.CheckLaws.{last_17}
 
@@ -58,7 +56,7 @@ use Rattle.message.proofs.CheckLaws.{last_17}
 abbrev place_32A : Form → ℕ
 place_32A form = find (places_of form) (bytes "32A")
 
-abbrev part_for : Verdict → Form → List ℕ → ℕ → Span
+abbrev part_for : Verdict → Form → List ℕ → ℕ → Option Span
 part_for v form m place = span_by v (part_at (places_of form) place 5 (fields m))
 
 abbrev paid_for : Form → List ℕ → List ℕ
@@ -67,8 +65,8 @@ paid_for form m = part_of m (part_for Fine form m (place_32A form))
 abbrev Computed : Case → Type 0
 Computed (accepts kind s fs w ps k y m d) =
     (verdict_of (form_of kind) (bytes s) ≡ Fine) × (fields (bytes s) ≡ fs) × (message fs ≡ bytes s) × (word (places_of (form_of kind)) fs ≡ w) × (short (listed 5 fs) (lent (length ps + 2)) ≡ Fine)
-    × (over (listed 5 fs) (lent (length ps + 2)) ≡ ps ++ 9 ∷ 9 ∷ []) × (amount.Is (kopecks_of (paid_for (form_of kind) (bytes s))) ≡ amount.Is k)
-    × (day_split (date_of (paid_for (form_of kind) (bytes s))) ≡ day.On y m d)
+    × (over (listed 5 fs) (lent (length ps + 2)) ≡ ps ++ 9 ∷ 9 ∷ []) × (kopecks_of (paid_for (form_of kind) (bytes s)) ≡ k)
+    × (day_split (date_of (paid_for (form_of kind) (bytes s))) ≡ on y m d)
 Computed (refuses kind s n number place) = verdict_of (form_of kind) (bytes s) ≡ Broken number place
 Computed (narrow kind s n needed) = (verdict_of (form_of kind) (bytes s) ≡ Fine) × (short (listed 5 (fields (bytes s))) (lent n) ≡ Broken 17 needed)
 Computed (spans kind s place part) = (v : Verdict) × (verdict_of (form_of kind) (bytes s) ≡ v) × (part_for v (form_of kind) (bytes s) place ≡ part)
@@ -84,17 +82,17 @@ module _ (form : Form) (m : List ℕ) {v : Verdict} (e : verdict_of form m ≡ v
   unfolding content_of
   content_by_lem place = ap (part_of m) (span_by_lem place)
 
-  amount_by_lem : amount_of form m ≡ amount_by v (kopecks_of (part_of m (part_for v form m (place_32A form))))
+  amount_by_lem : amount_of form m ≡ answered v (kopecks_of (part_of m (part_for v form m (place_32A form))))
   unfolding amount_of paid
-  amount_by_lem = ap₂ (λ (u : Verdict) (c : List ℕ). amount_by u (kopecks_of c)) e (content_by_lem (place_32A form))
+  amount_by_lem = ap₂ (λ (u : Verdict) (c : List ℕ). answered u (kopecks_of c)) e (content_by_lem (place_32A form))
 
-  day_by_lem : day_of form m ≡ day_by v (date_of (part_of m (part_for v form m (place_32A form))))
+  day_by_lem : day_of form m ≡ answered v (day_split (date_of (part_of m (part_for v form m (place_32A form)))))
   unfolding day_of paid
-  day_by_lem = ap₂ (λ (u : Verdict) (c : List ℕ). day_by u (date_of c)) e (content_by_lem (place_32A form))
+  day_by_lem = ap₂ (λ (u : Verdict) (c : List ℕ). answered u (day_split (date_of c))) e (content_by_lem (place_32A form))
 
   module _ (list : List ℕ) {w : Verdict} (h : short (listed 5 (fields m)) list ≡ w) where
-    answer_by : answer_of form m list ≡ checked_by (then v w) (length (fields m)) (word_of form m)
-    answer_by = ap (λ (u : Verdict). checked_by u (length (fields m)) (word_of form m)) (last_17 form m list e h)
+    answer_by : answer_of form m list ≡ answered (then v w) (counted (length (fields m)) (word_of form m))
+    answer_by = ap (λ (u : Verdict). answered u (counted (length (fields m)) (word_of form m))) (last_17 form m list e h)
 
     left_by : left_of form m list ≡ room (then v w) (listed 5 (fields m)) list
     left_by = ap (λ (u : Verdict). room u (listed 5 (fields m)) list) (last_17 form m list e h)
@@ -105,10 +103,10 @@ case_holds (accepts kind s fs w ps k y m d) (e, f, g, h, i, j, a, b) =
     let q : short (listed 5 (fields (bytes s))) list ≡ Fine = ap (λ (x : List Field). short (listed 5 x) list) f ∙ i in (
       f,
       g,
-      answer_by (form_of kind) (bytes s) e list q ∙ ap₂ checked.Accepted (ap length f) (ap (word (places_of (form_of kind))) f ∙ h),
+      answer_by (form_of kind) (bytes s) e list q ∙ ap₂ (λ (n x : ℕ). Ok (counted n x)) (ap length f) (ap (word (places_of (form_of kind))) f ∙ h),
       left_by (form_of kind) (bytes s) e list q ∙ ap (λ (x : List Field). over (listed 5 x) list) f ∙ j,
-      amount_by_lem (form_of kind) (bytes s) e ∙ a,
-      day_by_lem (form_of kind) (bytes s) e ∙ b,
+      amount_by_lem (form_of kind) (bytes s) e ∙ ap (λ (n : ℕ). Ok n) a,
+      day_by_lem (form_of kind) (bytes s) e ∙ ap (λ (x : Day). Ok x) b,
     )
 case_holds (refuses kind s n number place) e =
     (answer_by (form_of kind) (bytes s) e (lent n) refl, left_by (form_of kind) (bytes s) e (lent n) refl, amount_by_lem (form_of kind) (bytes s) e, day_by_lem (form_of kind) (bytes s) e)

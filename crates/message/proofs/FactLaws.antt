@@ -1,18 +1,19 @@
 -- What 9 to 13 need of the fields, found field by field, comes to those rules. Assumes nothing.
-use Prim.Native.Nat.{ℕ, zero, suc, ◌+◌, ◌-◌, ◌≤◌}
+use Prim.Native.Nat.{ℕ, ◌≤◌}
+use Rattle.std.specs.Prelude.{Option, None, Some, IfSome, is_some}
+use Rattle.std.specs.Option.{option_or}
+use Rattle.std.specs.Bool.{then_some}
 use mathlib.Core.Path.{◌≡◌, refl, sym, ap, ap₂, ◌∙◌}
-use mathlib.Core.Bool.{Bool, true, false, not, ◌&&◌, ◌||◌, or-false, and-false}
+use mathlib.Core.Bool.{Bool, true, false, ◌&&◌, ◌||◌, or-false, and-false}
 use mathlib.Core.List.{List, [], ◌∷◌}
 use native.Mathlib.Omega.{arith}
-use lib.Dec.{eqb}
 use lib.ListN.{length}
-use borrow.Author.Tests.{eq-eqb, ne_eqb}
+use borrow.Author.Tests.{ne_eqb}
 use Rattle.base.specs.Choice.{pick}
 use Rattle.base.specs.Bytes.{same}
 use Rattle.base.specs.Quoted.{bytes}
 use Rattle.base.specs.Rules.{then, first}
-use Rattle.base.specs.declared.Verdict.{Verdict}
-use Rattle.base.specs.declared.Verdict.TheVariants.{Fine, Broken}
+use Rattle.base.specs.Verdicts.{Verdict, Fine, Broken}
 use Rattle.base.proofs.RuleLaws.{then_fine, fine_broken}
 use Rattle.fields.specs.Field.{Field, field, tag_of}
 use Rattle.fields.specs.Places.{start_of, next_of}
@@ -25,85 +26,61 @@ use Rattle.contents.specs.declared.Content.{Content}
 use Rattle.values.specs.declared.Finds.{Finds}
 use Rattle.values.specs.Values.{ValueKind, tag, Value, place_of, kind_of, values_of, values_in}
 use Rattle.values.specs.Judged.{first_bad, has, no_day, foreign, bik_differs, has_tag, has_kpp, kpp_in, is_56, is_57, is_26T, is_77B, tags_56, tags_57, rule_9, rule_10, rule_11, rule_12, rule_13}
-use Rattle.values.specs.Answers.{fault_of, answered}
+use Rattle.values.specs.Answers.{fault_of, fault_verdict}
 use Rattle.values.specs.Steps.{finds}
 use Rattle.values.proofs.JudgedLaws.{Ordered, none, next}
 use Rattle.values.proofs.ValueLaws.{values_order}
 use Rattle.values.proofs.StepLaws.{among_two, first_field, first_tag, has_tag_lem, has_kpp_lem, rule_11_by, rule_13_by}
 use Rattle.message.specs.declared.facts.Facts.{Facts}
-use Rattle.message.specs.Facts.{or_else, within, place_if, kpp_at, as_verdict, nothing_yet, with_tag, with_finds, Unmarked, values_for, with_field, facts_from, open_bank, tax_rule, value_rules}
+use Rattle.message.specs.Facts.{within, place_if, kpp_at, as_verdict, nothing_yet, with_tag, with_finds, Unmarked, values_for, with_field, facts_from, open_bank, tax_rule, value_rules}
 
 -- ---- places
-pub else_old : {a : ℕ} (b : ℕ) → (a ≡ 0 → ⊥) → a ≡ or_else a b
-unfolding or_else
-else_old {a = zero} b h = absurd (h refl)
-else_old {a = suc a} b h = refl
-
-pub else_new : {a : ℕ} (b : ℕ) → a ≡ 0 → b ≡ or_else a b
-unfolding or_else
-else_new {a = zero} b e = refl
-else_new {a = suc a} b e = absurd (omega arith)
-
-pub fault_none : {a k : ℕ} (s : ℕ) → a ≡ 0 → k ≡ 0 → 0 ≡ or_else a (within s k)
-unfolding within
-fault_none {a = a} {k = zero} s e z = else_new 0 e
-fault_none {a = a} {k = suc k} s e z = absurd (omega arith)
-
-pub fault_some : {a k : ℕ} (s : ℕ) → a ≡ 0 → (k ≡ 0 → ⊥) → s + k ≡ or_else a (within s k)
-unfolding within
-fault_some {a = a} {k = zero} s e h = absurd (h refl)
-fault_some {a = a} {k = suc k} s e h = let z : s + suc k ≡ suc (s + k) = omega arith in z ∙ else_new (suc (s + k)) e
-
-pub colon_is : {a r : ℕ} (hit : Bool) (o : ℕ) → a ≡ 0 → r ≡ pick hit (o + 1) 0 → r ≡ or_else a (place_if hit o)
+-- a place that is made by a test
+pub place_made : (b : Bool) (o : ℕ) {r : Option ℕ} → r ≡ then_some b o → r ≡ place_if b o
 unfolding place_if
-colon_is true o e q = let z : o + 1 ≡ suc o = omega arith in q ∙ z ∙ else_new (suc o) e
-colon_is false o e q = q ∙ else_new 0 e
-
-pub verdict_some : (number : ℕ) {p : ℕ} → (p ≡ 0 → ⊥) → Broken number (p - 1) ≡ as_verdict number p
-verdict_some number {p = zero} h = absurd (h refl)
-verdict_some number {p = suc p} h = let z : suc p - 1 ≡ p = omega arith in ap (Broken number) z
+place_made true o e = e
+place_made false o e = e
 
 -- a content's faults stand in it
-fault_within : (bad : ValueKind → Bool) {o e : ℕ} {vs : List Value} → Ordered o vs e → fault_of bad vs ≤ suc e
+fault_within : (bad : ValueKind → Bool) {o e : ℕ} {vs : List Value} → Ordered o vs e → IfSome (fault_of bad vs) (λ p. p ≤ e)
 unfolding fault_of
-fault_within bad (none h) = omega arith
+fault_within bad (none h) = tt
 fault_within bad {e = e} (next {v = v} {vs = vs} h r) = go (bad (kind_of v)) (fault_within bad r) (above r)
   where
     above : {o f : ℕ} {ws : List Value} → Ordered o ws f → o ≤ f
     above (none h) = h
     above (next h r) = let k = above r in omega arith
 
-    go : (b : Bool) → fault_of bad vs ≤ suc e → place_of v ≤ e → pick b (suc (place_of v)) (fault_of bad vs) ≤ suc e
-    go true h k = omega arith
+    go : (b : Bool) → IfSome (fault_of bad vs) (λ p. p ≤ e) → place_of v ≤ e → IfSome (pick b (Some (place_of v)) (fault_of bad vs)) (λ p. p ≤ e)
+    go true h k = k
     go false h k = h
 
-pub faults_in : (bad : ValueKind → Bool) (t : List ℕ) (c : Content) (ls : List (List ℕ)) → fault_of bad (values_of t c ls) ≤ suc (length (joined ls))
+pub faults_in : (bad : ValueKind → Bool) (t : List ℕ) (c : Content) (ls : List (List ℕ)) → IfSome (fault_of bad (values_of t c ls)) (λ p. p ≤ length (joined ls))
 faults_in bad t c ls = fault_within bad (values_order t c ls)
 
 -- ---- one field more
-pub made_marked : (f : Facts) (o : ℕ) (t : List ℕ) {b u g : ℕ} {w : Bool}
-    → b ≡ or_else f.bank (place_if (among t tags_56) o) → w ≡ (f.through || among t tags_57)
-    → u ≡ or_else f.purpose (place_if (same t (bytes "26T")) o) → g ≡ or_else f.budget (place_if (same t (bytes "77B")) o)
+pub made_marked : (f : Facts) (o : ℕ) (t : List ℕ) {b u g : Option ℕ} {w : Bool}
+    → b ≡ option_or f.bank (place_if (among t tags_56) o) → w ≡ (f.through || among t tags_57)
+    → u ≡ option_or f.purpose (place_if (same t (bytes "26T")) o) → g ≡ option_or f.budget (place_if (same t (bytes "77B")) o)
     → ◌≡◌ {A = Facts} (record { day = f.day; currency = f.currency; bank = b; through = w; party = f.party; payer = f.payer; payee = f.payee; purpose = u; budget = g }) (with_tag f o t)
 unfolding with_tag
 made_marked f o t b w u g = rw (b, w, u, g)
 
-pub made_with : (f : Facts) (s : ℕ) (t : List ℕ) (x : Finds) {d m p : ℕ} {y e : Bool}
-    → d ≡ or_else f.day (within s x.day) → m ≡ or_else f.currency (within s x.currency) → p ≡ or_else f.party (within s x.party)
+pub made_with : (f : Facts) (s : ℕ) (t : List ℕ) (x : Finds) {d m p : Option ℕ} {y e : Bool}
+    → d ≡ option_or f.day (within s x.day) → m ≡ option_or f.currency (within s x.currency) → p ≡ option_or f.party (within s x.party)
     → y ≡ (f.payer || kpp_at x.kpp t (bytes "50K")) → e ≡ (f.payee || kpp_at x.kpp t (bytes "59"))
     → ◌≡◌ {A = Facts} (record { day = d; currency = m; bank = f.bank; through = f.through; party = p; payer = y; payee = e; purpose = f.purpose; budget = f.budget }) (with_finds f s t x)
 unfolding with_finds
 made_with f s t x d m p y e = rw (d, m, p, y, e)
 
 -- none at all
-else_none : (a : ℕ) → a ≡ or_else a 0
-unfolding or_else
-else_none zero = refl
-else_none (suc a) = refl
+else_none : (a : Option ℕ) → a ≡ option_or a None
+else_none None = refl
+else_none (Some a) = refl
 
-no_mark : (a o : ℕ) {b : Bool} → b ≡ false → a ≡ or_else a (place_if b o)
+no_mark : (a : Option ℕ) (o : ℕ) {b : Bool} → b ≡ false → a ≡ option_or a (place_if b o)
 unfolding place_if
-no_mark a o e = else_none a ∙ ap (λ (b : Bool). or_else a (place_if b o)) (sym e)
+no_mark a o e = else_none a ∙ ap (λ (b : Bool). option_or a (place_if b o)) (sym e)
 
 other : (n k : ℕ) → (n ≡ k → ⊥) → same (unpack n) (unpack k) ≡ false
 other n k h = same_unpack n k ∙ ne_eqb n k h
@@ -120,31 +97,30 @@ unmarked n h26 h56a h56d h57a h57d h77 f o =
     (no_mark f.purpose o (other n (pack (bytes "26T")) h26)) (no_mark f.budget o (other n (pack (bytes "77B")) h77))
 
 -- where nothing is found
-pub nothing_found : (f : Facts) (s : ℕ) (t : List ℕ) {x : Finds} → x ≡ finds 0 0 0 false → f ≡ with_finds f s t x
+pub nothing_found : (f : Facts) (s : ℕ) (t : List ℕ) {x : Finds} → x ≡ finds None None None false → f ≡ with_finds f s t x
 unfolding with_finds within
 nothing_found f s t e = go ∙ ap (with_finds f s t) (sym e)
   where
-    go : f ≡ with_finds f s t (finds 0 0 0 false)
+    go : f ≡ with_finds f s t (finds None None None false)
     go =
-        made_with f s t (finds 0 0 0 false) (else_none f.day) (else_none f.currency) (else_none f.party)
+        made_with f s t (finds None None None false) (else_none f.day) (else_none f.currency) (else_none f.party)
         (sym (ap (λ (b : Bool). f.payer || b) (and-false (same t (bytes "50K"))) ∙ or-false f.payer))
         (sym (ap (λ (b : Bool). f.payee || b) (and-false (same t (bytes "59"))) ∙ or-false f.payee))
 
 -- ---- the fields' facts, one by one: any place, and any test
-module _ (form : Form) (get : Facts → ℕ) (place : ℕ → Field → ℕ) (number : ℕ) (bad : ValueKind → Bool)
-    (turn : (f : Facts) (o : ℕ) (g : Field) → get (with_field form f o g) ≡ or_else (get f) (place o g))
+module _ (form : Form) (get : Facts → Option ℕ) (place : ℕ → Field → Option ℕ) (number : ℕ) (bad : ValueKind → Bool)
+    (turn : (f : Facts) (o : ℕ) (g : Field) → get (with_field form f o g) ≡ option_or (get f) (place o g))
     (step : (o : ℕ) (g : Field) (gs : List Field) → first_bad number bad (values_in form o (g ∷ gs)) ≡ then (as_verdict number (place o g)) (first_bad number bad (values_in form (next_of o g) gs))) where
-  then_else : (a b : ℕ) (v : Verdict) → then (as_verdict number (or_else a b)) v ≡ then (as_verdict number a) (then (as_verdict number b) v)
-  unfolding or_else
-  then_else zero b v = refl
-  then_else (suc a) b v = refl
+  then_else : (a b : Option ℕ) (v : Verdict) → then (as_verdict number (option_or a b)) v ≡ then (as_verdict number a) (then (as_verdict number b) v)
+  then_else None b v = refl
+  then_else (Some a) b v = refl
 
   pub place_from : (f : Facts) (o : ℕ) (gs : List Field) → as_verdict number (get (facts_from form f o gs)) ≡ then (as_verdict number (get f)) (first_bad number bad (values_in form o gs))
   unfolding facts_from first_bad
   place_from f o [] = sym (then_fine (as_verdict number (get f)))
   place_from f o (g ∷ gs) =
       place_from (with_field form f o g) (next_of o g) gs
-      ∙ ap (λ (k : ℕ). then (as_verdict number k) (first_bad number bad (values_in form (next_of o g) gs))) (turn f o g)
+      ∙ ap (λ (k : Option ℕ). then (as_verdict number k) (first_bad number bad (values_in form (next_of o g) gs))) (turn f o g)
       ∙ then_else (get f) (place o g) (first_bad number bad (values_in form (next_of o g) gs))
       ∙ ap (then (as_verdict number (get f))) (sym (step o g gs))
 
@@ -165,10 +141,10 @@ module _ (form : Form) (get : Facts → Bool) (test : Field → Bool) (t : Value
       or_or false b c = refl
 
 -- ---- each of them
-by_fault : (number s k : ℕ) → answered number s k ≡ as_verdict number (within s k)
+by_fault : (number s : ℕ) (k : Option ℕ) → fault_verdict number s k ≡ as_verdict number (within s k)
 unfolding within
-by_fault number s zero = refl
-by_fault number s (suc k) = refl
+by_fault number s None = refl
+by_fault number s (Some k) = refl
 
 by_mark : (number : ℕ) (b : Bool) (o : ℕ) (v : Verdict) → pick b (Broken number o) v ≡ then (as_verdict number (place_if b o)) v
 unfolding place_if
@@ -180,7 +156,7 @@ one_tag : (t u : List ℕ) → same t u ≡ among t (u ∷ [])
 one_tag t u = sym (or-false (same t u))
 
 module _ (form : Form) where
-  abbrev verdict_on : (number : ℕ) → (Facts → ℕ) → List Field → Verdict
+  abbrev verdict_on : (number : ℕ) → (Facts → Option ℕ) → List Field → Verdict
   verdict_on number get fs = as_verdict number (get (facts_from form nothing_yet 5 fs))
 
   fault_step : (number : ℕ) (bad : ValueKind → Bool) → ((t : List ℕ) → bad (tag t) ≡ false) → (o : ℕ) (g : Field) (gs : List Field)
@@ -221,13 +197,13 @@ module _ (form : Form) where
     unfolding nothing_yet with_finds with_tag
     purpose_verdict =
         place_from form (λ f. f.purpose) (λ o g. place_if (among (tag_of g) (bytes "26T" ∷ [])) o) 13 is_26T
-        (λ f o g. ap (λ (b : Bool). or_else f.purpose (place_if b o)) (one_tag (tag_of g) (bytes "26T"))) (tag_step 13 (bytes "26T" ∷ [])) nothing_yet 5 fs
+        (λ f o g. ap (λ (b : Bool). option_or f.purpose (place_if b o)) (one_tag (tag_of g) (bytes "26T"))) (tag_step 13 (bytes "26T" ∷ [])) nothing_yet 5 fs
 
     budget_verdict : verdict_on 13 (λ f. f.budget) fs ≡ first_bad 13 is_77B (values_in form 5 fs)
     unfolding nothing_yet with_finds with_tag
     budget_verdict =
         place_from form (λ f. f.budget) (λ o g. place_if (among (tag_of g) (bytes "77B" ∷ [])) o) 13 is_77B
-        (λ f o g. ap (λ (b : Bool). or_else f.budget (place_if b o)) (one_tag (tag_of g) (bytes "77B"))) (tag_step 13 (bytes "77B" ∷ [])) nothing_yet 5 fs
+        (λ f o g. ap (λ (b : Bool). option_or f.budget (place_if b o)) (one_tag (tag_of g) (bytes "77B"))) (tag_step 13 (bytes "77B" ∷ [])) nothing_yet 5 fs
 
     through_is : (facts_from form nothing_yet 5 fs).through ≡ has is_57 (values_in form 5 fs)
     unfolding nothing_yet with_finds with_tag
@@ -257,11 +233,18 @@ marks number t (v ∷ vs) = go (t (kind_of v)) (marks number t vs)
     go true m = one_there (place_of v)
     go false m = m
 
-verdict_marks : (number p : ℕ) {b : Bool} {v : Verdict} → Marks number b v → as_verdict number p ≡ v → eqb p 0 ≡ not b
-verdict_marks number zero none_there e = refl
-verdict_marks number (suc p) none_there e = absurd (fine_broken number p (sym e))
-verdict_marks number zero (one_there q) e = absurd (fine_broken number q e)
-verdict_marks number (suc p) (one_there q) e = ne_eqb (suc p) 0 (λ z. omega arith)
+verdict_marks : (number : ℕ) (p : Option ℕ) {b : Bool} {v : Verdict} → Marks number b v → as_verdict number p ≡ v → is_some p ≡ b
+verdict_marks number None none_there e = refl
+verdict_marks number (Some p) none_there e = absurd (fine_broken number p (sym e))
+verdict_marks number None (one_there q) e = absurd (fine_broken number q e)
+verdict_marks number (Some p) (one_there q) e = refl
+
+-- 13, by which of the places are there
+tax_by : (p b : Option ℕ) (w : Bool) → tax_rule p b w ≡ pick (is_some p) (pick (is_some b && w) Fine (as_verdict 13 p)) (as_verdict 13 b)
+unfolding tax_rule
+tax_by None b w = refl
+tax_by (Some p) None w = refl
+tax_by (Some p) (Some b) w = refl
 
 module _ (form : Form) (fs : List Field) where
   abbrev F : Facts
@@ -274,25 +257,19 @@ module _ (form : Form) (fs : List Field) where
   unfolding open_bank
   bank_rule = go F.through ∙ ap₂ (λ (b : Bool) (v : Verdict). pick b Fine v) (through_is form fs) (bank_verdict form fs) ∙ sym (rule_11_by form fs)
     where
-      go : (b : Bool) → as_verdict 11 (pick b 0 F.bank) ≡ pick b Fine (as_verdict 11 F.bank)
+      go : (b : Bool) → as_verdict 11 (pick b None F.bank) ≡ pick b Fine (as_verdict 11 F.bank)
       go true = refl
       go false = refl
 
   tax_rule_lem : tax_rule F.purpose F.budget (F.payer && F.payee) ≡ rule_13 form fs
-  unfolding tax_rule
   tax_rule_lem =
       let k : Bool = F.payer && F.payee in
-      ap₂ (λ (a b : Bool). pick a (as_verdict 13 F.budget) (pick b (as_verdict 13 F.purpose) (pick k Fine (as_verdict 13 F.purpose))))
+      tax_by F.purpose F.budget k
+      ∙ ap₂ (λ (a b : Bool). pick a (pick (b && k) Fine (as_verdict 13 F.purpose)) (as_verdict 13 F.budget))
       (verdict_marks 13 F.purpose (marks 13 is_26T vs) (purpose_verdict form fs)) (verdict_marks 13 F.budget (marks 13 is_77B vs) (budget_verdict form fs))
-      ∙ ap₂ (λ (u w : Verdict). pick (not (has is_26T vs)) w (pick (not (has is_77B vs)) u (pick k Fine u))) (purpose_verdict form fs) (budget_verdict form fs)
-      ∙ ap₂ (λ (x y : Bool). pick (not (has is_26T vs)) (first_bad 13 is_77B vs) (pick (not (has is_77B vs)) (first_bad 13 is_26T vs) (pick (x && y) Fine (first_bad 13 is_26T vs)))) (payer_is form fs) (payee_is form fs)
-      ∙ go (has is_26T vs) (has is_77B vs) (has (kpp_in (bytes "50K")) vs && has (kpp_in (bytes "59")) vs) (first_bad 13 is_26T vs) (first_bad 13 is_77B vs)
+      ∙ ap₂ (λ (u w : Verdict). pick (has is_26T vs) (pick (has is_77B vs && k) Fine u) w) (purpose_verdict form fs) (budget_verdict form fs)
+      ∙ ap₂ (λ (x y : Bool). pick (has is_26T vs) (pick (has is_77B vs && (x && y)) Fine (first_bad 13 is_26T vs)) (first_bad 13 is_77B vs)) (payer_is form fs) (payee_is form fs)
       ∙ sym (rule_13_by form fs)
-    where
-      go : (a b k : Bool) (u w : Verdict) → pick (not a) w (pick (not b) u (pick k Fine u)) ≡ pick a (pick (b && k) Fine u) w
-      go true true k u w = refl
-      go true false k u w = refl
-      go false b k u w = refl
 
   -- so they come to the rules
   pub values_verdict : value_rules F ≡ first (rule_9 form fs ∷ rule_10 form fs ∷ rule_11 form fs ∷ rule_12 form fs ∷ rule_13 form fs ∷ [])
@@ -300,33 +277,16 @@ module _ (form : Form) (fs : List Field) where
   values_verdict = rw (day_verdict form fs, currency_verdict form fs, bank_rule, party_verdict form fs, tax_rule_lem)
 
 -- ---- the first of them
-pub then_verdict : (number : ℕ) {p : ℕ} (v : Verdict) → (p ≡ 0 → ⊥) → as_verdict number p ≡ then (as_verdict number p) v
-then_verdict number {p = zero} v h = absurd (h refl)
-then_verdict number {p = suc p} v h = refl
-
-pub then_on : (number : ℕ) {p : ℕ} {u v : Verdict} → p ≡ 0 → u ≡ v → u ≡ then (as_verdict number p) v
-then_on number {p = zero} e q = q
-then_on number {p = suc p} e q = absurd (omega arith)
-
-pub then_end : {u v : Verdict} → u ≡ v → u ≡ then v Fine
-then_end {v = v} q = q ∙ sym (then_fine v)
-
 -- ---- 13, by its ways out
-module _ {p : ℕ} (b : ℕ) (w : Bool) where
-  pub no_purpose : p ≡ 0 → as_verdict 13 b ≡ tax_rule p b w
-  unfolding tax_rule
-  no_purpose e = rw (eq-eqb p 0 e)
+module _ (p b : Option ℕ) (w : Bool) where
+  pub no_purpose : is_some p ≡ false → as_verdict 13 b ≡ tax_rule p b w
+  no_purpose e = sym (tax_by p b w ∙ ap (λ (k : Bool). pick k (pick (is_some b && w) Fine (as_verdict 13 p)) (as_verdict 13 b)) e)
 
-  module _ (h : p ≡ 0 → ⊥) where
-    pub no_budget : b ≡ 0 → as_verdict 13 p ≡ tax_rule p b w
-    unfolding tax_rule
-    no_budget e = rw (ne_eqb p 0 h, eq-eqb b 0 e)
+  by_test : {k : Bool} → is_some p ≡ true → (is_some b && w) ≡ k → pick k Fine (as_verdict 13 p) ≡ tax_rule p b w
+  by_test h e = sym (tax_by p b w ∙ ap₂ (λ (x y : Bool). pick x (pick y Fine (as_verdict 13 p)) (as_verdict 13 b)) h e)
 
-    module _ (k : b ≡ 0 → ⊥) where
-      pub tax_whole_lem : w ≡ true → Fine ≡ tax_rule p b w
-      unfolding tax_rule
-      tax_whole_lem e = rw (ne_eqb p 0 h, ne_eqb b 0 k, e)
+  pub tax_whole_lem : is_some p ≡ true → (is_some b && w) ≡ true → Fine ≡ tax_rule p b w
+  tax_whole_lem h e = by_test h e
 
-      pub tax_part_lem : w ≡ false → as_verdict 13 p ≡ tax_rule p b w
-      unfolding tax_rule
-      tax_part_lem e = rw (ne_eqb p 0 h, ne_eqb b 0 k, e)
+  pub tax_part_lem : is_some p ≡ true → (is_some b && w) ≡ false → as_verdict 13 p ≡ tax_rule p b w
+  tax_part_lem h e = by_test h e

@@ -9,6 +9,8 @@ use lib.Dec.{eqb}
 use lib.ListN.{length, take, drop, get_or, length-append, drop_of_length-le, get_or-append}
 use lib.Seq.{drop-cons, get_or-drop}
 use Rattle.types.specs.declared.Form.{Form}
+use Rattle.types.specs.Tables.{most}
+use Rattle.fields.specs.Frame.{limit}
 use Rattle.base.specs.Choice.{pick, all}
 use Rattle.base.specs.Bytes.{byte, begins, without}
 use Rattle.base.proofs.Bools.{left, right}
@@ -25,9 +27,16 @@ use Rattle.contents.proofs.RuleLaws.{first_of}
 use Rattle.frame.specs.Frame.{spots_of}
 use Rattle.frame.proofs.CallLaws.{Found, taken}
 use Rattle.message.specs.declared.parts.FieldAt.{FieldAt}
-use Rattle.message.specs.Parts.{Settled, Here}
+use Rattle.message.specs.Parts.{Here}
 
 -- ---- the fields stand at their spots
+-- the spots are those of the fields: from each on stand the fields that are left
+pub record Settled (m spots : List ℕ) : Type 0 where
+  pub within : length m ≤ limit
+  pub few : length (fields m) ≤ most
+  pub start : byte spots 0 ≡ 5
+  pub stand : (k : ℕ) → k ≤ length (fields m) → Standing m (byte spots k) (drop k (fields m))
+
 spot_at : {form : Form} {m spots : List ℕ} {w : ℕ} → Found form m spots w → (k : ℕ) → k ≤ length (fields m) → byte spots k ≡ byte (colons_of 5 (fields m) ++ (length m - 2) ∷ []) k
 unfolding spots_of
 spot_at {m = m} f k h =

@@ -12,8 +12,8 @@ use Rattle.fields.specs.Field.{Field, fields}
 use Rattle.fields.specs.Places.{next_of, listed}
 use Rattle.fields.proofs.PlaceLaws.{listed_length}
 use Rattle.message.specs.declared.parts.FieldAt.{FieldAt}
-use Rattle.message.specs.Parts.{Settled, Here}
-use Rattle.message.proofs.FieldLaws.{field_of, at_field, next_field, walk_start, walk_end}
+use Rattle.message.specs.Parts.{Here}
+use Rattle.message.proofs.FieldLaws.{Settled, field_of, at_field, next_field, walk_start, walk_end}
 
 pub record Filling (m spots list₀ list : List ℕ) (k : ℕ) : Type 0 where
   pub kept : length list ≡ length list₀

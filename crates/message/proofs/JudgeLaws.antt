@@ -6,34 +6,33 @@ use mathlib.Core.List.{List, [], ◌∷◌}
 use Rattle.base.specs.Choice.{pick}
 use Rattle.base.specs.Bytes.{begins}
 use Rattle.base.specs.Rules.{then, first}
-use Rattle.base.specs.declared.Verdict.{Verdict}
-use Rattle.base.specs.declared.Verdict.TheVariants.{Fine, Broken}
+use Rattle.std.specs.Prelude.{Err}
+use Rattle.base.specs.declared.Refusal.{Refusal}
+use Rattle.base.specs.Verdicts.{Verdict, Fine, Broken, answered}
 use Rattle.base.proofs.RuleLaws.{first_append, then_fine}
 use Rattle.fields.specs.Field.{Field, fields}
 use Rattle.fields.specs.Places.{start_of}
 use Rattle.types.specs.declared.Form.{Form}
 use Rattle.types.specs.Sign.{sign_of}
 use Rattle.types.specs.Walk.{walked}
-use Rattle.frame.specs.declared.Frame.{Frame}
-use Rattle.frame.specs.Frame.{frame_rules, refusal, bare, frame_by, frame_of}
+use Rattle.frame.specs.Frame.{frame_rules, refusal, fields_found}
 use Rattle.contents.specs.Rule8.{first_wrong, right_field, rule_8}
 use Rattle.contents.proofs.RuleLaws.{first_of, sign_first}
 use Rattle.values.specs.Judged.{rule_9, rule_10, rule_11, rule_12, rule_13}
 use Rattle.roles.specs.Rule14.{unheard, speeches_of, rule_14}
 use Rattle.roles.specs.Rule21.{rule_21}
 use Rattle.message.specs.declared.facts.Facts.{Facts}
-use Rattle.message.specs.declared.facts.Read.{Read}
-use Rattle.message.specs.declared.facts.Read.TheVariants.{Wrong, Right}
+use Rattle.std.specs.Prelude.{Result, Ok, Err}
 use Rattle.message.specs.Facts.{nothing_yet, facts_from, ReadOf, value_rules}
 use Rattle.message.specs.Message.{inner_rules, content_rules, verdict_of, judged_of}
 use Rattle.message.proofs.FactLaws.{values_verdict}
 
 -- ---- what was read, by its cases
-module _ (form : Form) (sign : Bool) (fs : List Field) {r : Read} (e : ReadOf form sign fs r) where
-  pub read_wrong : {p : ℕ} → r ≡ Wrong p → first_wrong 8 (right_field form sign) start_of 5 fs ≡ Broken 8 p
+module _ (form : Form) (sign : Bool) (fs : List Field) {r : Result Facts ℕ} (e : ReadOf form sign fs r) where
+  pub read_wrong : {p : ℕ} → r ≡ Err p → first_wrong 8 (right_field form sign) start_of 5 fs ≡ Broken 8 p
   read_wrong q = subst (ReadOf form sign fs) q e
 
-  pub read_right : {f : Facts} → r ≡ Right f → (first_wrong 8 (right_field form sign) start_of 5 fs ≡ Fine) × (f ≡ facts_from form nothing_yet 5 fs)
+  pub read_right : {f : Facts} → r ≡ Ok f → (first_wrong 8 (right_field form sign) start_of 5 fs ≡ Fine) × (f ≡ facts_from form nothing_yet 5 fs)
   read_right q = subst (ReadOf form sign fs) q e
 
 -- ---- 14
@@ -55,14 +54,14 @@ module _ (form : Form) (fs : List Field) {f : Facts} (e : f ≡ facts_from form 
       first_append (rule_9 form fs ∷ rule_10 form fs ∷ rule_11 form fs ∷ rule_12 form fs ∷ rule_13 form fs ∷ []) (rule_14 form fs ∷ rule_21 form fs ∷ [])
       ∙ ap₂ then (sym (q ∙ ap value_rules e ∙ values_verdict form fs)) (ap (then (rule_14 form fs)) (then_fine (rule_21 form fs)))
 
-  pub inner_refused : {n p : ℕ} → v ≡ Broken n p → Broken n p ≡ first (inner_rules form fs)
+  pub inner_refused : {r : Refusal} → v ≡ Err r → Err r ≡ first (inner_rules form fs)
   inner_refused z = sym (inner_by ∙ ap (λ (u : Verdict). then u (then (rule_14 form fs) (rule_21 form fs))) z)
 
   module _ (z : v ≡ Fine) {t : Verdict} (g : t ≡ rule_14 form fs) where
     behind_values : first (inner_rules form fs) ≡ then t (rule_21 form fs)
     behind_values = inner_by ∙ ap₂ (λ (u w : Verdict). then u (then w (rule_21 form fs))) z (sym g)
 
-    pub inner_texts : {n p : ℕ} → t ≡ Broken n p → Broken n p ≡ first (inner_rules form fs)
+    pub inner_texts : {r : Refusal} → t ≡ Err r → Err r ≡ first (inner_rules form fs)
     inner_texts h = sym (behind_values ∙ ap (λ (u : Verdict). then u (rule_21 form fs)) h)
 
     pub inner_lengths : {u : Verdict} → t ≡ Fine → u ≡ rule_21 form fs → u ≡ first (inner_rules form fs)
@@ -81,7 +80,7 @@ module _ (form : Form) (m : List ℕ) where
     pub right_contents : v ≡ Fine → rule_8 form m ≡ Fine
     right_contents z = is_8 ∙ z
 
-    pub content_refused : {n p : ℕ} → v ≡ Broken n p → Broken n p ≡ first (content_rules form m)
+    pub content_refused : {r : Refusal} → v ≡ Err r → Err r ≡ first (content_rules form m)
     content_refused z = sym (ap (λ (u : Verdict). then u (first (inner_rules form (fields m)))) (is_8 ∙ z))
 
     pub content_inner : {u : Verdict} → v ≡ Fine → u ≡ first (inner_rules form (fields m)) → u ≡ first (content_rules form m)
@@ -92,23 +91,12 @@ module _ (form : Form) (m : List ℕ) where
   unfolding verdict_of refusal
   verdict_by = first_append (frame_rules form m) (content_rules form m)
 
-  broken_is : {f : Frame} {n p : ℕ} → verdict_of form m ≡ Broken n p → f ≡ bare (Broken n p) → f ≡ judged_of form m
-  unfolding judged_of frame_by
-  broken_is e q = q ∙ sym (ap (λ (v : Verdict). frame_by v form m) e)
+  pub judged_is : {v : Verdict} → verdict_of form m ≡ v → answered v (fields_found form m) ≡ judged_of form m
+  unfolding judged_of
+  judged_is e = ap (λ (v : Verdict). answered v (fields_found form m)) (sym e)
 
-  as_framed : {f : Frame} {v : Verdict} → f ≡ frame_of form m → refusal form m ≡ v → verdict_of form m ≡ v → f ≡ judged_of form m
-  unfolding judged_of frame_of
-  as_framed e q z = e ∙ ap (λ (v : Verdict). frame_by v form m) (q ∙ sym z)
+  pub frame_refused : {r : Refusal} → refusal form m ≡ Err r → verdict_of form m ≡ Err r
+  frame_refused e = verdict_by ∙ ap (λ (v : Verdict). then v (first (content_rules form m))) e
 
-  pub frame_refused : {f : Frame} {n p : ℕ} → f ≡ frame_of form m → refusal form m ≡ Broken n p → f ≡ judged_of form m
-  frame_refused e q = as_framed e q (verdict_by ∙ ap (λ (v : Verdict). then v (first (content_rules form m))) q)
-
-  module _ (c : refusal form m ≡ Fine) {v : Verdict} (q : v ≡ first (content_rules form m)) where
-    verdict_is : verdict_of form m ≡ v
-    verdict_is = verdict_by ∙ ap (λ (u : Verdict). then u (first (content_rules form m))) c ∙ sym q
-
-    pub judged_refused : {f : Frame} {n p : ℕ} → v ≡ Broken n p → f ≡ bare (Broken n p) → f ≡ judged_of form m
-    judged_refused z e = broken_is (verdict_is ∙ z) e
-
-    pub judged_fine : {f : Frame} → f ≡ frame_of form m → v ≡ Fine → f ≡ judged_of form m
-    judged_fine e z = as_framed e c (verdict_is ∙ z)
+  pub verdict_is : refusal form m ≡ Fine → {v : Verdict} → v ≡ first (content_rules form m) → verdict_of form m ≡ v
+  verdict_is c q = verdict_by ∙ ap (λ (u : Verdict). then u (first (content_rules form m))) c ∙ sym q

@@ -9,11 +9,12 @@ use lib.Count.{ones}
 use lib.Dec.{eqb}
 use lib.ListN.{length, take, drop, length-take}
 use borrow.Author.Tests.{eq-eqb, ne_eqb}
+use Rattle.std.specs.Prelude.{Option, None, Some}
 use Rattle.base.specs.Choice.{pick, all}
 use Rattle.base.specs.Bits.{bit}
 use Rattle.base.specs.Bytes.{byte, same, without}
 use Rattle.base.specs.Quoted.{bytes}
-use Rattle.base.specs.declared.Verdict.TheVariants.{Fine, Broken}
+use Rattle.base.specs.Verdicts.{Fine, Broken}
 use Rattle.base.proofs.Bools.{left, right}
 use Rattle.base.proofs.ByteLaws.{same_is}
 use Rattle.fields.specs.Field.{Field, field, fields}
@@ -37,18 +38,15 @@ use Rattle.contents.specs.Tags.{tags_103, held_by}
 use Rattle.contents.specs.Rule8.{EachRight, rule_8}
 use Rattle.contents.proofs.RuleLaws.{rule_8_right}
 use Rattle.contents.proofs.SizeLaws.{names_70}
-use Rattle.roles.specs.declared.Spot.{Spot}
 use Rattle.roles.specs.Places.{verdict_at}
 use Rattle.roles.specs.Speech as speech
 use Rattle.roles.specs.Rule21.{size_70, over_most, of_first, bytes_in_70, rule_21}
 use Rattle.roles.proofs.LengthLaws.{over_short, lines_within, size_names}
 use Rattle.roles.proofs.OverTheorems.{rule_21_within}
 use Rattle.message.specs.declared.Span.{Span}
-use Rattle.message.specs.declared.Span.TheVariants.{Part, Nothing}
-use Rattle.message.specs.Lists.{part_at}
-use Rattle.message.specs.Parts.{Settled}
+use Rattle.message.specs.Lists.{part_at, Part}
 use Rattle.message.specs.Calls.{part_of, Inside}
-use Rattle.message.proofs.FieldLaws.{stands, here}
+use Rattle.message.proofs.FieldLaws.{Settled, stands, here}
 use Rattle.message.proofs.SpanLaws.{part_none, part_number, part_found}
 use Rattle.message.proofs.PartLaws.{part_inside, inside_is}
 
@@ -74,9 +72,9 @@ unfolding places_103 find same
 place_72 t = tag_place places_103 (bytes "72") t (omega arith) (or_none (same t (bytes "72")))
 
 -- ---- what is made of the first field with a tag is made of the content of its place
-abbrev by_part : {A : Type 0} → List ℕ → A → (ℕ → List (List ℕ) → A) → Span → A
-by_part m z g Nothing = z
-by_part m z g (Part s e) = g s (lines_in (take (e - s) (drop s m)))
+abbrev by_part : {A : Type 0} → List ℕ → A → (ℕ → List (List ℕ) → A) → Option Span → A
+by_part m z g None = z
+by_part m z g (Some p) = g p.start (lines_in (take (p.end - p.start) (drop p.start m)))
 
 first_part : {A : Type 0} (m : List ℕ) (ps : List Place) (q : ℕ) (u : List ℕ) → ((t : List ℕ) → eqb (find ps t) q ≡ same t u) → (z : A) (g : ℕ → List (List ℕ) → A) (o : ℕ) (fs : List Field) → Standing m o fs
     → of_first u z g o fs ≡ by_part m z g (part_at ps q o fs)
@@ -120,7 +118,7 @@ right_70 sign o (field t ls ∷ fs) r = go (same t (bytes "70")) refl (right_70 
 
 -- ---- 21, by what stands at the two places
 module _ {m spots : List ℕ} (s : Settled m spots) where
-  abbrev at : ℕ → Span
+  abbrev at : ℕ → Option Span
   at q = part_at (places_of Mt103) q 5 (fields m)
 
   stand : Standing m 5 (fields m)
@@ -131,24 +129,24 @@ module _ {m spots : List ℕ} (s : Settled m spots) where
   unfolding split speech.later_text
   bytes_70 = first_part m places_103 10 (bytes "70") place_70 0 (λ s ls. size_70 ls) 5 (fields m) stand ∙ go (at 10)
     where
-      go : (p : Span) → by_part m 0 (λ s ls. size_70 ls) p ≡ size_70 (lines_in (part_of m p))
-      go Nothing = refl
-      go (Part a e) = refl
+      go : (p : Option Span) → by_part m 0 (λ s ls. size_70 ls) p ≡ size_70 (lines_in (part_of m p))
+      go None = refl
+      go (Some p) = refl
 
-  by_72 : {p : Span} → p ≡ at 12 → rule_21 Mt103 (fields m) ≡ by_part m Fine (λ a ls. verdict_at 21 a (over_most (bytes_in_70 (fields m)) ls)) p
+  by_72 : {p : Option Span} → p ≡ at 12 → rule_21 Mt103 (fields m) ≡ by_part m Fine (λ a ls. verdict_at 21 a (over_most (bytes_in_70 (fields m)) ls)) p
   unfolding rule_21
   by_72 e =
       first_part m places_103 12 (bytes "72") place_72 Fine (λ a ls. verdict_at 21 a (over_most (bytes_in_70 (fields m)) ls)) 5 (fields m) stand
       ∙ ap (by_part m Fine (λ a ls. verdict_at 21 a (over_most (bytes_in_70 (fields m)) ls))) (sym e)
 
-  pub no_72 : {p : Span} → p ≡ at 12 → p ≡ Nothing → Fine ≡ rule_21 Mt103 (fields m)
+  pub no_72 : {p : Option Span} → p ≡ at 12 → p ≡ None → Fine ≡ rule_21 Mt103 (fields m)
   no_72 e q = sym (by_72 (sym q ∙ e))
 
-  module _ {p : Span} (h : p ≡ at 12) {a e : ℕ} (q : p ≡ Part a e) where
+  module _ {p : Option Span} (h : p ≡ at 12) {a e : ℕ} (q : p ≡ Part a e) where
     abbrev in_72 : List ℕ
     in_72 = take (e - a) (drop a m)
 
-    pub some_72 : {in_70 : List ℕ} {v : Spot} → in_70 ≡ part_of m (at 10) → v ≡ over_most (size_70 (lines_in in_70)) (lines_in in_72) → verdict_at 21 a v ≡ rule_21 Mt103 (fields m)
+    pub some_72 : {in_70 : List ℕ} {v : Option ℕ} → in_70 ≡ part_of m (at 10) → v ≡ over_most (size_70 (lines_in in_70)) (lines_in in_72) → verdict_at 21 a v ≡ rule_21 Mt103 (fields m)
     some_72 {in_70} {v} b g =
         sym (by_72 (sym q ∙ h) ∙ ap (λ (n : ℕ). verdict_at 21 a (over_most n (lines_in in_72))) (bytes_70 ∙ ap (λ (c : List ℕ). size_70 (lines_in c)) (sym b)) ∙ ap (verdict_at 21 a) (sym g))
 
@@ -160,10 +158,10 @@ module _ {m spots : List ℕ} (s : Settled m spots) where
         sym (by_72 (sym q ∙ h) ∙ ap (verdict_at 21 a) (over_short (bytes_in_70 (fields m)) (lines_in in_72) (omega (arith, n, c, k, length-take (e - a) (drop a m)))))
 
   -- the parts stand in the message, and so does the place
-  pub inside : {p : Span} (q : ℕ) → p ≡ at q → Inside m p
+  pub inside : {p : Option Span} (q : ℕ) → p ≡ at q → Inside m p
   inside q e = inside_is m e (part_inside m (places_of Mt103) q 5 (fields m) stand)
 
-  pub inside_part : {p : Span} (q : ℕ) {a e : ℕ} → p ≡ at q → p ≡ Part a e → (a ≤ e) × (e ≤ length m)
+  pub inside_part : {p : Option Span} (q : ℕ) {a e : ℕ} → p ≡ at q → p ≡ Part a e → (a ≤ e) × (e ≤ length m)
   inside_part q h k = inside q (sym k ∙ h)
 
   pub place_21 : {n p : ℕ} → Broken n p ≡ rule_21 Mt103 (fields m) → p ≤ limit

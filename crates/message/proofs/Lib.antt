@@ -1,4 +1,5 @@
 pub mod FieldLaws
+pub mod TakenLaws
 pub mod FillLaws
 pub mod SpanLaws
 pub mod FactLaws

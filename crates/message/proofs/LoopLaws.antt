@@ -5,12 +5,12 @@ use mathlib.Core.Bool.{Bool, true, false}
 use mathlib.Core.List.{List, ◌∷◌}
 use native.Mathlib.Omega.{arith}
 use lib.ListN.{length, take, drop, length-take}
+use Rattle.std.specs.Prelude.{Option, None, Some}
 use Rattle.base.specs.Choice.{pick}
 use Rattle.base.specs.Bytes.{byte}
 use Rattle.base.specs.Rules.{then}
 use Rattle.base.specs.Says.{Not}
-use Rattle.base.specs.declared.Verdict.{Verdict}
-use Rattle.base.specs.declared.Verdict.TheVariants.{Broken}
+use Rattle.base.specs.Verdicts.{Verdict, Broken}
 use Rattle.base.proofs.SaysLaws.{says_so, says_not, says_same}
 use Rattle.alphabets.specs.Steps.{back_table}
 use Rattle.fields.specs.Field.{Field, fields, lines_of}
@@ -31,11 +31,8 @@ use Rattle.values.specs.declared.Finds.{Finds}
 use Rattle.values.specs.Values.{ValueKind, Value, values_of}
 use Rattle.values.specs.Judged.{has, no_day, foreign, bik_differs, has_kpp}
 use Rattle.values.specs.Answers.{fault_of, nothing, Finding, FoundIn}
-use Rattle.values.specs.declared.Found.{Found}
-use Rattle.values.specs.declared.Found.TheVariants.{Wrong, Plain, Has}
+use Rattle.std.specs.Prelude.{Option, None, Some, IfSome}
 use Rattle.values.specs.Steps.{finds}
-use Rattle.roles.specs.declared.Spot.{Spot}
-use Rattle.roles.specs.declared.Spot.TheVariants.{Nowhere, At}
 use Rattle.roles.specs.Rule14.{unheard, speeches_of}
 use Rattle.roles.specs.Found.{broken_in}
 use Rattle.roles.specs.Places.{verdict_at}
@@ -43,20 +40,33 @@ use Rattle.roles.proofs.BreachLaws.{unheard_within, spoken_within}
 use Rattle.roles.proofs.BackTableLaws.{field_found, spoken_next}
 use Rattle.message.specs.declared.parts.FieldAt.{FieldAt}
 use Rattle.message.specs.declared.facts.Facts.{Facts}
-use Rattle.message.specs.Parts.{Settled, Here}
-use Rattle.message.specs.Facts.{with_tag, with_finds, values_for, finds_in, with_field, facts_from}
-use Rattle.message.proofs.FactLaws.{faults_in}
-use Rattle.message.proofs.FieldLaws.{field_of, at_field, next_field}
+use Rattle.message.specs.Parts.{Here}
+use Rattle.message.specs.Facts.{with_tag, with_finds, with_found, NotFar, values_for, finds_in, with_field, facts_from}
+use Rattle.message.proofs.FactLaws.{faults_in, nothing_found}
+use Rattle.message.proofs.FieldLaws.{Settled, field_of, at_field, next_field}
 
--- what is found in a content, by its cases
-pub none_found : (c : Content) (sign : Bool) (ls : List (List ℕ)) {r : Found} → FoundIn c sign ls r → r ≡ Wrong → Not (Right c sign ls)
-none_found c sign ls f e = subst (FoundIn c sign ls) e f
+-- ---- what is found in a right content
+abbrev pub finds_of : Option Finds → Finds
+finds_of None = nothing
+finds_of (Some x) = x
 
-pub plain_found : (c : Content) (sign : Bool) (ls : List (List ℕ)) {r : Found} → FoundIn c sign ls r → r ≡ Plain → Right c sign ls × Finding c ls nothing
-plain_found c sign ls f e = subst (FoundIn c sign ls) e f
+pub found_right : (c : Content) (sign : Bool) (ls : List (List ℕ)) (r : Option Finds) → FoundIn c sign ls (Some r) → Right c sign ls × Finding c ls (finds_of r)
+found_right c sign ls None w = w
+found_right c sign ls (Some x) w = (w.0, w.1)
 
-pub some_found : (c : Content) (sign : Bool) (ls : List (List ℕ)) {r : Found} {x : Finds} → FoundIn c sign ls r → r ≡ Has x → Right c sign ls × Finding c ls x
-some_found c sign ls f e = let w = subst (FoundIn c sign ls) e f in (w.0, w.1)
+pub found_is : (f : Facts) (s : ℕ) (t : List ℕ) (r : Option Finds) → with_found f s t r ≡ with_finds f s t (finds_of r)
+found_is f s t None = nothing_found f s t refl
+found_is f s t (Some x) = refl
+
+pub not_far : (s : ℕ) (r : Option Finds)
+    → IfSome (finds_of r).day (λ q. s + q ≤ 100000) × IfSome (finds_of r).currency (λ q. s + q ≤ 100000) × IfSome (finds_of r).party (λ q. s + q ≤ 100000) → NotFar s r
+not_far s None w = tt
+not_far s (Some x) w = w
+
+-- a place within so many bytes, so many bytes on
+moved_small : (q : Option ℕ) (s n e : ℕ) → IfSome q (λ p. p ≤ n) → s + n ≤ e → IfSome q (λ p. s + p ≤ e)
+moved_small None s n e h k = tt
+moved_small (Some p) s n e h k = omega arith
 
 module _ {m spots : List ℕ} {k : ℕ} {p : FieldAt} (h : Here m spots k p) where
   abbrev content : List ℕ
@@ -99,14 +109,19 @@ module _ {m spots : List ℕ} {k : ℕ} {p : FieldAt} (h : Here m spots k p) whe
             e ∙ ap (λ (vs : List Value). finds (fault_of no_day vs) (fault_of foreign vs) (fault_of bik_differs vs) (has has_kpp vs)) values_are
 
         -- they stand in the message
-        inside : (bad : ValueKind → Bool) → p.start + fault_of bad (values_for form (field_of h)) ≤ length m + 1
-        inside bad =
-            omega (arith, faults_in bad h.tag (held_by form h.tag) (h.line ∷ h.more), ap length h.content_is, length-take (p.end - p.start) (drop p.start m), h.low, h.high)
+        inside : length m ≤ limit → (bad : ValueKind → Bool) → IfSome (fault_of bad (values_for form (field_of h))) (λ q. p.start + q ≤ 100000)
+        inside z bad =
+            moved_small (fault_of bad (values_for form (field_of h))) p.start (length (joined (h.line ∷ h.more))) 100000 (faults_in bad h.tag (held_by form h.tag) (h.line ∷ h.more))
+            (omega (arith, z, ap length h.content_is, length-take (p.end - p.start) (drop p.start m), h.low, h.high))
 
-        pub found_small : length m ≤ limit → (p.start + x.day ≤ 100000) × (p.start + x.currency ≤ 100000) × (p.start + x.party ≤ 100000)
+        pub found_small : length m ≤ limit → IfSome x.day (λ q. p.start + q ≤ 100000) × IfSome x.currency (λ q. p.start + q ≤ 100000) × IfSome x.party (λ q. p.start + q ≤ 100000)
         found_small z =
             let e = finds_are in
-            (omega (arith, z, inside no_day, ap (λ (f : Finds). f.day) e), omega (arith, z, inside foreign, ap (λ (f : Finds). f.currency) e), omega (arith, z, inside bik_differs, ap (λ (f : Finds). f.party) e))
+            let small : Option ℕ → Type 0 = λ d. IfSome d (λ q. p.start + q ≤ 100000) in (
+              subst small (sym (ap (λ (f : Finds). f.day) e)) (inside z no_day),
+              subst small (sym (ap (λ (f : Finds). f.currency) e)) (inside z foreign),
+              subst small (sym (ap (λ (f : Finds). f.party) e)) (inside z bik_differs),
+            )
 
     pub wrong_here : right_field form sign (field_of h) ≡ false → Broken 8 p.start ≡ wrong_8 (byte spots k) (drop k (fields m))
     unfolding first_wrong
@@ -125,7 +140,7 @@ module _ {m spots : List ℕ} {k : ℕ} {p : FieldAt} (h : Here m spots k p) whe
     abbrev unheard_14 : ℕ → List Field → Verdict
     unheard_14 o fs = unheard (speeches_of form o fs)
 
-    heard_here : {b : List ℕ} {s : Spot} → b ≡ back_table → s ≡ broken_in b form (unpack p.tag) content
+    heard_here : {b : List ℕ} {s : Option ℕ} → b ≡ back_table → s ≡ broken_in b form (unpack p.tag) content
         → unheard_14 (byte spots k) (drop k (fields m)) ≡ then (verdict_at 14 p.start s) (unheard_14 (byte spots (k + 1)) (drop (k + 1) (fields m)))
     heard_here {b} {s} x e =
         let f = field_of h in
@@ -134,10 +149,10 @@ module _ {m spots : List ℕ} {k : ℕ} {p : FieldAt} (h : Here m spots k p) whe
         ∙ ap₂ then (field_found form p.colon h.tag h.line h.more h.no_cr ∙ ap₂ (verdict_at 14) (sym h.start_is) (sym same)) (next_field h unheard_14)
 
     module _ {b : List ℕ} (x : b ≡ back_table) where
-      pub unheard_here : {i : ℕ} → At i ≡ broken_in b form (unpack p.tag) content → Broken 14 (p.start + i) ≡ unheard_14 (byte spots k) (drop k (fields m))
+      pub unheard_here : {i : ℕ} → Some i ≡ broken_in b form (unpack p.tag) content → Broken 14 (p.start + i) ≡ unheard_14 (byte spots k) (drop k (fields m))
       unheard_here e = sym (heard_here x e)
 
-      pub heard_on_lem : Nowhere ≡ broken_in b form (unpack p.tag) content → unheard_14 (byte spots k) (drop k (fields m)) ≡ unheard_14 (byte spots (k + 1)) (drop (k + 1) (fields m))
+      pub heard_on_lem : None ≡ broken_in b form (unpack p.tag) content → unheard_14 (byte spots k) (drop k (fields m)) ≡ unheard_14 (byte spots (k + 1)) (drop (k + 1) (fields m))
       heard_on_lem e = heard_here x e
 
 -- a text that breaks 14 stands in the message

@@ -1,6 +1,6 @@
 -- The 32A of an accepted message: it is there, in roubles, the kopecks are the value of its digits, and its date is a day of the calendar (K3, C32A,
 -- Camount, Cdate, N9, N10). Assumes nothing.
-use Prim.Native.Nat.{ℕ, zero, suc, ◌+◌, ◌*◌, ◌/◌, ◌%◌, ◌≤◌, ◌<◌}
+use Prim.Native.Nat.{ℕ, suc, ◌+◌, ◌*◌, ◌/◌, ◌%◌, ◌≤◌, ◌<◌}
 use mathlib.Core.Path.{◌≡◌, refl, sym, ap, ap₂, ◌∙◌, subst}
 use mathlib.Core.Bool.{Bool, true, false, not, ◌||◌, false≢true}
 use mathlib.Core.List.{List, [], ◌∷◌}
@@ -12,8 +12,7 @@ use borrow.Author.Tests.{eqb-true}
 use Rattle.base.specs.Choice.{pick, all}
 use Rattle.base.specs.Bytes.{same, is_in}
 use Rattle.base.specs.Quoted.{bytes}
-use Rattle.base.specs.declared.Verdict.{Verdict}
-use Rattle.base.specs.declared.Verdict.TheVariants.{Fine}
+use Rattle.base.specs.Verdicts.{Verdict, Fine, answered}
 use Rattle.base.proofs.Bools.{left, right}
 use Rattle.base.proofs.ByteLaws.{same_is}
 use Rattle.base.proofs.RuleLaws.{fine_broken, then_clean}
@@ -39,18 +38,17 @@ use Rattle.contents.proofs.RuleLaws.{field_says}
 use Rattle.values.specs.Values as values
 use Rattle.values.specs.Values.{ValueKind, tag, values_of, values_in}
 use Rattle.values.specs.Judged.{first_bad, no_day, foreign}
-use Rattle.values.specs.Answers.{date_of, kopecks_of, fault_of, answered}
+use Rattle.std.specs.Prelude.{Option, None, Some, is_some, Ok}
+use Rattle.values.specs.Answers.{date_of, kopecks_of, fault_of, fault_verdict}
 use Rattle.values.specs.Day as days
 use Rattle.values.specs.Sentences.{OfCalendar}
 use Rattle.values.proofs.DayLaws.{day_iff}
 use Rattle.values.proofs.GrammarLaws.{paid_values_lem, paid_kopecks, paid_date_lem}
 use Rattle.values.proofs.StepLaws.{first_field}
-use Rattle.message.specs.declared.Span.TheVariants.{Part, Nothing}
-use Rattle.message.specs.Lists.{part_at}
+use Rattle.message.specs.Lists.{part_at, Part}
 use Rattle.message.specs.Paid.{PaidIn}
-use Rattle.message.specs.Calls.{span_by, span_of, part_of, content_of, paid, amount_by, amount_of, day_split, day_by, day_of}
-use Rattle.message.specs.declared.Amount.TheVariants as amounts
-use Rattle.message.specs.declared.Day.TheVariants as day_answer
+use Rattle.message.specs.Calls.{span_by, span_of, part_of, content_of, paid, amount_of, day_split, day_of, on}
+use Rattle.message.specs.declared.Day.{Day}
 use Rattle.message.proofs.SpanLaws.{part_listed}
 use Rattle.frame.proofs.CallLaws.{taken}
 use Rattle.message.specs.Message.{verdict_of}
@@ -98,24 +96,24 @@ record Shown (m : List ℕ) (ps : List Place) (q o : ℕ) (fs : List Field) (for
   at_place : find ps tag ≡ q
   content : part_of m (part_at ps q o fs) ≡ joined (line ∷ more)
   right_is : right_field form sign (field tag (line ∷ more)) ≡ true
-  days : fault_of no_day (values_of tag (held_by form tag) (line ∷ more)) ≡ 0
-  roubles : fault_of foreign (values_of tag (held_by form tag) (line ∷ more)) ≡ 0
+  days : fault_of no_day (values_of tag (held_by form tag) (line ∷ more)) ≡ None
+  roubles : fault_of foreign (values_of tag (held_by form tag) (line ∷ more)) ≡ None
 
-no_fault : (number s k : ℕ) → answered number s k ≡ Fine → k ≡ 0
-no_fault number s zero e = refl
-no_fault number s (suc k) e = absurd (fine_broken number (s + k) (sym e))
+no_fault : (number s : ℕ) (k : Option ℕ) → fault_verdict number s k ≡ Fine → k ≡ None
+no_fault number s None e = refl
+no_fault number s (Some k) e = absurd (fine_broken number (s + k) (sym e))
 
 -- a rule that no value of a field's breaks, and none of those behind it
 rest_fine : (number : ℕ) (bad : ValueKind → Bool) → ((t : List ℕ) → bad (tag t) ≡ false) → (form : Form) (o : ℕ) (t : List ℕ) (ls : List (List ℕ)) (fs : List Field)
-    → first_bad number bad (values_in form o (field t ls ∷ fs)) ≡ Fine → (fault_of bad (values_of t (held_by form t) ls) ≡ 0) × (first_bad number bad (values_in form (next_of o (field t ls)) fs) ≡ Fine)
+    → first_bad number bad (values_in form o (field t ls ∷ fs)) ≡ Fine → (fault_of bad (values_of t (held_by form t) ls) ≡ None) × (first_bad number bad (values_in form (next_of o (field t ls)) fs) ≡ Fine)
 rest_fine number bad h form o t ls fs e =
-    let k : ℕ = fault_of bad (values_of t (held_by form t) ls) in
+    let k : Option ℕ = fault_of bad (values_of t (held_by form t) ls) in
     let s : ℕ = start_of o (field t ls) in
-    let c = then_clean (answered number s k) (first_bad number bad (values_in form (next_of o (field t ls)) fs)) (sym (first_field form o t ls fs number bad h) ∙ e) in
+    let c = then_clean (fault_verdict number s k) (first_bad number bad (values_in form (next_of o (field t ls)) fs)) (sym (first_field form o t ls fs number bad h) ∙ e) in
     (no_fault number s k c.0, c.1)
 
 shown : (m : List ℕ) (ps : List Place) (q o : ℕ) (fs : List Field) (form : Form) (sign : Bool) → Standing m o fs → all (right_field form sign) fs ≡ true → first_bad 9 no_day (values_in form o fs) ≡ Fine
-    → first_bad 10 foreign (values_in form o fs) ≡ Fine → (part_at ps q o fs ≡ Nothing → ⊥) → Shown m ps q o fs form sign
+    → first_bad 10 foreign (values_in form o fs) ≡ Fine → (part_at ps q o fs ≡ None → ⊥) → Shown m ps q o fs form sign
 unfolding part_at
 shown m ps q o [] form sign w r d u h = absurd (h refl)
 shown m ps q o (field t [] ∷ fs) form sign w r d u h = absurd (false≢true w.able)
@@ -126,9 +124,9 @@ shown m ps q o (field t (l ∷ ls) ∷ fs) form sign w r d u h =
     go (eqb (find ps t) q) refl h a.0 b.0
     (shown m ps q (next_of o f) fs form sign (next_standing m o t l ls fs w) (right (right_field form sign f) (all (right_field form sign) fs) r) a.1 b.1)
   where
-    go : (b : Bool) → eqb (find ps t) q ≡ b → (pick b (Part (start_of o (field t (l ∷ ls))) (end_of o (field t (l ∷ ls)))) (part_at ps q (next_of o (field t (l ∷ ls))) fs) ≡ Nothing → ⊥)
-        → fault_of no_day (values_of t (held_by form t) (l ∷ ls)) ≡ 0 → fault_of foreign (values_of t (held_by form t) (l ∷ ls)) ≡ 0
-        → ((part_at ps q (next_of o (field t (l ∷ ls))) fs ≡ Nothing → ⊥) → Shown m ps q (next_of o (field t (l ∷ ls))) fs form sign)
+    go : (b : Bool) → eqb (find ps t) q ≡ b → (pick b (Part (start_of o (field t (l ∷ ls))) (end_of o (field t (l ∷ ls)))) (part_at ps q (next_of o (field t (l ∷ ls))) fs) ≡ None → ⊥)
+        → fault_of no_day (values_of t (held_by form t) (l ∷ ls)) ≡ None → fault_of foreign (values_of t (held_by form t) (l ∷ ls)) ≡ None
+        → ((part_at ps q (next_of o (field t (l ∷ ls))) fs ≡ None → ⊥) → Shown m ps q (next_of o (field t (l ∷ ls))) fs form sign)
         → Shown m ps q o (field t (l ∷ ls) ∷ fs) form sign
     go true e g k n i =
         record {
@@ -186,21 +184,21 @@ sits_202 = record { below = omega arith; mandatory = refl; alone = λ t e. secon
 abbrev paid_values : Text → Text → List values.Value
 paid_values d c = values.at 0 (values.date d) ∷ values.at (length d) (values.currency c) ∷ []
 
-day_fine : (date currency : Text) → fault_of no_day (paid_values date currency) ≡ 0 → days.real_day date ≡ true
+day_fine : (date currency : Text) → fault_of no_day (paid_values date currency) ≡ None → days.real_day date ≡ true
 unfolding fault_of
 day_fine date currency e = go (days.real_day date) e
   where
-    go : (b : Bool) → ◌≡◌ {A = ℕ} (pick (not b) 1 0) 0 → b ≡ true
+    go : (b : Bool) → ◌≡◌ {A = Option ℕ} (pick (not b) (Some 0) None) None → b ≡ true
     go true e = refl
-    go false e = absurd (omega arith)
+    go false e = absurd (false≢true (sym (ap is_some e)))
 
-rub_fine : (date currency : Text) → fault_of foreign (paid_values date currency) ≡ 0 → currency ≡ bytes "RUB"
+rub_fine : (date currency : Text) → fault_of foreign (paid_values date currency) ≡ None → currency ≡ bytes "RUB"
 unfolding fault_of
 rub_fine date currency e = same_is currency (bytes "RUB") (go (same currency (bytes "RUB")) e)
   where
-    go : (b : Bool) → pick (not b) (suc (length date)) 0 ≡ 0 → b ≡ true
+    go : (b : Bool) → pick (not b) (Some (length date)) None ≡ None → b ≡ true
     go true e = refl
-    go false e = absurd (omega arith)
+    go false e = absurd (false≢true (sym (ap is_some e)))
 
 -- a day of the calendar comes out of its number again
 month_long : (y m : ℕ) → days.days_in y m ≤ 31
@@ -213,11 +211,11 @@ month_long y m = go (eqb m 2) (days.leap y) (is_in m (4 ∷ 6 ∷ 9 ∷ 11 ∷ [
     go false b true = omega arith
     go false b false = omega arith
 
-split_dated : (date : Text) → OfCalendar (days.year date) (days.month date) (days.day date) → day_split (days.dated date) ≡ day_answer.On (days.year date) (days.month date) (days.day date)
+split_dated : (date : Text) → OfCalendar (days.year date) (days.month date) (days.day date) → day_split (days.dated date) ≡ on (days.year date) (days.month date) (days.day date)
 unfolding days.dated
 split_dated date c = go (days.year date) (days.month date) (days.day date) c.last_month (omega (arith, c.last_day, month_long (days.year date) (days.month date)))
   where
-    go : (y m d : ℕ) → m ≤ 12 → d ≤ 31 → day_split (y * 10000 + m * 100 + d) ≡ day_answer.On y m d
+    go : (y m d : ℕ) → m ≤ 12 → d ≤ 31 → day_split (y * 10000 + m * 100 + d) ≡ on y m d
     go y m d h k =
         let n : ℕ = y * 10000 + m * 100 + d in
         let a : n / 10000 ≡ y = omega arith in
@@ -225,12 +223,12 @@ split_dated date c = go (days.year date) (days.month date) (days.day date) c.las
         let c : n % 100 ≡ d = omega arith in
         rw (a, b, c)
 
-not_nothing : (s t : ℕ) → Part s t ≡ Nothing → ⊥
+not_nothing : (s t : ℕ) → Part s t ≡ None → ⊥
 not_nothing s t e = let z : ◌≡◌ {A = ℕ} 0 1 = cc in omega arith
 
 module _ (form : Form) (m : List ℕ) (e : verdict_of form m ≡ Fine) (q : ℕ) (s : Sits (places_of form) q) (z : q ≡ find (places_of form) (bytes "32A"))
     (st : held_by form (bytes "32A") ≡ holds.Payment) where
-  is_there : part_at (places_of form) q 5 (fields m) ≡ Nothing → ⊥
+  is_there : part_at (places_of form) q 5 (fields m) ≡ None → ⊥
   is_there n =
       let t = taken form m (frame_clean form m e) in
       let p = must_present (places_of form) 0 (fields m) q ((walked_accepted form m).0 t.walk_fine) (omega arith) s.below s.mandatory in
@@ -280,9 +278,9 @@ module _ (form : Form) (m : List ℕ) (e : verdict_of form m ≡ Fine) (q : ℕ)
         is = its_content;
         parts = p.parts;
         roubles = rub_fine p.date p.currency (ap (fault_of foreign) (sym its_values) ∙ the_field.roubles);
-        amount = ap (λ (v : Verdict). amount_by v (kopecks_of (paid form m))) e ∙ ap (λ (u : List ℕ). amounts.Is (kopecks_of u)) its_content ∙ ap amounts.Is (paid_kopecks p.parts);
+        amount = ap (λ (v : Verdict). answered v (kopecks_of (paid form m))) e ∙ ap (λ (u : List ℕ). Ok (kopecks_of u)) its_content ∙ ap (λ (n : ℕ). Ok n) (paid_kopecks p.parts);
         calendar = its_calendar;
-        day = ap (λ (v : Verdict). day_by v (date_of (paid form m))) e ∙ ap (λ (u : List ℕ). day_split (date_of u)) its_content ∙ ap day_split (paid_date_lem p.parts) ∙ split_dated p.date its_calendar;
+        day = ap (λ (v : Verdict). answered v (day_split (date_of (paid form m)))) e ∙ ap (λ (u : List ℕ). Ok (day_split (date_of u))) its_content ∙ ap (λ (n : ℕ). Ok (day_split n)) (paid_date_lem p.parts) ∙ ap (λ (x : Day). Ok x) (split_dated p.date its_calendar);
       }
 
 pub paid_whole_lem : (form : Form) (m : List ℕ) → verdict_of form m ≡ Fine → PaidIn form m

@@ -5,8 +5,7 @@ use mathlib.Core.List.{List, [], ◌∷◌, ◌++◌}
 use Rattle.types.specs.declared.Form.{Form}
 use Rattle.base.specs.Examples.{AllHold}
 use Rattle.base.specs.Rules.{first}
-use Rattle.base.specs.declared.Verdict.{Verdict}
-use Rattle.base.specs.declared.Verdict.TheVariants.{Fine}
+use Rattle.base.specs.Verdicts.{Verdict, Fine}
 use Rattle.base.proofs.RuleLaws.{then_clean, first_holds, first_clean}
 use Rattle.frame.specs.Frame.{frame_rules, refusal}
 use Rattle.frame.proofs.RuleLaws.{frame_listed, frame_rules_lem}

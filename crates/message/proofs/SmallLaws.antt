@@ -5,10 +5,10 @@ use mathlib.Core.Bool.{Bool, true, false, false≢true}
 use mathlib.Core.List.{List, [], ◌∷◌}
 use native.Mathlib.Omega.{arith}
 use lib.ListN.{length, length-append}
+use Rattle.std.specs.Prelude.{Err}
 use Rattle.base.specs.Choice.{pick, all}
 use Rattle.base.specs.Rules.{last_number, then, first}
-use Rattle.base.specs.declared.Verdict.{Verdict}
-use Rattle.base.specs.declared.Verdict.TheVariants.{Fine, Broken}
+use Rattle.base.specs.Verdicts.{Verdict, Fine, Broken}
 use Rattle.base.proofs.Bools.{right}
 use Rattle.fields.specs.Field.{Field, field, lined, lines_of, fields}
 use Rattle.fields.specs.Frame.{limit}
@@ -76,8 +76,8 @@ texts_small b form fs h = go (sign_of fs) (unheard (speeches_of form 5 fs)) refl
     go : (q : Bool) (v : Verdict) → unheard (speeches_of form 5 fs) ≡ v → Small b (pick q v Fine)
     go false v e = tt
     go true Fine e = tt
-    go true (Broken n p) e =
-        (omega (arith, unheard_number (speeches_of form 5 fs) n p e), omega (arith, unheard_within (speeches_of form 5 fs) 7 (5 + lines_size (lines_of fs) + 2) n p (spoken_within form 5 fs) e))
+    go true (Err r) e =
+        (omega (arith, unheard_number (speeches_of form 5 fs) r.number r.place e), omega (arith, unheard_within (speeches_of form 5 fs) 7 (5 + lines_size (lines_of fs) + 2) r.number r.place (spoken_within form 5 fs) e))
 
 -- ---- 21: /NZP/ stands in the fields
 lengths_small : (b : ℕ) (form : Form) (fs : List Field) → 5 + lines_size (lines_of fs) ≤ b → Small b (rule_21 form fs)
@@ -85,12 +85,12 @@ lengths_small b form fs h = go (rule_21 form fs) refl
   where
     go : (v : Verdict) → rule_21 form fs ≡ v → Small b v
     go Fine e = tt
-    go (Broken n p) e = let w = rule_21_within form fs n p e in (omega (arith, w.0), omega (arith, w.1))
+    go (Err r) e = let w = rule_21_within form fs r.number r.place e in (omega (arith, w.0), omega (arith, w.1))
 
 -- ---- the whole
 widened : (a b : ℕ) (v : Verdict) → a ≤ b → Small a v → Small b v
 widened a b Fine h s = tt
-widened a b (Broken n p) h s = (s.0, omega (arith, s.1))
+widened a b (Err r) h s = (s.0, omega (arith, s.1))
 
 content_small : (form : Form) (m : List ℕ) → Taken form m → Small limit (first (content_rules form m))
 unfolding rule_8 rule_9 rule_10 rule_11 rule_12 rule_13
@@ -119,4 +119,4 @@ verdict_small form m = subst (Small limit) (sym (verdict_by form m)) (go (refusa
   where
     go : (v : Verdict) → refusal form m ≡ v → Small limit v → Small limit (then v (first (content_rules form m)))
     go Fine e s = content_small form m (taken form m e)
-    go (Broken n p) e s = s
+    go (Err r) e s = s

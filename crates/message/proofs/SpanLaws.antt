@@ -10,6 +10,7 @@ use lib.Dec.{eqb}
 use lib.ListN.{length, drop}
 use lib.Seq.{drop-drop, get_or-drop}
 use borrow.Author.Tests.{eq-eqb, ne_eqb}
+use Rattle.std.specs.Prelude.{Option, None}
 use Rattle.base.specs.Choice.{pick}
 use Rattle.base.specs.Bytes.{byte}
 use Rattle.base.specs.Bits.{bit}
@@ -21,27 +22,26 @@ use Rattle.types.specs.Walk.{find, word, present, walked}
 use Rattle.types.specs.Sentences.{AllRight, place_of_field, Present}
 use Rattle.types.proofs.WalkLaws.{walked_accepted}
 use Rattle.types.proofs.WordLaws.{rises, present_iff, word_bit, ones_before}
-use Rattle.base.specs.declared.Verdict.TheVariants.{Fine}
+use Rattle.base.specs.Verdicts.{Fine}
 use Rattle.frame.specs.Frame.{word_of}
 use Rattle.message.specs.declared.Span.{Span}
-use Rattle.message.specs.declared.Span.TheVariants.{Part, Nothing}
 use Rattle.message.specs.declared.parts.FieldAt.{FieldAt}
-use Rattle.message.specs.Lists.{part_at}
-use Rattle.message.specs.Parts.{Settled, Here}
-use Rattle.message.proofs.FieldLaws.{stands, at_field}
+use Rattle.message.specs.Lists.{part_at, Part}
+use Rattle.message.specs.Parts.{Here}
+use Rattle.message.proofs.FieldLaws.{Settled, stands, at_field}
 
 -- ---- over the fields
-pub part_absent : (ps : List Place) (q o : ℕ) (fs : List Field) → present ps fs q ≡ false → part_at ps q o fs ≡ Nothing
+pub part_absent : (ps : List Place) (q o : ℕ) (fs : List Field) → present ps fs q ≡ false → part_at ps q o fs ≡ None
 unfolding present part_at
 part_absent ps q o [] e = refl
 part_absent ps q o (f ∷ fs) e = go (eqb (find ps (tag_of f)) q) e (part_absent ps q (next_of o f) fs)
   where
-    go : (b : Bool) → (b || present ps fs q) ≡ false → (present ps fs q ≡ false → part_at ps q (next_of o f) fs ≡ Nothing) → pick b (Part (start_of o f) (end_of o f)) (part_at ps q (next_of o f) fs) ≡ Nothing
+    go : (b : Bool) → (b || present ps fs q) ≡ false → (present ps fs q ≡ false → part_at ps q (next_of o f) fs ≡ None) → pick b (Part (start_of o f) (end_of o f)) (part_at ps q (next_of o f) fs) ≡ None
     go true e r = absurd (true≢false e)
     go false e r = r e
 
 -- the start and the end that the list has for field k
-abbrev pub listed_part : List ℕ → ℕ → Span
+abbrev pub listed_part : List ℕ → ℕ → Option Span
 listed_part list k = Part (byte list (3 * k + 1)) (byte list (3 * k + 2))
 
 pub part_listed : (ps : List Place) (next o : ℕ) (fs : List Field) (k q : ℕ) → AllRight ps next fs → k < length fs → place_of_field ps fs k ≡ q → part_at ps q o fs ≡ listed_part (listed o fs) k
@@ -98,7 +98,7 @@ module _ {m spots : List ℕ} (s : Settled m spots) where
     bit_is : bit w place ≡ pick (present ps (fields m) place) 1 0
     bit_is = ap (λ (x : ℕ). bit x place) e ∙ word_bit ps 0 (fields m) all_right place
 
-    pub part_none : bit w place ≡ 0 → Nothing ≡ part_at ps place 5 (fields m)
+    pub part_none : bit w place ≡ 0 → None ≡ part_at ps place 5 (fields m)
     part_none z = sym (part_absent ps place 5 (fields m) (no_bit_lem (present ps (fields m) place) (sym bit_is ∙ z)))
 
     module _ (h : bit w place ≡ 0 → ⊥) {k : ℕ} (n : k ≡ ones (w % 2 ^ place)) where

@@ -1,20 +1,21 @@
 -- What a judged message is, said of the definitions that the call's contract cites (O1, D2a, D2b). Assumes nothing.
 use Prim.Native.Nat.{ℕ}
-use mathlib.Core.Path.{◌≡◌, refl, sym, ap, ap₂, ◌∙◌}
+use mathlib.Core.Path.{◌≡◌, sym, ap, ap₂, ◌∙◌}
 use mathlib.Core.Bool.{true}
 use mathlib.Core.List.{List}
 use mathlib.Core.Logic.{◌↔◌}
+use Rattle.std.specs.Prelude.{Result, Ok, Err}
+use Rattle.base.specs.declared.Refusal.{Refusal}
 use Rattle.base.specs.Choice.{all}
 use Rattle.base.specs.Rules.{then, first, Clean, FirstOf}
-use Rattle.base.specs.declared.Verdict.{Verdict}
-use Rattle.base.specs.declared.Verdict.TheVariants.{Fine, Broken}
-use Rattle.base.proofs.RuleLaws.{then_clean, accepted_iff, refused_iff}
+use Rattle.base.specs.Verdicts.{Verdict, Fine, Broken}
+use Rattle.base.proofs.RuleLaws.{then_clean, accepted_iff, refused_iff, answered_ok, answered_err}
 use Rattle.base.proofs.CallLaws.{one_answer}
 use Rattle.fields.specs.Field.{fields}
 use Rattle.types.specs.declared.Form.{Form}
 use Rattle.types.specs.Sign.{sign_of}
 use Rattle.frame.specs.declared.Frame.{Frame}
-use Rattle.frame.specs.Frame.{refusal, frame_by}
+use Rattle.frame.specs.Frame.{refusal, fields_found}
 use Rattle.frame.proofs.CallLaws.{Found}
 use Rattle.contents.specs.Rule8.{right_field, EachRight, FirstWrong}
 use Rattle.contents.proofs.RuleLaws.{rule_8_fine, rule_8_right, rule_8_broken}
@@ -25,7 +26,7 @@ use Rattle.message.proofs.JudgeLaws.{verdict_by}
 use Rattle.message.proofs.RuleLaws.{accepted_rules}
 
 -- any two outcomes are equal
-pub judge_one : (form : Form) (m : List ℕ) {f g : Frame} → f ≡ judged_of form m → g ≡ judged_of form m → f ≡ g
+pub judge_one : (form : Form) (m : List ℕ) {r s : Result Frame Refusal} → r ≡ judged_of form m → s ≡ judged_of form m → r ≡ s
 judge_one form m p q = one_answer p q
 
 module _ (form : Form) (m : List ℕ) where
@@ -63,23 +64,20 @@ module _ (form : Form) (m : List ℕ) where
   unfolding rule_10
   roubles_only e = (accepted_rules form m e).inside.currency
 
-  -- ---- what a caller learns of the struct
-  by_verdict : (v : Verdict) → (frame_by v form m).verdict ≡ v
-  unfolding frame_by
-  by_verdict Fine = refl
-  by_verdict (Broken n p) = refl
+  -- ---- what a caller learns of the answer
+  pub refused_as : {r : Refusal} → Err r ≡ judged_of form m → verdict_of form m ≡ Err r
+  unfolding judged_of
+  refused_as e = answered_err _ (verdict_of form m) e
 
-  module _ {f : Frame} (e : f ≡ judged_of form m) where
-    pub judged_by : {v : Verdict} → f.verdict ≡ v → verdict_of form m ≡ v
+  module _ {f : Frame} (e : Ok f ≡ judged_of form m) where
+    pub accepted_is : verdict_of form m ≡ Fine
     unfolding judged_of
-    judged_by q = sym (ap (λ (g : Frame). g.verdict) e ∙ by_verdict (verdict_of form m)) ∙ q
+    accepted_is = (answered_ok (verdict_of form m) e).0
 
-    module _ (q : f.verdict ≡ Fine) where
-      whole : f ≡ frame_by Fine form m
-      unfolding judged_of
-      whole = e ∙ ap (λ (v : Verdict). frame_by v form m) (judged_by q)
+    pub judged_whole : f ≡ fields_found form m
+    unfolding judged_of
+    judged_whole = (answered_ok (verdict_of form m) e).1
 
-      pub judged_found : Found form m f.spots f.present
-      unfolding frame_by
-      judged_found =
-          record { clean = frame_clean (judged_by q); spots_are = ap (λ (g : Frame). g.spots) whole; word_is = ap (λ (g : Frame). g.present) whole }
+    pub judged_found : Found form m f.spots f.present
+    unfolding fields_found
+    judged_found = record { clean = frame_clean accepted_is; spots_are = ap (λ (g : Frame). g.spots) judged_whole; word_is = ap (λ (g : Frame). g.present) judged_whole }

@@ -1,12 +1,12 @@
 -- The calls on a message (N17, K1-K3). Assumes nothing.
-use Rattle.std.specs.Prelude.{ℕ, ◌-◌, ◌*◌, ◌/◌, ◌%◌, ◌≤◌, ◌≡◌, List, [], ◌∷◌, ◌++◌, ◌↔◌, length, take, drop}
+use Rattle.std.specs.Prelude.{ℕ, ◌-◌, ◌*◌, ◌/◌, ◌%◌, ◌≤◌, ◌≡◌, List, [], ◌∷◌, ◌++◌, ◌↔◌, length, take, drop, Option, None, Some, Result, Ok, Err}
+use Rattle.std.specs.Borrow.{Bor}
 use Rattle.std.specs.Int.Count.{ones}
 use Rattle.base.specs.Rules.{first, Clean}
 use Rattle.base.specs.Bits.{bit}
 use Rattle.base.specs.Calls.{short, over, room}
 use Rattle.base.specs.Quoted.{bytes}
-use Rattle.base.specs.declared.Verdict.{Verdict}
-use Rattle.base.specs.declared.Verdict.TheVariants.{Fine, Broken}
+use Rattle.base.specs.Verdicts.{Verdict, Fine, answered}
 use Rattle.fields.specs.Field.{fields}
 use Rattle.fields.specs.Places.{listed}
 use Rattle.types.specs.declared.Form.{Form}
@@ -15,16 +15,12 @@ use Rattle.types.specs.Walk.{find}
 use Rattle.types.specs.Sentences.{Present}
 use Rattle.frame.specs.Frame.{word_of}
 use Rattle.message.specs.declared.Span.{Span}
-use Rattle.message.specs.declared.Span.TheVariants.{Part, Nothing}
 use Rattle.message.specs.Lists.{part_at}
 use Rattle.message.specs.Message.{message_rules, verdict_of}
 use Rattle.values.specs.Answers.{kopecks_of, date_of}
-use Rattle.message.specs.declared.Checked.{Checked}
-use Rattle.message.specs.declared.Checked.TheVariants as checked
-use Rattle.message.specs.declared.Amount.{Amount}
-use Rattle.message.specs.declared.Amount.TheVariants as amount
+use Rattle.message.specs.declared.Accepted.{Accepted}
 use Rattle.message.specs.declared.Day.{Day}
-use Rattle.message.specs.declared.Day.TheVariants as day
+use Rattle.base.specs.declared.Refusal.{Refusal}
 
 -- ---- the check
 -- 17 comes last; its place is the numbers needed
@@ -32,19 +28,18 @@ abbrev pub check_rules : Form → List ℕ → List ℕ → List Verdict
 check_rules form m list = message_rules form m ++ short (listed 5 (fields m)) list ∷ []
 
 -- accepted with the number of fields and the word, or refused with number and place
-abbrev pub checked_by : Verdict → ℕ → ℕ → Checked
-checked_by Fine fields present = checked.Accepted fields present
-checked_by (Broken number place) fields present = checked.Refused number place
+abbrev pub counted : ℕ → ℕ → Accepted
+counted fields present = record { fields = fields; present = present }
 
-abbrev pub answer_of : Form → List ℕ → List ℕ → Checked
-answer_of form m list = checked_by (first (check_rules form m list)) (length (fields m)) (word_of form m)
+abbrev pub answer_of : Form → List ℕ → List ℕ → Result Accepted Refusal
+answer_of form m list = answered (first (check_rules form m list)) (counted (length (fields m)) (word_of form m))
 
 -- a refusal leaves the list, else the fields' numbers are put over its front
 abbrev pub left_of : Form → List ℕ → List ℕ → List ℕ
 left_of form m list = room (first (check_rules form m list)) (listed 5 (fields m)) list
 
 -- the call answers r and leaves the list as after
-pub record Checks (form : Form) (m list : List ℕ) (r : Checked) (after : List ℕ) : Type 0 where
+pub record Checks (form : Form) (m list : List ℕ) (r : Result Accepted Refusal) (after : List ℕ) : Type 0 where
   pub answers : r ≡ answer_of form m list
   pub leaves : after ≡ left_of form m list
 
@@ -62,16 +57,16 @@ pub record Listed (form : Form) (m list : List ℕ) (n w : ℕ) (after : List �
   pub behind : drop (3 * n) after ≡ drop (3 * n) list
 
 -- ---- the part of a place, and its bytes
-abbrev pub span_by : Verdict → Span → Span
+abbrev pub span_by : Verdict → Option Span → Option Span
 span_by Fine s = s
-span_by (Broken number place) s = Nothing
+span_by (Err r) s = None
 
-unfoldable pub span_of : Form → List ℕ → ℕ → Span
+unfoldable pub span_of : Form → List ℕ → ℕ → Option Span
 span_of form m place = span_by (verdict_of form m) (part_at (places_of form) place 5 (fields m))
 
-abbrev pub part_of : List ℕ → Span → List ℕ
-part_of m (Part start end) = take (end - start) (drop start m)
-part_of m Nothing = []
+abbrev pub part_of : List ℕ → Option Span → List ℕ
+part_of m (Some s) = take (s.end - s.start) (drop s.start m)
+part_of m None = []
 
 unfoldable pub content_of : Form → List ℕ → ℕ → List ℕ
 content_of form m place = part_of m (span_of form m place)
@@ -80,25 +75,26 @@ content_of form m place = part_of m (span_of form m place)
 unfoldable pub paid : Form → List ℕ → List ℕ
 paid form m = content_of form m (find (places_of form) (bytes "32A"))
 
-abbrev pub amount_by : Verdict → ℕ → Amount
-amount_by Fine n = amount.Is n
-amount_by (Broken number place) n = amount.Refused number place
+-- as code hands it on
+abbrev pub Pays : Form → List ℕ → Result (Bor (List ℕ)) Refusal → Type 0
+Pays form m (Ok c) = (verdict_of form m ≡ Fine) × (c.now ≡ paid form m)
+Pays form m (Err r) = verdict_of form m ≡ Err r
 
-unfoldable pub amount_of : Form → List ℕ → Amount
-amount_of form m = amount_by (verdict_of form m) (kopecks_of (paid form m))
+unfoldable pub amount_of : Form → List ℕ → Result ℕ Refusal
+amount_of form m = answered (verdict_of form m) (kopecks_of (paid form m))
+
+-- a day by its year, its month and its number
+abbrev pub on : ℕ → ℕ → ℕ → Day
+on year month day = record { year = year; month = month; day = day }
 
 -- a date YYYYMMDD as year, month and day
 abbrev pub day_split : ℕ → Day
-day_split n = day.On (n / 10000) (n / 100 % 100) (n % 100)
+day_split n = on (n / 10000) (n / 100 % 100) (n % 100)
 
-abbrev pub day_by : Verdict → ℕ → Day
-day_by Fine n = day_split n
-day_by (Broken number place) n = day.Refused number place
-
-unfoldable pub day_of : Form → List ℕ → Day
-day_of form m = day_by (verdict_of form m) (date_of (paid form m))
+unfoldable pub day_of : Form → List ℕ → Result Day Refusal
+day_of form m = answered (verdict_of form m) (day_split (date_of (paid form m)))
 
 -- what the private functions ask: the part stands in the message
-abbrev pub Inside : List ℕ → Span → Type 0
-Inside m (Part start end) = (start ≤ end) × (end ≤ length m)
-Inside m Nothing = Unit {0}
+abbrev pub Inside : List ℕ → Option Span → Type 0
+Inside m (Some s) = (s.start ≤ s.end) × (s.end ≤ length m)
+Inside m None = Unit {0}

@@ -1,17 +1,15 @@
 -- Worked examples of the calls, as one list (N8-N14, N17, N21, K1-K3). That they hold is proved in proofs/Examples.antt. Assumes nothing.
-use Rattle.std.specs.Prelude.{ℕ, ◌+◌, ◌≡◌, List, [], ◌∷◌, ◌++◌, length, replicate}
+use Rattle.std.specs.Prelude.{ℕ, ◌+◌, ◌≡◌, List, [], ◌∷◌, ◌++◌, length, replicate, Option, None, Ok}
 use Prim.Native.String.{String}
 use Rattle.types.specs.Form.{form_of}
 use Rattle.base.specs.Quoted.{bytes}
+use Rattle.base.specs.Verdicts.{Refused}
 use Rattle.fields.specs.Field.{Field, message, fields}
 use Rattle.fields.specs.Cases.{of}
 use Rattle.frame.specs.Cases.{sample}
 use Rattle.message.specs.declared.Span.{Span}
-use Rattle.message.specs.declared.Span.TheVariants.{Part, Nothing}
-use Rattle.message.specs.declared.Checked.TheVariants as checked
-use Rattle.message.specs.declared.Amount.TheVariants as amount
-use Rattle.message.specs.declared.Day.TheVariants as day
-use Rattle.message.specs.Calls.{answer_of, left_of, span_of, content_of, amount_of, day_of}
+use Rattle.message.specs.Lists.{Part}
+use Rattle.message.specs.Calls.{answer_of, left_of, span_of, content_of, amount_of, day_of, counted, on}
 
 pub data Case : Type 0 where
   -- the message of that type is these fields, and these are it; the answer has this word, and the list begins with these numbers; then the
@@ -22,7 +20,7 @@ pub data Case : Type 0 where
   -- with that room it needs so many numbers
   narrow : ℕ → String → ℕ → ℕ → Case
   -- the part of a place, and its bytes
-  spans : ℕ → String → ℕ → Span → Case
+  spans : ℕ → String → ℕ → Option Span → Case
   shows : ℕ → String → ℕ → String → Case
 
 -- a lent list, each of its numbers 9
@@ -31,12 +29,12 @@ lent n = replicate n 9
 
 abbrev pub Holds : Case → Type 0
 Holds (accepts kind s fs w ps k y m d) =
-    (fields (bytes s) ≡ fs) × (message fs ≡ bytes s) × (answer_of (form_of kind) (bytes s) (lent (length ps + 2)) ≡ checked.Accepted (length fs) w)
-    × (left_of (form_of kind) (bytes s) (lent (length ps + 2)) ≡ ps ++ 9 ∷ 9 ∷ []) × (amount_of (form_of kind) (bytes s) ≡ amount.Is k) × (day_of (form_of kind) (bytes s) ≡ day.On y m d)
+    (fields (bytes s) ≡ fs) × (message fs ≡ bytes s) × (answer_of (form_of kind) (bytes s) (lent (length ps + 2)) ≡ Ok (counted (length fs) w))
+    × (left_of (form_of kind) (bytes s) (lent (length ps + 2)) ≡ ps ++ 9 ∷ 9 ∷ []) × (amount_of (form_of kind) (bytes s) ≡ Ok k) × (day_of (form_of kind) (bytes s) ≡ Ok (on y m d))
 Holds (refuses kind s n number place) =
-    (answer_of (form_of kind) (bytes s) (lent n) ≡ checked.Refused number place) × (left_of (form_of kind) (bytes s) (lent n) ≡ lent n)
-    × (amount_of (form_of kind) (bytes s) ≡ amount.Refused number place) × (day_of (form_of kind) (bytes s) ≡ day.Refused number place)
-Holds (narrow kind s n needed) = (answer_of (form_of kind) (bytes s) (lent n) ≡ checked.Refused 17 needed) × (left_of (form_of kind) (bytes s) (lent n) ≡ lent n)
+    (answer_of (form_of kind) (bytes s) (lent n) ≡ Refused number place) × (left_of (form_of kind) (bytes s) (lent n) ≡ lent n)
+    × (amount_of (form_of kind) (bytes s) ≡ Refused number place) × (day_of (form_of kind) (bytes s) ≡ Refused number place)
+Holds (narrow kind s n needed) = (answer_of (form_of kind) (bytes s) (lent n) ≡ Refused 17 needed) × (left_of (form_of kind) (bytes s) (lent n) ≡ lent n)
 Holds (spans kind s place part) = span_of (form_of kind) (bytes s) place ≡ part
 Holds (shows kind s place c) = content_of (form_of kind) (bytes s) place ≡ bytes c
 
@@ -145,9 +143,9 @@ cases =
     -- 50K, 71A; no 26T; no place of the type; a message that is refused
     ∷ spans 103 sample 4 (Part 53 67)
     ∷ spans 103 sample 11 (Part 188 191)
-    ∷ spans 103 sample 2 Nothing
-    ∷ spans 103 sample 14 Nothing
-    ∷ spans 202 sample 0 Nothing
+    ∷ spans 103 sample 2 None
+    ∷ spans 103 sample 14 None
+    ∷ spans 202 sample 0 None
     ∷ shows 103 sample 4 "/40702\r\n'NORD'"
     ∷ shows 103 sample 2 ""
     ∷ []

@@ -1,11 +1,11 @@
--- What 9 to 13 need of the fields, found in one turn a field. A place is kept as one more than it is, 0 for none. Assumes nothing.
-use Rattle.std.specs.Prelude.{ℕ, zero, suc, ◌+◌, ◌≡◌, Bool, false, ◌&&◌, ◌||◌, List, [], ◌∷◌, eqb}
+-- What 9 to 13 need of the fields, found in one turn a field. Assumes nothing.
+use Rattle.std.specs.Prelude.{ℕ, ◌+◌, ◌≤◌, ◌≡◌, IfSome, Bool, false, ◌&&◌, ◌||◌, List, [], ◌∷◌, Option, None, Some, Result, Ok, Err}
+use Rattle.std.specs.Option.{option_or}
 use Rattle.base.specs.Choice.{pick}
 use Rattle.base.specs.Bytes.{same}
 use Rattle.base.specs.Quoted.{bytes}
 use Rattle.base.specs.Rules.{first}
-use Rattle.base.specs.declared.Verdict.{Verdict}
-use Rattle.base.specs.declared.Verdict.TheVariants.{Fine, Broken}
+use Rattle.base.specs.Verdicts.{Verdict, Fine, Broken}
 use Rattle.fields.specs.Field.{Field, field, tag_of}
 use Rattle.fields.specs.Places.{start_of, next_of}
 use Rattle.types.specs.declared.Form.{Form}
@@ -18,36 +18,29 @@ use Rattle.values.specs.Answers.{fault_of}
 use Rattle.values.specs.Steps.{finds}
 use Rattle.values.specs.declared.Finds.{Finds}
 use Rattle.message.specs.declared.facts.Facts.{Facts}
-use Rattle.message.specs.declared.facts.Read.{Read}
-use Rattle.message.specs.declared.facts.Read.TheVariants.{Wrong, Right}
-
--- the first of two
-unfoldable pub or_else : ℕ → ℕ → ℕ
-or_else zero b = b
-or_else (suc a) b = suc a
 
 -- a place inside a content that starts at s
-unfoldable pub within : ℕ → ℕ → ℕ
-within s zero = zero
-within s (suc k) = suc (s + k)
+unfoldable pub within : ℕ → Option ℕ → Option ℕ
+within s None = None
+within s (Some k) = Some (s + k)
 
 -- a field's own place, where a test holds of it
-unfoldable pub place_if : Bool → ℕ → ℕ
-place_if b o = pick b (suc o) 0
+unfoldable pub place_if : Bool → ℕ → Option ℕ
+place_if b o = pick b (Some o) None
 
 -- a KPP, in a field with the tag that is wanted
 abbrev pub kpp_at : Bool → List ℕ → List ℕ → Bool
 kpp_at kpp t u = same t u && kpp
 
 -- as a rule's answer
-abbrev pub as_verdict : ℕ → ℕ → Verdict
-as_verdict number zero = Fine
-as_verdict number (suc p) = Broken number p
+abbrev pub as_verdict : ℕ → Option ℕ → Verdict
+as_verdict number None = Fine
+as_verdict number (Some p) = Broken number p
 
 -- ---- field by field
 unfoldable pub nothing_yet : Facts
 nothing_yet =
-    record { day = 0; currency = 0; bank = 0; through = false; party = 0; payer = false; payee = false; purpose = 0; budget = 0 }
+    record { day = None; currency = None; bank = None; through = false; party = None; payer = false; payee = false; purpose = None; budget = None }
 
 -- a field with that tag, its colon at o
 unfoldable pub with_tag : Facts → ℕ → List ℕ → Facts
@@ -55,29 +48,38 @@ with_tag f o t =
     record {
       day = f.day;
       currency = f.currency;
-      bank = or_else f.bank (place_if (among t tags_56) o);
+      bank = option_or f.bank (place_if (among t tags_56) o);
       through = f.through || among t tags_57;
       party = f.party;
       payer = f.payer;
       payee = f.payee;
-      purpose = or_else f.purpose (place_if (same t (bytes "26T")) o);
-      budget = or_else f.budget (place_if (same t (bytes "77B")) o);
+      purpose = option_or f.purpose (place_if (same t (bytes "26T")) o);
+      budget = option_or f.budget (place_if (same t (bytes "77B")) o);
     }
 
 -- what is found in its content, which starts at s
 unfoldable pub with_finds : Facts → ℕ → List ℕ → Finds → Facts
 with_finds f s t x =
     record {
-      day = or_else f.day (within s x.day);
-      currency = or_else f.currency (within s x.currency);
+      day = option_or f.day (within s x.day);
+      currency = option_or f.currency (within s x.currency);
       bank = f.bank;
       through = f.through;
-      party = or_else f.party (within s x.party);
+      party = option_or f.party (within s x.party);
       payer = f.payer || kpp_at x.kpp t (bytes "50K");
       payee = f.payee || kpp_at x.kpp t (bytes "59");
       purpose = f.purpose;
       budget = f.budget;
     }
+
+abbrev pub with_found : Facts → ℕ → List ℕ → Option Finds → Facts
+with_found f s t None = f
+with_found f s t (Some x) = with_finds f s t x
+
+-- the places that are found in a content which starts at s are places of a message
+abbrev pub NotFar : ℕ → Option Finds → Type 0
+NotFar s None = Unit {0}
+NotFar s (Some x) = IfSome x.day (λ p. s + p ≤ 100000) × IfSome x.currency (λ p. s + p ≤ 100000) × IfSome x.party (λ p. s + p ≤ 100000)
 
 -- nothing is marked of a field with that tag
 abbrev pub Unmarked : List ℕ → Type 0
@@ -97,18 +99,20 @@ facts_from form f o [] = f
 facts_from form f o (g ∷ gs) = facts_from form (with_field form f o g) (next_of o g) gs
 
 -- 8 at the first content that isn't right, or the facts of all
-abbrev pub ReadOf : Form → Bool → List Field → Read → Type 0
-ReadOf form sign fs (Wrong p) = first_wrong 8 (right_field form sign) start_of 5 fs ≡ Broken 8 p
-ReadOf form sign fs (Right f) = (first_wrong 8 (right_field form sign) start_of 5 fs ≡ Fine) × (f ≡ facts_from form nothing_yet 5 fs)
+abbrev pub ReadOf : Form → Bool → List Field → Result Facts ℕ → Type 0
+ReadOf form sign fs (Err p) = first_wrong 8 (right_field form sign) start_of 5 fs ≡ Broken 8 p
+ReadOf form sign fs (Ok f) = (first_wrong 8 (right_field form sign) start_of 5 fs ≡ Fine) × (f ≡ facts_from form nothing_yet 5 fs)
 
 -- ---- what they come to
 -- 11: a 56, and no 57
-unfoldable pub open_bank : Bool → ℕ → ℕ
-open_bank through bank = pick through 0 bank
+unfoldable pub open_bank : Bool → Option ℕ → Option ℕ
+open_bank through bank = pick through None bank
 
 -- 13: a 26T with 77B and what is whole, a KPP in 50K and 59; a 77B with 26T
-unfoldable pub tax_rule : ℕ → ℕ → Bool → Verdict
-tax_rule purpose budget whole = pick (eqb purpose 0) (as_verdict 13 budget) (pick (eqb budget 0) (as_verdict 13 purpose) (pick whole Fine (as_verdict 13 purpose)))
+unfoldable pub tax_rule : Option ℕ → Option ℕ → Bool → Verdict
+tax_rule None budget whole = as_verdict 13 budget
+tax_rule (Some p) None whole = Broken 13 p
+tax_rule (Some p) (Some b) whole = pick whole Fine (Broken 13 p)
 
 unfoldable pub value_rules : Facts → Verdict
 value_rules f =

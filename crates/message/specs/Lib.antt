@@ -1,5 +1,7 @@
 pub mod Message
+pub mod Taken
 pub mod Parts
+pub mod Fields
 pub mod Facts
 pub mod Lists
 pub mod Calls

@@ -1,12 +1,12 @@
 -- The rules of a message in order, and what is found of it (O1, D2a, D2b). Assumes nothing.
-use Rattle.std.specs.Prelude.{ℕ, ◌≡◌, List, [], ◌∷◌, ◌++◌}
+use Rattle.std.specs.Prelude.{ℕ, ◌≡◌, List, [], ◌∷◌, ◌++◌, Result}
 use Rattle.types.specs.declared.Form.{Form}
 use Rattle.base.specs.Rules.{first}
-use Rattle.base.specs.declared.Verdict.{Verdict}
-use Rattle.base.specs.declared.Verdict.TheVariants.{Fine}
+use Rattle.base.specs.declared.Refusal.{Refusal}
+use Rattle.base.specs.Verdicts.{Verdict, Fine, answered}
 use Rattle.fields.specs.Field.{Field, fields}
 use Rattle.frame.specs.declared.Frame.{Frame}
-use Rattle.frame.specs.Frame.{frame_rules, EachFrameRule, frame_by}
+use Rattle.frame.specs.Frame.{frame_rules, EachFrameRule, fields_found}
 use Rattle.contents.specs.Rule8.{rule_8}
 use Rattle.values.specs.Judged.{rule_9, rule_10, rule_11, rule_12, rule_13}
 use Rattle.roles.specs.Rule14.{rule_14}
@@ -47,5 +47,5 @@ unfoldable pub verdict_of : Form → List ℕ → Verdict
 verdict_of form m = first (message_rules form m)
 
 -- that refusal, or the fields' count, word and spots
-unfoldable pub judged_of : Form → List ℕ → Frame
-judged_of form m = frame_by (verdict_of form m) form m
+unfoldable pub judged_of : Form → List ℕ → Result Frame Refusal
+judged_of form m = answered (verdict_of form m) (fields_found form m)

@@ -1,23 +1,19 @@
 // 21: details of a 103 that run on into 72 are no longer than they may be.
-ghost use Rattle.std.specs.Prelude.{◌≡◌, length};
+ghost use Rattle.std.specs.Prelude.{◌≡◌};
 ghost use Rattle.fields.specs.Field.{fields};
-ghost use Rattle.types.specs.Walk.{walked};
-ghost use Rattle.frame.specs.Frame.{word_of};
 ghost use Rattle.contents.specs.Rule8.{rule_8};
 ghost use Rattle.roles.specs.Rule21.{rule_21};
-ghost use Rattle.message.specs.Parts.{Settled};
+ghost use Rattle.base.specs.Verdicts.{Fine};
 
-use super::Span;
 use super::content::cut;
-use super::spots::part_of;
-use base::Verdict;
+use super::parts::Fields;
 use base::bits::bit_at;
-use frame::SPOTS;
-use roles::Spot;
+use base::{Refusal, Verdict};
 use roles::lengths::over_most;
 use types::Form;
 
 // The places of 70 and 72 in a 103.
+// Stays: by number, for the reason that those of 32A are (paid.rt).
 const DETAILS: usize = 10;
 
 const NOTE: usize = 12;
@@ -26,44 +22,31 @@ const NOTE: usize = 12;
 // have no more: most often 72 is an RPP line alone.
 const LEFT: u32 = 70;
 
-fn over_rule(m: &[u8], spots: &[u32; SPOTS], n: usize, word: u32) -> Verdict
-    requires { Settled m.now spots.now × (n ≡ length (fields m.now)) × (word ≡ word_of Form.Mt103 m.now) × (walked Form.Mt103 m.now ≡ Verdict.Fine) × (rule_8 Form.Mt103 m.now ≡ Verdict.Fine) }
-    ensures { result ≡ rule_21 Form.Mt103 (fields m.now) }
+pub(crate) fn lengths_rule(f: &Fields) -> Verdict
+    requires { rule_8 f.now.form f.now.message.now ≡ Fine }
+    ensures { result ≡ rule_21 f.now.form (fields f.now.message.now) }
 {
-    if bit_at(word, NOTE) == 0 {
-        return Verdict::Fine;
+    let Form::Mt103 = f.form else {
+        return Ok(());
+    };
+    if bit_at(f.frame.present, NOTE) == 0 {
+        return Ok(());
     }
-    let dash = spots[n];
-    let last = spots[n - 2];
+    let n = f.count();
+    let dash = f.frame.spots[n];
+    let last = f.frame.spots[n - 2];
     if dash - last <= LEFT {
-        return Verdict::Fine;
+        return Ok(());
     }
-    let Span::Part { start, end } = part_of(Form::Mt103, m, spots, word, NOTE) else {
-        return Verdict::Fine;
+    let Some(in72) = f.part_of(NOTE) else {
+        return Ok(());
     };
-    let in70 = cut(m, part_of(Form::Mt103, m, spots, word, DETAILS));
-    let Spot::At(i) = over_most(in70, &m[start..end]) else {
-        return Verdict::Fine;
+    let in70 = cut(f.message, f.part_of(DETAILS));
+    let Some(i) = over_most(in70, &f.message[in72.start..in72.end]) else {
+        return Ok(());
     };
-    Verdict::Broken {
+    Err(Refusal {
         number: 21,
-        place: start + i,
-    }
-}
-
-pub(crate) fn lengths_rule(
-    form: Form,
-    m: &[u8],
-    spots: &[u32; SPOTS],
-    n: usize,
-    word: u32,
-) -> Verdict
-    requires { Settled m.now spots.now × (n ≡ length (fields m.now)) × (word ≡ word_of form m.now) × (walked form m.now ≡ Verdict.Fine) × (rule_8 form m.now ≡ Verdict.Fine) }
-    ensures { result ≡ rule_21 form (fields m.now) }
-{
-    match form {
-        Form::Other => Verdict::Fine,
-        Form::Mt103 => over_rule(m, spots, n, word),
-        Form::Mt202 => Verdict::Fine,
-    }
+        place: in72.start + i,
+    })
 }

@@ -7,37 +7,30 @@ pub mod content;
 mod facts;
 mod lengths;
 pub mod paid;
-mod parts;
+pub mod parts;
 mod rules;
 pub mod sign;
 mod speeches;
-mod spots;
 pub mod verdict;
 
 // Where the content of a place stands in the message.
 #[derive(Clone, Copy)]
-pub enum Span {
-    Part { start: usize, end: usize },
-    Nothing,
+pub struct Span {
+    pub start: usize,
+    pub end: usize,
 }
 
-// The answer of the check.
+// What the check answers of a message that is accepted: how many fields it has, and a word with a bit for each place present.
 #[derive(Clone, Copy)]
-pub enum Checked {
-    Accepted { fields: usize, present: u32 },
-    Refused { number: u32, place: usize },
+pub struct Accepted {
+    pub fields: usize,
+    pub present: u32,
 }
 
-// The kopecks of 32A, or the message's refusal.
+// A day of the calendar.
 #[derive(Clone, Copy)]
-pub enum Amount {
-    Is(u64),
-    Refused { number: u32, place: usize },
-}
-
-// The date of 32A, or the message's refusal.
-#[derive(Clone, Copy)]
-pub enum Day {
-    On { year: u32, month: u32, day: u32 },
-    Refused { number: u32, place: usize },
+pub struct Day {
+    pub year: u32,
+    pub month: u32,
+    pub day: u32,
 }

@@ -3,15 +3,16 @@ ghost use Rattle.std.specs.Prelude.{◌≡◌};
 ghost use Rattle.base.specs.Quoted.{bytes};
 ghost use Rattle.types.specs.Form.{places_of};
 ghost use Rattle.types.specs.Walk.{find};
-ghost use Rattle.message.specs.Calls.{amount_of, day_of, day_split};
+ghost use Rattle.message.specs.Calls.{Pays, amount_of, day_of, day_split};
 
-use super::content::{cut, judged_part};
-use super::{Amount, Day};
-use base::Verdict;
+use super::Day;
+use super::content::cut;
+use super::verdict::judged;
+use base::Refusal;
 use types::Form;
 use values::amounts::{date_of, kopecks_of};
 
-// The places of 32A.
+// Stays: a place by its number, proved to be that of its tag; a search of the form's table is no plainer, as it has two tags for each place.
 const PAID_103: usize = 3;
 
 const PAID_202: usize = 2;
@@ -29,35 +30,33 @@ fn paid_place(form: Form) -> usize
 fn split_day(date: u32) -> Day
     ensures { result ≡ day_split date }
 {
-    Day::On {
+    Day {
         year: date / 10000,
         month: date / 100 % 100,
         day: date % 100,
     }
 }
 
+// The content of 32A, or the refusal.
+fn paid(form: Form, m: &[u8]) -> Result<&[u8], Refusal>
+    ensures { Pays form m.now result }
+{
+    let f = judged(form, m)?;
+    Ok(cut(m, f.part_of(paid_place(form))))
+}
+
 // The kopecks of 32A, or the refusal.
-pub fn kopecks(form: Form, m: &[u8]) -> Amount
+pub fn kopecks(form: Form, m: &[u8]) -> Result<u64, Refusal>
     ensures { result ≡ amount_of form m.now }
 {
-    let j = judged_part(form, m, paid_place(form));
-    let verdict = j.verdict;
-    let part = j.part;
-    match verdict {
-        Verdict::Broken { number, place } => Amount::Refused { number, place },
-        Verdict::Fine => Amount::Is(kopecks_of(cut(m, part))),
-    }
+    let content = paid(form, m)?;
+    Ok(kopecks_of(content))
 }
 
 // The date of 32A, or the refusal.
-pub fn date(form: Form, m: &[u8]) -> Day
+pub fn date(form: Form, m: &[u8]) -> Result<Day, Refusal>
     ensures { result ≡ day_of form m.now }
 {
-    let j = judged_part(form, m, paid_place(form));
-    let verdict = j.verdict;
-    let part = j.part;
-    match verdict {
-        Verdict::Broken { number, place } => Day::Refused { number, place },
-        Verdict::Fine => split_day(date_of(cut(m, part))),
-    }
+    let content = paid(form, m)?;
+    Ok(split_day(date_of(content)))
 }

@@ -1,50 +1,35 @@
 // 9 to 13, from what they need of the fields.
-ghost use Rattle.std.specs.Prelude.{◌≡◌, ◌&&◌};
+ghost use Rattle.std.specs.Prelude.{◌≡◌};
 ghost use Rattle.message.specs.Facts.{as_verdict, open_bank, tax_rule, value_rules};
 
 use super::facts::Facts;
-use base::Verdict;
+use base::{Refusal, Verdict};
 
 // 11: no 57 behind a 56.
-fn open_bank(through: bool, bank: usize) -> usize
+fn open_bank(through: bool, bank: Option<usize>) -> Option<usize>
     ensures { result ≡ open_bank through bank }
 {
-    if through { 0 } else { bank }
+    if through { None } else { bank }
 }
 
-fn as_verdict(number: u32, place: usize) -> Verdict
+fn as_verdict(number: u32, place: Option<usize>) -> Verdict
     ensures { result ≡ as_verdict number place }
 {
-    if place == 0 {
-        return Verdict::Fine;
+    match place {
+        None => Ok(()),
+        Some(place) => Err(Refusal { number, place }),
     }
-    Verdict::Broken {
-        number,
-        place: place - 1,
-    }
-}
-
-fn are_both(a: bool, b: bool) -> bool
-    ensures { result ≡ (a && b) }
-{
-    if !a {
-        return false;
-    }
-    b
 }
 
 // 13: at 26T where there is one.
-fn tax_rule(purpose: usize, budget: usize, whole: bool) -> Verdict
+fn tax_rule(purpose: Option<usize>, budget: Option<usize>, whole: bool) -> Verdict
     ensures { result ≡ tax_rule purpose budget whole }
 {
-    if purpose == 0 {
+    if purpose.is_none() {
         return as_verdict(13, budget);
     }
-    if budget == 0 {
-        return as_verdict(13, purpose);
-    }
-    if whole {
-        return Verdict::Fine;
+    if budget.is_some() && whole {
+        return Ok(());
     }
     as_verdict(13, purpose)
 }
@@ -52,18 +37,9 @@ fn tax_rule(purpose: usize, budget: usize, whole: bool) -> Verdict
 pub(crate) fn values_rule(f: Facts) -> Verdict
     ensures { result ≡ value_rules f }
 {
-    let bank = open_bank(f.through, f.bank);
-    if f.day != 0 {
-        return as_verdict(9, f.day);
-    }
-    if f.currency != 0 {
-        return as_verdict(10, f.currency);
-    }
-    if bank != 0 {
-        return as_verdict(11, bank);
-    }
-    if f.party != 0 {
-        return as_verdict(12, f.party);
-    }
-    tax_rule(f.purpose, f.budget, are_both(f.payer, f.payee))
+    as_verdict(9, f.day)?;
+    as_verdict(10, f.currency)?;
+    as_verdict(11, open_bank(f.through, f.bank))?;
+    as_verdict(12, f.party)?;
+    tax_rule(f.purpose, f.budget, f.payer && f.payee)
 }

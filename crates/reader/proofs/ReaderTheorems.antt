@@ -9,7 +9,7 @@ use lib.ListN.{length}
 use denote.Ref.{Bor}
 use Rattle.base.specs.Choice.{pick}
 use Rattle.base.specs.Bytes.{empty}
-use Rattle.base.specs.declared.Verdict.TheVariants.{Fine, Broken}
+use Rattle.base.specs.Verdicts.{Fine, Broken}
 use Rattle.base.proofs.RuleLaws.{fine_broken}
 use Rattle.fields.specs.Field.{fields}
 use Rattle.fields.specs.Places.{listed}

@@ -1,11 +1,13 @@
 -- A message read place by place (K2, K5). Assumes nothing.
-use Rattle.std.specs.Prelude.{ℕ, zero, suc, ◌-◌, ◌≡◌, Bool, not, List, eqb, leb}
+use Rattle.std.specs.Prelude.{ℕ, zero, suc, ◌-◌, ◌≡◌, Bool, not, List, eqb, leb, Result, Ok, Err}
 use Rattle.std.specs.Borrow.{Bor}
 use Rattle.types.specs.declared.Form.{Form}
 use Rattle.types.specs.Form.{form_of}
 use Rattle.base.specs.Choice.{pick}
 use Rattle.base.specs.Bytes.{empty}
 use Rattle.base.specs.Bits.{bit}
+use Rattle.base.specs.declared.Refusal.{Refusal}
+use Rattle.frame.specs.declared.Frame.{Frame}
 use Rattle.message.specs.Calls.{content_of}
 use Rattle.reader.specs.declared.Reader.{Reader}
 
@@ -44,6 +46,12 @@ pub data After (kind : ℕ) (m : Bor (List ℕ)) : ℕ → Reader → Type 0 whe
 -- ---- the same of a word's bits, from a place on
 abbrev pub is_set : ℕ → ℕ → Bool
 is_set w i = eqb (bit w i) 1
+
+-- ---- by the word, as code goes
+-- the places present; none of a refused message
+abbrev pub present_in : Result Frame Refusal → ℕ
+present_in (Ok f) = f.present
+present_in (Err r) = 0
 
 unfoldable pub next_bit : ℕ → ℕ → ℕ
 next_bit w from = pick (leb 32 from) 32 (first_from (is_set w) from (32 - from))

@@ -4,13 +4,15 @@
 ghost use Rattle.std.specs.Prelude.{◌≡◌};
 ghost use Rattle.types.specs.Form.{form_of};
 ghost use Rattle.message.specs.Calls.{content_of};
-ghost use Rattle.reader.specs.Reading.{next_bit, place_behind, Opened, MovedOn, at_hand};
+ghost use Rattle.message.specs.Message.{judged_of};
+ghost use Rattle.reader.specs.Reading.{next_bit, present_in, place_behind, Opened, MovedOn, at_hand};
 
 use base::bits::bit_at;
 use message::content::content;
 use message::verdict::judge;
 use types::forms::form_of;
 
+// Stays: functions over a struct that is copied, and no Iterator, as the rules name this form (docs/DECISIONS.md).
 #[derive(Clone, Copy)]
 pub struct Reader<'a> {
     pub kind: u32,
@@ -18,29 +20,34 @@ pub struct Reader<'a> {
     pub place: usize,
 }
 
-// The first bit from a place on that is set, 32 where none is.
+// Behind the last place of a word.
+const END: usize = 32;
+
+// The first bit from a place on that is set, the end where none is.
 fn next_bit(word: u32, from: usize) -> usize
     ensures { result ≡ next_bit word from }
 {
-    let mut i = from;
-    while i < 32 {
-        if bit_at(word, i) == 1 {
-            return i;
-        }
-        i += 1;
-    }
-    32
+    (from..END).find(|&i| bit_at(word, i) == 1).unwrap_or(END)
 }
 
-// The next place with a content; 32 behind the last, and of a refused message.
+// The word of the places present; none of a refused message.
+fn present_in(kind: u32, m: &[u8]) -> u32
+    ensures { result ≡ present_in (judged_of (form_of kind) m.now) }
+{
+    match judge(form_of(kind), m) {
+        Ok(f) => f.present,
+        Err(_) => 0,
+    }
+}
+
+// The next place with a content; the end behind the last, and of a refused message.
 pub fn place_behind(kind: u32, m: &[u8], place: usize) -> usize
     ensures { result ≡ place_behind (form_of kind) m.now place }
 {
-    if 32 <= place {
-        return 32;
+    if END <= place {
+        return END;
     }
-    let f = judge(form_of(kind), m);
-    next_bit(f.present, place + 1)
+    next_bit(present_in(kind, m), place + 1)
 }
 
 // At the first place, which every accepted message has.
@@ -54,18 +61,11 @@ pub fn open<'a>(kind: u32, message: &'a [u8]) -> Reader<'a>
     }
 }
 
-// The content of a place, by the type.
-fn content_at(kind: u32, m: &[u8], place: usize) -> &[u8]
-    ensures { result.now ≡ content_of (form_of kind) m.now place }
-{
-    content(form_of(kind), m, place)
-}
-
 // The content at hand, a part of the message; empty at the end.
 pub fn current<'a>(r: Reader<'a>) -> &'a [u8]
     ensures { result.now ≡ at_hand r.entry }
 {
-    content_at(r.kind, r.message, r.place)
+    content(form_of(r.kind), r.message, r.place)
 }
 
 // Moved on to the next place with a content.

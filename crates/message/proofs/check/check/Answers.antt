@@ -1,82 +1,45 @@
 -- `message::check::check` meets its contract: the message is refused, the list is too short, or it is filled. Assumes nothing.
-use Prim.Native.Nat.{ℕ, ◌*◌, ◌≤◌}
-use mathlib.Core.Path.{◌≡◌, sym, ap, ap₂, ◌∙◌, subst}
+use Prim.Native.Nat.{ℕ, ◌*◌}
+use mathlib.Core.Path.{◌≡◌, sym, ap₂, ◌∙◌, subst}
+use mathlib.Core.List.{List}
 use native.Mathlib.Omega.{arith}
-use lib.Count.{ones}
 use lib.ListN.{length}
+use Rattle.std.specs.Prelude.{Ok}
+use Rattle.std.proofs.lemmas.Result.{err_from_is_err_and}
+use Rattle.base.specs.Calls.{over}
+use Rattle.base.specs.Verdicts.{Refused}
 use Rattle.fields.specs.Field.{fields}
-use Rattle.frame.proofs.CallLaws.{taken, Found}
-use Rattle.base.specs.declared.Verdict.TheVariants.{Fine}
-use Rattle.message.specs.Message.{verdict_of}
-use Rattle.message.proofs.VerdictTheorems.{judged_by, judged_found}
-use Rattle.message.specs.declared.Checked.TheVariants.{Accepted, Refused}
-use Rattle.message.specs.Calls.{Checks}
-use Rattle.message.proofs.FieldLaws.{settled}
+use Rattle.fields.specs.Places.{listed}
+use Rattle.types.specs.declared.Form.{Form}
+use Rattle.frame.specs.Frame.{word_of}
+use Rattle.message.specs.Calls.{Checks, counted}
 use Rattle.message.proofs.CheckLaws.{gives_refused, gives_short, gives_full}
+use Rattle.message.proofs.TakenLaws.{settled_in, word_in, as_lent}
 use Rattle.message.proofs.check.check.Goals as goal
 
-pub returns-in-Broken : goal.returns-in-Broken
-returns-in-Broken c = let a = c.args in
-    gives_refused a.form a.m.now a.list.now (judged_by a.form a.m.now c.judge-f.ensures c.in-Broken.is)
-
-pub overflow_cast-n : goal.overflow_cast-n
-overflow_cast-n c =
-    let here : let a = c.args in Found a.form a.m.now c.judge-f.result.spots c.judge-f.result.present = let a = c.args in judged_found a.form a.m.now c.judge-f.ensures c.in_default.is in
-    let counted : ones c.judge-f.result.present ≡ length (fields c.args.m.now) = let a = c.args in
-    ap ones here.word_is ∙ (taken a.form a.m.now here.clean).sound.as_many in
-    let few : ones c.judge-f.result.present ≤ 14 = let a = c.args in
-    let t = taken a.form a.m.now here.clean in
-    omega (arith, counted, t.few) in
-    omega (arith, few)
+pub returns-in_err-f : goal.returns-in_err-f
+returns-in_err-f c = let a = c.args in
+    let p = err_from_is_err_and c.from_residual.result c.from_residual.ensures.1 in
+    rw (p.1, p.2) (gives_refused a.form a.m.now a.list.now c.in_err-f.ensures)
 
 pub overflow_mul-n : goal.overflow_mul-n
-overflow_mul-n c =
-    let here : let a = c.args in Found a.form a.m.now c.judge-f.result.spots c.judge-f.result.present = let a = c.args in judged_found a.form a.m.now c.judge-f.ensures c.in_default.is in
-    let counted : ones c.judge-f.result.present ≡ length (fields c.args.m.now) = let a = c.args in
-    ap ones here.word_is ∙ (taken a.form a.m.now here.clean).sound.as_many in
-    let few : ones c.judge-f.result.present ≤ 14 = let a = c.args in
-    let t = taken a.form a.m.now here.clean in
-    omega (arith, counted, t.few) in
-    omega (arith, few)
+overflow_mul-n c = let few = (settled_in c.in_ok-f.f).few in omega (arith, few, c.count-n.ensures)
 
 pub overflow_mul-result : goal.overflow_mul-result
-overflow_mul-result c =
-    let here : let a = c.args in Found a.form a.m.now c.judge-f.result.spots c.judge-f.result.present = let a = c.args in judged_found a.form a.m.now c.judge-f.ensures c.in_default.is in
-    let counted : ones c.judge-f.result.present ≡ length (fields c.args.m.now) = let a = c.args in
-    ap ones here.word_is ∙ (taken a.form a.m.now here.clean).sound.as_many in
-    let few : ones c.judge-f.result.present ≤ 14 = let a = c.args in
-    let t = taken a.form a.m.now here.clean in
-    omega (arith, counted, t.few) in
-    omega (arith, few)
+overflow_mul-result c = let few = (settled_in c.in_ok-f.f).few in omega (arith, few, c.count-n.ensures)
 
 pub returns-then-list-n : goal.returns-then-list-n
-returns-then-list-n c =
-    let clean : let a = c.args in verdict_of a.form a.m.now ≡ Fine = let a = c.args in judged_by a.form a.m.now c.judge-f.ensures c.in_default.is in
-    let here : let a = c.args in Found a.form a.m.now c.judge-f.result.spots c.judge-f.result.present = let a = c.args in judged_found a.form a.m.now c.judge-f.ensures c.in_default.is in
-    let counted : ones c.judge-f.result.present ≡ length (fields c.args.m.now) = let a = c.args in
-    ap ones here.word_is ∙ (taken a.form a.m.now here.clean).sound.as_many in
-    let a = c.args in
-    let n = counted in
-    subst (λ (x : ℕ). Checks a.form a.m.now a.list.now (Refused 17 (3 * x)) a.list.now) (sym n)
-    (gives_short a.form a.m.now a.list.now clean (omega (arith, c.if-list-n.true)))
-
-pub fill-requires : goal.fill-requires
-fill-requires c =
-    let here : let a = c.args in Found a.form a.m.now c.judge-f.result.spots c.judge-f.result.present = let a = c.args in judged_found a.form a.m.now c.judge-f.ensures c.in_default.is in
-    let counted : ones c.judge-f.result.present ≡ length (fields c.args.m.now) = let a = c.args in
-    ap ones here.word_is ∙ (taken a.form a.m.now here.clean).sound.as_many in
-    (settled here, counted, omega (arith, c.if-list-n.false))
+returns-then-list-n c = let a = c.args in
+    let e = c.in_ok-f.ensures in
+    let n = as_lent e.1 e.2 (λ (form : Form) (m : List ℕ). c.count-n.result ≡ length (fields m)) c.count-n.ensures in
+    subst (λ (x : ℕ). Checks a.form a.m.now a.list.now (Refused 17 (3 * x)) a.list.now) (sym n) (gives_short a.form a.m.now a.list.now e.0 (omega (arith, n, c.if-list-n.true)))
 
 pub returns : goal.returns
-returns c =
-    let here : let a = c.args in Found a.form a.m.now c.judge-f.result.spots c.judge-f.result.present = let a = c.args in judged_found a.form a.m.now c.judge-f.ensures c.in_default.is in
-    let clean : let a = c.args in verdict_of a.form a.m.now ≡ Fine = let a = c.args in judged_by a.form a.m.now c.judge-f.ensures c.in_default.is in
-    let counted : ones c.judge-f.result.present ≡ length (fields c.args.m.now) = let a = c.args in
-    ap ones here.word_is ∙ (taken a.form a.m.now here.clean).sound.as_many in
-    let a = c.args in
-    let n = counted in
-    let r = gives_full a.form a.m.now a.list.now clean (omega (arith, c.if-list-n.false)) in
-    record {
-      answers = ap₂ Accepted n here.word_is ∙ r.answers;
-      leaves = c.fill.ensures ∙ r.leaves;
-    }
+returns c = let a = c.args in
+    let e = c.in_ok-f.ensures in
+    let f = c.in_ok-f.f in
+    let n = as_lent e.1 e.2 (λ (form : Form) (m : List ℕ). c.count-n.result ≡ length (fields m)) c.count-n.ensures in
+    let w = as_lent e.1 e.2 (λ (form : Form) (m : List ℕ). f.frame.present ≡ word_of form m) (word_in f) in
+    let filled = as_lent e.1 e.2 (λ (form : Form) (m : List ℕ). c.fill.new.list ≡ over (listed 5 (fields m)) a.list.now) c.fill.ensures in
+    let r = gives_full a.form a.m.now a.list.now e.0 (omega (arith, n, c.if-list-n.false)) in
+    record { answers = ap₂ (λ (k x : ℕ). Ok (counted k x)) n w ∙ r.answers; leaves = filled ∙ r.leaves }

@@ -1,26 +1,23 @@
--- `message::verdict::judge` meets its contract: the pass refuses, the contents do, or neither. Assumes nothing.
-use Rattle.message.proofs.JudgeLaws.{frame_refused, judged_refused, judged_fine}
-use Rattle.message.proofs.FieldLaws.{settled}
-use Rattle.frame.proofs.CallLaws.{taken, refused_by, found, fields_counted}
+-- `message::verdict::judge` meets its contract: the refusal, or what the pass found. Assumes nothing.
+use Prim.Native.Nat.{ℕ}
+use mathlib.Core.Path.{◌≡◌, ap, ◌∙◌}
+use mathlib.Core.List.{List}
+use Rattle.std.specs.Prelude.{Ok}
+use Rattle.std.proofs.lemmas.Result.{err_from_is_err_and}
+use Rattle.types.specs.declared.Form.{Form}
+use Rattle.frame.specs.declared.Frame.{Frame}
+use Rattle.frame.specs.Frame.{fields_found}
+use Rattle.message.proofs.JudgeLaws.{judged_is}
+use Rattle.message.proofs.TakenLaws.{as_lent, frame_is}
 use Rattle.message.proofs.verdict.judge.Goals as goal
 
-pub returns-in-Broken : goal.returns-in-Broken
-returns-in-Broken c = let a = c.args in
-    let e = c.frame-f.ensures in
-    frame_refused a.form a.m.now e (refused_by a.form a.m.now e c.in-Broken.is)
-
-pub content_verdict-v-requires : goal.content_verdict-v-requires
-content_verdict-v-requires c = let a = c.args in
-    let e = c.frame-f.ensures in
-    let q = c.in_default.is in
-    let f = found a.form a.m.now e q in
-    (settled f, fields_counted a.form a.m.now e q, (taken a.form a.m.now f.clean).walk_fine, f.word_is)
-
-pub returns-in-Broken-v : goal.returns-in-Broken-v
-returns-in-Broken-v c = let a = c.args in
-    judged_refused a.form a.m.now (refused_by a.form a.m.now c.frame-f.ensures c.in_default.is) c.content_verdict-v.ensures c.in-Broken-v.is c.refused.ensures
+pub returns-in_err-f : goal.returns-in_err-f
+returns-in_err-f c = let a = c.args in
+    let p = err_from_is_err_and c.from_residual.result c.from_residual.ensures.1 in
+    rw (p.1, p.2) (judged_is a.form a.m.now c.in_err-f.ensures)
 
 pub returns : goal.returns
 returns c = let a = c.args in
-    let e = c.frame-f.ensures in
-    judged_fine a.form a.m.now (refused_by a.form a.m.now e c.in_default.is) c.content_verdict-v.ensures e c.in_default-v.is
+    let e = c.in_ok-f.ensures in
+    let f = c.in_ok-f.f in
+    ap (λ (g : Frame). Ok g) (as_lent e.1 e.2 (λ (form : Form) (m : List ℕ). f.frame ≡ fields_found form m) (frame_is f)) ∙ judged_is a.form a.m.now e.0

@@ -4,8 +4,8 @@ use Rattle.fields.specs.Field.{fields}
 use Rattle.message.proofs.JudgeLaws.{texts_plain, texts_signed}
 use Rattle.message.proofs.verdict.texts_rule.Goals as goal
 
-pub returns-then-not-sign : goal.returns-then-not-sign
-returns-then-not-sign c = texts_plain c.args.form (fields c.args.m.now) c.requires.2 c.if-not-sign.true
+pub returns-then-not-f : goal.returns-then-not-f
+returns-then-not-f c = let f = c.args.f.now in texts_plain f.form (fields f.message.now) f.signed c.if-not-f.true
 
 pub returns : goal.returns
-returns c = c.speeches_rule.ensures ∙ texts_signed c.args.form (fields c.args.m.now) c.requires.2 c.if-not-sign.false
+returns c = let f = c.args.f.now in c.speeches_rule.ensures ∙ texts_signed f.form (fields f.message.now) f.signed c.if-not-f.false

@@ -1,9 +1,9 @@
--- `message::spots::put` meets its contract. Assumes nothing.
+-- `message::parts::put` meets its contract. Assumes nothing.
 use Prim.Native.Nat.{ℕ, suc, ◌+◌}
 use mathlib.Core.Path.{◌≡◌, ap₂}
 use native.Mathlib.Omega.{arith}
 use lib.ListN.{set, length-set}
-use Rattle.message.proofs.spots.put.Goals as goal
+use Rattle.message.proofs.parts.put.Goals as goal
 
 pub bounds-list-at-2 : goal.bounds-list-at-2
 bounds-list-at-2 c = simp length-set (omega arith)
