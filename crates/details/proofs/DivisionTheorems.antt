@@ -19,12 +19,10 @@ use Rattle.details.specs.Breaking.{opens, Fit, fits, unfit, last, breaks, line_p
 use Rattle.details.specs.Layouts.{Layout, layout, divided, DivisionIn, WhyThere, marked, later_bytes, laid, fit_lines, lines_for, laid_for, fit_size, size_for, Lays}
 use Rattle.details.specs.declared.DetailsField.{DetailsField}
 use Rattle.details.specs.declared.DetailsField.TheVariants.{In70, In72, BehindRpp}
-use Rattle.details.specs.declared.Size.{Size}
-use Rattle.details.specs.declared.Size.TheVariants.{Bytes, Unfit}
+use Rattle.std.specs.Prelude.{Option, Some, None}
 use Rattle.details.proofs.BreakLaws.{Took, Came, took, stuck, came, lawful, none_fits, shortened, steadily}
 use Rattle.details.proofs.LineLaws.{breaks_of_lem, division_of, most_of, starts_count, pieces_count}
 use Rattle.details.proofs.SaveLaws.{no_break_saves}
-use Rattle.details.proofs.LayoutLaws.{bytes_not}
 
 -- ---- over any widths
 pub fits_not : {A : Type 0} {a : A} → fits a ≡ unfit → ⊥
@@ -175,26 +173,26 @@ module _ (p : DetailsField) (least : ℕ) (text : List ℕ) where
   unfolding laid_for lines_for
   laid_lines_lem = laid_joined (layout p) (fit_lines (divided (layout p) least text))
 
-  -- Unfit exactly if there is no division
-  pub unfit_none : size_for p least text ≡ Unfit → {ls : List (List ℕ)} → DivisionIn (layout p) least text ls → ⊥
+  -- no size exactly if there is no division
+  pub unfit_none : size_for p least text ≡ None → {ls : List (List ℕ)} → DivisionIn (layout p) least text ls → ⊥
   unfolding size_for
   unfit_none e d = no_division (layout p).barred least text (layout p).widths (steady_in p) (go (divided (layout p) least text) e) d
     where
-      go : (a : Fit (List (List ℕ))) → fit_size (layout p) a ≡ Unfit → a ≡ unfit
-      go (fits ls) q = absurd (bytes_not q)
+      go : (a : Fit (List (List ℕ))) → fit_size (layout p) a ≡ None → a ≡ unfit
+      go (fits ls) q = cc
       go unfit q = refl
 
-  pub none_unfit : ((ls : List (List ℕ)) → DivisionIn (layout p) least text ls → ⊥) → size_for p least text ≡ Unfit
+  pub none_unfit : ((ls : List (List ℕ)) → DivisionIn (layout p) least text ls → ⊥) → size_for p least text ≡ None
   unfolding size_for
   none_unfit n = ap (fit_size (layout p)) (no_lines (opens (layout p).barred) least text (layout p).widths n)
 
-  pub fitted : (n : ℕ) → size_for p least text ≡ Bytes n → Fitted p least text n
+  pub fitted : (n : ℕ) → size_for p least text ≡ Some n → Fitted p least text n
   unfolding size_for laid_for
   fitted n e = go (divided (layout p) least text) refl
     where
       go : (a : Fit (List (List ℕ))) → divided (layout p) least text ≡ a → Fitted p least text n
       go (fits ls) i =
-          let f : Bytes (length (laid (layout p) ls)) ≡ Bytes n = ap (fit_size (layout p)) (sym i) ∙ e in
+          let f : Some (length (laid (layout p) ls)) ≡ Some n = ap (fit_size (layout p)) (sym i) ∙ e in
           let g : n ≡ length (laid (layout p) ls) = cc in
           let d = lawful_lines (opens (layout p).barred) least text (layout p).widths i in
           let m = most (opens (layout p).barred) least text (layout p).widths i in
@@ -207,38 +205,26 @@ module _ (p : DetailsField) (least : ℕ) (text : List ℕ) where
             long = g ∙ ap (λ (a : Fit (List (List ℕ))). length (laid (layout p) (fit_lines a))) (sym i);
             some = omega (arith, some_laid (layout p) d);
           }
-      go unfit i = absurd (bytes_not (sym e ∙ ap (fit_size (layout p)) i))
+      go unfit i = let f : Some n ≡ None = sym e ∙ ap (fit_size (layout p)) i in absurd (cc)
 
 -- ---- at the contracts: any two outcomes are equal, the room counted
-pub size_one : (p : DetailsField) (least : ℕ) (text : List ℕ) {r s : Size} → r ≡ size_for p least text → s ≡ size_for p least text → r ≡ s
+pub size_one : (p : DetailsField) (least : ℕ) (text : List ℕ) {r s : Option ℕ} → r ≡ size_for p least text → s ≡ size_for p least text → r ≡ s
 size_one p least text e f = one_answer e f
 
 -- what is put, if anything is: such lines, with their marks and CR LF between them
-pub lays_fitted : {p : DetailsField} {least at r : ℕ} {text out now : List ℕ} → Lays p least text out at r now → 0 < r
-    → (w : Fitted p least text r) × (now ≡ placed out at (joined (marked (layout p) w.ls)))
-unfolding size_for laid_for lines_for
-lays_fitted {p} {least} {at} {r} {text} {out} {now} u h = go (size_for p least text) refl
+pub lays_fitted : {p : DetailsField} {least at n : ℕ} {text out now : List ℕ} → Lays p least text out at (Some n) now
+    → (w : Fitted p least text n) × (now ≡ placed out at (joined (marked (layout p) w.ls)))
+unfolding lines_for
+lays_fitted {p} {least} {at} {n} {text} {out} {now} u =
+    let w = fitted p least text n (by (leb (at + length (laid_for p least text)) (length out)) u.answers) in
+    (w, u.leaves ∙ ap (placed out at) (laid_lines_lem p least text ∙ lines_are w.is))
   where
-    all_bytes : ℕ
-    all_bytes = length (laid_for p least text)
+    lines_are : {ls : List (List ℕ)} → divided (layout p) least text ≡ fits ls → joined (lines_for p least text) ≡ joined (marked (layout p) ls)
+    lines_are e = ap (λ (a : Fit (List (List ℕ))). joined (marked (layout p) (fit_lines a))) e
 
-    is_all : r ≡ all_bytes
-    is_all = by (leb (at + all_bytes) (length out)) u.answers
-      where
-        by : (b : Bool) → r ≡ pick b all_bytes 0 → r ≡ all_bytes
-        by true e = e
-        by false e = absurd (omega arith)
+    by : (b : Bool) → Some n ≡ pick b (size_for p least text) None → size_for p least text ≡ Some n
+    by true e = sym e
+    by false e = cc
 
-    go : (z : Size) → size_for p least text ≡ z → (w : Fitted p least text r) × (now ≡ placed out at (joined (marked (layout p) w.ls)))
-    go (Bytes n) f =
-        let i : n ≡ r = (fitted p least text n f).long ∙ sym is_all in
-        let w = fitted p least text r (f ∙ ap Bytes i) in
-        (w, u.leaves ∙ ap (placed out at) (laid_lines_lem p least text ∙ ap (λ (a : Fit (List (List ℕ))). joined (marked (layout p) (fit_lines a))) w.is))
-    go Unfit f = absurd (omega (arith, is_all, none_laid (divided (layout p) least text) f))
-      where
-        none_laid : (a : Fit (List (List ℕ))) → fit_size (layout p) a ≡ Unfit → length (laid (layout p) (fit_lines a)) ≡ 0
-        none_laid (fits ls) q = absurd (bytes_not q)
-        none_laid unfit q = refl
-
-pub lays_one : {p : DetailsField} {least at r s : ℕ} {text out a b : List ℕ} → Lays p least text out at r a → Lays p least text out at s b → (r ≡ s) × (a ≡ b)
+pub lays_one : {p : DetailsField} {least at : ℕ} {r s : Option ℕ} {text out a b : List ℕ} → Lays p least text out at r a → Lays p least text out at s b → (r ≡ s) × (a ≡ b)
 lays_one u v = (one_answer u.answers v.answers, one_answer u.leaves v.leaves)

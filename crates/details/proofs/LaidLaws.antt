@@ -8,8 +8,7 @@ use Rattle.details.specs.Lines.{together, Later, Division, lines}
 use Rattle.details.specs.Breaking.{opens}
 use Rattle.details.specs.Layouts.{layout, marked, fit_lines, lines_for, size_for, is_unfit}
 use Rattle.details.specs.declared.DetailsField.{DetailsField}
-use Rattle.details.specs.declared.Size.{Size}
-use Rattle.details.specs.declared.Size.TheVariants.{Bytes, Unfit}
+use Rattle.std.specs.Prelude.{Option, Some, None}
 use Rattle.details.proofs.DivisionTheorems.{Fitted, fitted}
 
 pub record Laid (p : DetailsField) (least : ℕ) (text : List ℕ) : Type 0 where
@@ -28,6 +27,6 @@ laid p least text e = go (size_for p least text) refl e
     by i w (lines {ws = ws} {l = l} {ls = ls} z q h m j) =
         record { front = l; behind = ls; is = i; code = q; later = rw (← w) m; joins = j }
 
-    go : (z : Size) → size_for p least text ≡ z → is_unfit z ≡ false → Laid p least text
-    go (Bytes n) f e = let w : Fitted p least text n = fitted p least text n f in by (ap (λ (a : _). marked (layout p) (fit_lines a)) w.is) refl w.division
-    go Unfit f e = absurd (true≢false e)
+    go : (z : Option ℕ) → size_for p least text ≡ z → is_unfit z ≡ false → Laid p least text
+    go (Some n) f e = let w : Fitted p least text n = fitted p least text n f in by (ap (λ (a : _). marked (layout p) (fit_lines a)) w.is) refl w.division
+    go None f e = absurd (true≢false e)

@@ -10,6 +10,7 @@ use lib.Seq.{sets, length-sets, take_all}
 use Rattle.base.specs.Calls.{placed}
 use Rattle.base.proofs.Room.{sets_append, placed_fits}
 use Rattle.details.specs.Breaking.{Fit, fits, unfit, last, breaks, part}
+use Rattle.std.specs.Prelude.{Option, Some, unwrap_or}
 use Rattle.details.specs.Steps.{cut_at, breaks_of, laid_by, whole_by, RoomFor}
 use Rattle.details.proofs.BreakLaws.{last_le, Took, done, goes, Came, took, stuck, came}
 
@@ -94,12 +95,15 @@ module _ (ok : ℕ → Bool) (text sep : List ℕ) (later : ℕ) where
     pub room : n + length (part from e text ++ sep) ≤ length out
     pub then : Laying ok text sep later goal (sets out n (part from e text ++ sep)) (n + length (part from e text ++ sep)) e e (e + later)
 
-  pub lay_turn : {goal out : List ℕ} {n from a h : ℕ} → Laying ok text sep later goal out n from a h → later ≤ 1000 → h < length text → (e : ℕ) → e ≡ cut_at ok text a h
+  lay_cut : {goal out : List ℕ} {n from a h : ℕ} → Laying ok text sep later goal out n from a h → h < length text → cut_at ok text a h ≡ Some (last ok text h)
+  lay_cut {a = a} {h = h} v k = let s = step_of later v.left v.how k in rw (lt-ltb a (last ok text h) s.further)
+
+  pub lay_turn : {goal out : List ℕ} {n from a h : ℕ} → Laying ok text sep later goal out n from a h → later ≤ 1000 → h < length text → (e : ℕ) → e ≡ unwrap_or (cut_at ok text a h) a
       → Turned goal out n from a e
   lay_turn {goal} {out} {n} {from} {a} {h} v z k e q =
       let s = step_of later v.left v.how k in
       let l = last_le ok text h in
-      let f : e ≡ last ok text h = q ∙ rw (lt-ltb a (last ok text h) s.further) in
+      let f : e ≡ last ok text h = q ∙ ap (λ (o : Option ℕ). unwrap_or o a) (lay_cut v k) in
       let t : List ℕ = part from e text ++ sep in
       let r : List ℕ = laid_by sep text e s.rest in
       let g : laid_by sep text from v.es ≡ t ++ r =

@@ -9,12 +9,12 @@ use lib.ListN.{length, drop, replicate, length-append}
 use Rattle.base.proofs.CallLaws.{one_answer}
 use Rattle.details.specs.Lines.{together, Later, none, line, Division, lines}
 use Rattle.details.specs.Layouts.{layout, DivisionIn, size_for, sum, room_from}
-use Rattle.details.specs.Steps.{layout_numbers, Small}
+use Rattle.details.specs.Steps.{layout_numbers}
 use Rattle.details.specs.declared.DetailsField.{DetailsField}
 use Rattle.details.specs.declared.DetailsField.TheVariants.{In70, In72, BehindRpp}
 use Rattle.details.specs.declared.Room.{Room}
-use Rattle.details.specs.declared.LayoutNumbers.{LayoutNumbers}
-use Rattle.details.specs.declared.Size.TheVariants.{Unfit}
+use Rattle.details.specs.declared.layouts.LayoutNumbers.{LayoutNumbers}
+use Rattle.std.specs.Prelude.{None}
 use Rattle.details.proofs.LayoutLaws.{mark_long, next_long}
 use Rattle.details.proofs.DivisionTheorems.{none_unfit}
 
@@ -26,7 +26,7 @@ later_within (line {x = x} {l = l} {ls = ls} h o m) = omega (arith, later_within
 pub division_within : {ok : ℕ → Bool} {least : ℕ} {text ws : List ℕ} {ls : List (List ℕ)} → Division ok least text ws ls → length text ≤ sum ws
 division_within (lines {l = l} {ls = ls} z q w m j) = omega (arith, later_within m, length-append l (together ls), ap length j)
 
-pub too_long : (p : DetailsField) (least : ℕ) (text : List ℕ) → (room_from p 0).bytes < length text → size_for p least text ≡ Unfit
+pub too_long : (p : DetailsField) (least : ℕ) (text : List ℕ) → (room_from p 0).bytes < length text → size_for p least text ≡ None
 unfolding room_from
 too_long p least text h = none_unfit p least text (λ (ls : List (List ℕ)) (d : DivisionIn (layout p) least text ls). omega (arith, division_within d))
 
@@ -62,8 +62,8 @@ mark_later : (p : DetailsField) → (layout_numbers p).next - 2 ≡ length (layo
 mark_later p = omega (arith, next_long p)
 
 -- no product is too great, and a later line has its CR LF
-pub few_held : {s : LayoutNumbers} → Small s → (n : ℕ) → n ≤ s.more → n * s.later ≤ 1000 * 1000
-few_held k n h = mul-le-mul (le_trans h k.few_more) k.few_later
+pub few_held : (s : LayoutNumbers) (n : ℕ) → n ≤ s.more → n * s.later ≤ 1000 * 1000
+few_held s n h = mul-le-mul (le_trans h s.small.2) s.small.1
 
 pub ended : (p : DetailsField) {s : LayoutNumbers} → s ≡ layout_numbers p → 2 ≤ s.next
 ended p e = omega (arith, next_long p, ap (λ (v : LayoutNumbers). v.next) e)
@@ -81,13 +81,10 @@ module _ (p : DetailsField) {s : LayoutNumbers} (e : s ≡ layout_numbers p) whe
   unfolding room_from
   on i n h = ap (λ (v : LayoutNumbers). room (v.next - 2) (n * v.later)) e ∙ ap₂ room (mark_later p) (ap (λ (k : ℕ). k * (layout_numbers p).later) h ∙ sum_later p i)
 
-  pub room_later : (i : ℕ) → (i ≡ 0 → ⊥) → i ≤ s.more → room (s.next - 2) ((s.more - i + 1) * s.later) ≡ room_from p i
-  room_later zero n h = absurd (n refl)
-  room_later (suc i) n h = on i (s.more - suc i + 1) (omega (arith, ap (λ (v : LayoutNumbers). v.more) e))
-
-  pub room_none : (i : ℕ) → s.more < i → room (s.next - 2) 0 ≡ room_from p i
-  room_none zero h = absurd (omega arith)
-  room_none (suc i) h = ap (room (s.next - 2)) (sym (zero-mul s.later)) ∙ on i 0 (omega (arith, ap (λ (v : LayoutNumbers). v.more) e))
+  -- none where all lines stand before it
+  pub room_later : (i : ℕ) → (i ≡ 0 → ⊥) → room (s.next - 2) ((s.more + 1 - i) * s.later) ≡ room_from p i
+  room_later zero n = absurd (n refl)
+  room_later (suc i) n = on i (s.more + 1 - suc i) (omega (arith, ap (λ (v : LayoutNumbers). v.more) e))
 
 -- ---- at the contract: any two outcomes are equal
 pub room_one : (p : DetailsField) (i : ℕ) {r s : Room} → r ≡ room_from p i → s ≡ room_from p i → r ≡ s

@@ -1,6 +1,6 @@
 -- What a turn of the loop of `cut` does, and of the loops over a field's lines. Assumes nothing.
 use Prim.Native.Nat.{ℕ, zero, suc, ◌+◌, ◌-◌, ◌≤◌, ◌<◌}
-use mathlib.Core.Path.{◌≡◌, refl, sym, ap}
+use mathlib.Core.Path.{◌≡◌, refl, ap}
 use mathlib.Core.Bool.{Bool, true, false}
 use mathlib.Core.List.{List, [], ◌∷◌}
 use native.Mathlib.Omega.{arith}
@@ -12,11 +12,11 @@ use Rattle.base.specs.Choice.{pick}
 use Rattle.base.specs.Bytes.{byte}
 use Rattle.details.specs.Breaking.{Fit, fits, unfit, with_break, last, breaks}
 use Rattle.details.specs.Steps.{cut_at, size_on, size_by}
-use Rattle.details.specs.declared.Size.TheVariants.{Bytes}
+use Rattle.std.specs.Prelude.{Some, None}
 use Rattle.details.proofs.BreakLaws.{last_le, last_max}
 
 module _ (ok : ℕ → Bool) (text : List ℕ) (low : ℕ) where
-  pub cut_here : (e : ℕ) → low < e → ok (byte text e) ≡ true → cut_at ok text low e ≡ e
+  pub cut_here : (e : ℕ) → low < e → ok (byte text e) ≡ true → cut_at ok text low e ≡ Some e
   cut_here e h o =
       let f : last ok text e ≡ e = omega (arith, last_le ok text e, last_max ok text e e (le_refl e) o) in
       rw (f, lt-ltb low e h)
@@ -26,7 +26,7 @@ module _ (ok : ℕ → Bool) (text : List ℕ) (low : ℕ) where
   cut_down zero h o = absurd (omega arith)
   cut_down (suc n) h o = let f : suc n - 1 ≡ n = omega arith in rw (f, o)
 
-  pub cut_none : (e : ℕ) → e ≤ low → cut_at ok text low e ≡ low
+  pub cut_none : (e : ℕ) → e ≤ low → cut_at ok text low e ≡ None
   cut_none e h = let f : last ok text e ≤ low = omega (arith, last_le ok text e) in rw (le-ltb low (last ok text e) f)
 
   -- what cut found: a place, or none
@@ -35,18 +35,21 @@ module _ (ok : ℕ → Bool) (text : List ℕ) (low : ℕ) where
     pub is : last ok text high ≡ e
     pub upto : e ≤ high
 
-  pub found : (high e : ℕ) → e ≡ cut_at ok text low high → (e ≡ low → ⊥) → Found high e
-  found high e p n = go (ltb low (last ok text high)) refl p
+  pub found : (high e : ℕ) → Some e ≡ cut_at ok text low high → Found high e
+  found high e p = go (ltb low (last ok text high)) refl p
     where
-      go : (b : Bool) → ltb low (last ok text high) ≡ b → e ≡ pick b (last ok text high) low → Found high e
-      go true q r = let h = ltb-true low (last ok text high) q in record { further = omega arith; is = sym r; upto = omega (arith, last_le ok text high) }
-      go false q r = absurd (n r)
+      go : (b : Bool) → ltb low (last ok text high) ≡ b → Some e ≡ pick b (Some (last ok text high)) None → Found high e
+      go true q r =
+          let h = ltb-true low (last ok text high) q in
+          let f : last ok text high ≡ e = cc in
+          record { further = omega arith; is = f; upto = omega (arith, last_le ok text high) }
+      go false q r = absurd (cc)
 
-  pub found_none : (high e : ℕ) → e ≡ cut_at ok text low high → e ≡ low → last ok text high ≤ low
-  found_none high e p n = go (ltb low (last ok text high)) refl p
+  pub found_none : (high : ℕ) → None ≡ cut_at ok text low high → last ok text high ≤ low
+  found_none high p = go (ltb low (last ok text high)) refl p
     where
-      go : (b : Bool) → ltb low (last ok text high) ≡ b → e ≡ pick b (last ok text high) low → last ok text high ≤ low
-      go true q r = omega arith
+      go : (b : Bool) → ltb low (last ok text high) ≡ b → None ≡ pick b (Some (last ok text high)) None → last ok text high ≤ low
+      go true q r = absurd (cc)
       go false q r = ltb-false low (last ok text high) q
 
   -- ---- a step of the breaks
@@ -64,13 +67,12 @@ module _ (ok : ℕ → Bool) (text : List ℕ) (low : ℕ) where
   unfolding breaks
   no_line_left high left later h e = rw (e, lt-leb (length text) high h)
 
-  pub on : (high left later e : ℕ) → high < length text → Found high e → (left ≡ 0 → ⊥)
-      → breaks ok text low high (replicate left later) ≡ with_break e (breaks ok text e (e + later) (replicate (left - 1) later))
+  pub on : (high left fewer later e : ℕ) → high < length text → left ≡ suc fewer → Found high e
+      → breaks ok text low high (replicate left later) ≡ with_break e (breaks ok text e (e + later) (replicate fewer later))
   unfolding breaks
-  on high zero later e h f n = absurd (n refl)
-  on high (suc m) later e h f n = let g : suc m - 1 ≡ m = omega arith in rw (g, lt-leb (length text) high h, f.is, lt-ltb low e f.further)
+  on high left fewer later e h n f = rw (n, lt-leb (length text) high h, f.is, lt-ltb low e f.further)
 
 -- ---- a break makes the whole longer by `next`
 pub size_on_lem : (size text next e : ℕ) (b : Fit (List ℕ)) → size_by (size + text) next (with_break e b) ≡ size_by (size + next + text) next b
-size_on_lem size text next e (fits es) = let f : size + text + next ≡ size + next + text = omega arith in ap (λ (n : ℕ). Bytes (size_on n next es)) f
+size_on_lem size text next e (fits es) = let f : size + text + next ≡ size + next + text = omega arith in ap (λ (n : ℕ). Some (size_on n next es)) f
 size_on_lem size text next e unfit = refl

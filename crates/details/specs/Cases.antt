@@ -1,11 +1,10 @@
 -- Worked examples of breaking, as one list (B1-B5). That they hold is proved in proofs/Examples.antt. Assumes nothing.
-use Rattle.std.specs.Prelude.{ℕ, ◌≡◌, List, [], ◌∷◌, ◌++◌, map, length, replicate}
+use Rattle.std.specs.Prelude.{ℕ, ◌≡◌, Some, None, List, [], ◌∷◌, ◌++◌, map, length, replicate}
 use Prim.Native.String.{String}
 use Rattle.base.specs.Quoted.{bytes}
 use Rattle.details.specs.Layouts.{lines_for, size_for, room_from}
 use Rattle.details.specs.declared.DetailsField.{DetailsField}
 use Rattle.details.specs.declared.DetailsField.TheVariants.{In70, In72, BehindRpp}
-use Rattle.details.specs.declared.Size.TheVariants.{Bytes, Unfit}
 
 pub data Case : Type 0 where
   -- this code and text come to these lines
@@ -21,9 +20,9 @@ pub data Case : Type 0 where
 
 abbrev pub Holds : Case → Type 0
 Holds (gives p c t ls) = lines_for p (length (bytes c)) (bytes c ++ bytes t) ≡ map bytes ls
-Holds (goes p c t ns n) = (map length (lines_for p (length (bytes c)) (bytes c ++ t)) ≡ ns) × (size_for p (length (bytes c)) (bytes c ++ t) ≡ Bytes n)
-Holds (stays p c t) = size_for p (length (bytes c)) (bytes c ++ t) ≡ Unfit
-Holds (short p least t) = size_for p least (bytes t) ≡ Unfit
+Holds (goes p c t ns n) = (map length (lines_for p (length (bytes c)) (bytes c ++ t)) ≡ ns) × (size_for p (length (bytes c)) (bytes c ++ t) ≡ Some n)
+Holds (stays p c t) = size_for p (length (bytes c)) (bytes c ++ t) ≡ None
+Holds (short p least t) = size_for p least (bytes t) ≡ None
 Holds (leaves p i m n) = room_from p i ≡ record { mark = m; bytes = n }
 
 abbrev unsigned : String

@@ -1,5 +1,5 @@
 -- The fields of details as data, and their lines as they stand in a field (B1, B3, B10, C70, C72). Assumes nothing.
-use Rattle.std.specs.Prelude.{ℕ, zero, suc, ◌+◌, ◌≡◌, Bool, true, false, List, [], ◌∷◌, ◌++◌, map, leb, length, drop, replicate}
+use Rattle.std.specs.Prelude.{ℕ, zero, suc, ◌+◌, ◌≡◌, Option, Some, None, Bool, true, false, List, [], ◌∷◌, ◌++◌, map, leb, length, drop, replicate}
 use Rattle.base.specs.Choice.{pick}
 use Rattle.base.specs.Quoted.{bytes, ascii}
 use Rattle.base.specs.Calls.{placed}
@@ -8,8 +8,6 @@ use Rattle.details.specs.Breaking.{Fit, fits, unfit, opens, broken}
 use Rattle.details.specs.declared.DetailsField.{DetailsField}
 use Rattle.details.specs.declared.DetailsField.TheVariants.{In70, In72, BehindRpp}
 use Rattle.details.specs.declared.Room.{Room}
-use Rattle.details.specs.declared.Size.{Size}
-use Rattle.details.specs.declared.Size.TheVariants.{Bytes, Unfit}
 
 -- the room of each line, the bytes that open no later line, and the marks before the first line and before each later one
 pub record Layout : Type 0 where
@@ -60,16 +58,16 @@ lines_for p least text = marked (layout p) (fit_lines (divided (layout p) least 
 unfoldable pub laid_for : DetailsField → ℕ → List ℕ → List ℕ
 laid_for p least text = laid (layout p) (fit_lines (divided (layout p) least text))
 
-abbrev pub fit_size : Layout → Fit (List (List ℕ)) → Size
-fit_size v (fits ls) = Bytes (length (laid v ls))
-fit_size v unfit = Unfit
+abbrev pub fit_size : Layout → Fit (List (List ℕ)) → Option ℕ
+fit_size v (fits ls) = Some (length (laid v ls))
+fit_size v unfit = None
 
-unfoldable pub size_for : DetailsField → ℕ → List ℕ → Size
+unfoldable pub size_for : DetailsField → ℕ → List ℕ → Option ℕ
 size_for p least text = fit_size (layout p) (divided (layout p) least text)
 
-abbrev pub is_unfit : Size → Bool
-is_unfit (Bytes n) = false
-is_unfit Unfit = true
+abbrev pub is_unfit : Option ℕ → Bool
+is_unfit (Some n) = false
+is_unfit None = true
 
 -- the room from a line on, lines counted from 0: the bytes of its mark, and of text what it and the lines behind it hold
 abbrev pub mark_at : Layout → ℕ → List ℕ
@@ -83,7 +81,7 @@ sum (w ∷ ws) = w + sum ws
 unfoldable pub room_from : DetailsField → ℕ → Room
 room_from p i = record { mark = length (mark_at (layout p) i); bytes = sum (drop i (layout p).widths) }
 
--- the bytes are put in from `at` on, where there is room for them, and r says how many were put
-pub record Lays (p : DetailsField) (least : ℕ) (text out : List ℕ) (at r : ℕ) (now : List ℕ) : Type 0 where
-  pub answers : r ≡ pick (leb (at + length (laid_for p least text)) (length out)) (length (laid_for p least text)) 0
+-- the bytes are put in from `at` on, where there is room for them, and r says how many were put, if any
+pub record Lays (p : DetailsField) (least : ℕ) (text out : List ℕ) (at : ℕ) (r : Option ℕ) (now : List ℕ) : Type 0 where
+  pub answers : r ≡ pick (leb (at + length (laid_for p least text)) (length out)) (size_for p least text) None
   pub leaves : now ≡ placed out at (laid_for p least text)

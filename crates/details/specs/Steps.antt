@@ -1,35 +1,26 @@
 -- What the functions say that take a text line by line (B1-B4). Assumes nothing.
-use Rattle.std.specs.Prelude.{ℕ, ◌+◌, ◌≤◌, Bool, true, false, List, [], ◌∷◌, ◌++◌, ltb, length, drop, replicate}
+use Rattle.std.specs.Prelude.{ℕ, ◌+◌, ◌≤◌, Option, Some, None, Bool, true, false, List, [], ◌∷◌, ◌++◌, ltb, length, drop, replicate}
 use Rattle.base.specs.Choice.{pick}
 use Rattle.details.specs.Breaking.{opens, Fit, fits, unfit, last, breaks, part}
 use Rattle.details.specs.declared.DetailsField.{DetailsField}
 use Rattle.details.specs.declared.DetailsField.TheVariants.{In70, In72, BehindRpp}
-use Rattle.details.specs.declared.LayoutNumbers.{LayoutNumbers}
-use Rattle.details.specs.declared.Size.{Size}
-use Rattle.details.specs.declared.Size.TheVariants.{Bytes, Unfit}
+use Rattle.details.specs.declared.layouts.LayoutNumbers.{LayoutNumbers}
+use native.Mathlib.Omega.{arith}
 use Rattle.base.specs.Quoted.{bytes}
 
 -- a layout's numbers; `next` counts CR LF too
 abbrev pub layout_numbers : DetailsField → LayoutNumbers
-layout_numbers In70 = record { barred = true; first = 35; later = 35; more = 3; mark = 0; next = 2 }
-layout_numbers In72 = record { barred = false; first = 30; later = 33; more = 5; mark = 5; next = 4 }
-layout_numbers BehindRpp = record { barred = false; first = 30; later = 33; more = 4; mark = 5; next = 4 }
-
--- numbers so small that no sum of them is too great
-pub record Small (s : LayoutNumbers) : Type 0 where
-  pub few_first : s.first ≤ 1000
-  pub few_later : s.later ≤ 1000
-  pub few_more : s.more ≤ 1000
-  pub few_mark : s.mark ≤ 1000
-  pub few_next : s.next ≤ 1000
+layout_numbers In70 = record { barred = true; first = 35; later = 35; more = 3; mark = 0; next = 2; small = omega arith }
+layout_numbers In72 = record { barred = false; first = 30; later = 33; more = 5; mark = 5; next = 4; small = omega arith }
+layout_numbers BehindRpp = record { barred = false; first = 30; later = 33; more = 4; mark = 5; next = 4; small = omega arith }
 
 abbrev pub barred_by : Bool → List ℕ
 barred_by true = bytes ":-"
 barred_by false = []
 
--- the last place behind low, up to high, before which a line may open; low if there is none
-abbrev pub cut_at : (ℕ → Bool) → List ℕ → ℕ → ℕ → ℕ
-cut_at ok text low high = pick (ltb low (last ok text high)) (last ok text high) low
+-- the last place behind low, up to high, before which a line may open
+abbrev pub cut_at : (ℕ → Bool) → List ℕ → ℕ → ℕ → Option ℕ
+cut_at ok text low high = pick (ltb low (last ok text high)) (Some (last ok text high)) None
 
 -- a line that ends behind low and up to high, then `more` lines of the width `later` at most
 abbrev pub breaks_by : Bool → List ℕ → ℕ → ℕ → ℕ → ℕ → Fit (List ℕ)
@@ -43,9 +34,9 @@ abbrev pub size_on : ℕ → ℕ → List ℕ → ℕ
 size_on n next [] = n
 size_on n next (e ∷ es) = size_on (n + next) next es
 
-abbrev pub size_by : ℕ → ℕ → Fit (List ℕ) → Size
-size_by n next (fits es) = Bytes (size_on n next es)
-size_by n next unfit = Unfit
+abbrev pub size_by : ℕ → ℕ → Fit (List ℕ) → Option ℕ
+size_by n next (fits es) = Some (size_on n next es)
+size_by n next unfit = None
 
 -- the text from a place on, with sep at each break
 abbrev pub laid_by : List ℕ → List ℕ → ℕ → List ℕ → List ℕ

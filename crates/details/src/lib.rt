@@ -6,12 +6,12 @@ ghost use lib.Seq.{sets};
 ghost use Rattle.base.specs.Calls.{placed};
 ghost use Rattle.details.specs.Breaking.{opens};
 ghost use Rattle.details.specs.Layouts.{size_for, room_from, Lays};
-ghost use Rattle.details.specs.Steps.{layout_numbers, Small, barred_by, cut_at, breaks_in, size_by, whole_by, RoomFor};
+ghost use Rattle.details.specs.Steps.{barred_by, cut_at, breaks_in, size_by, whole_by, RoomFor};
+
+mod layouts;
 
 use base::bytes::put;
-
-// The bytes of CR LF.
-const LINE_END: usize = 2;
+use layouts::{LINE_END, LayoutNumbers};
 
 // Where details stand: in 70; in the 72 of a 202, alone or behind its RPP line.
 #[derive(Clone, Copy)]
@@ -21,13 +21,6 @@ pub enum DetailsField {
     BehindRpp,
 }
 
-// How many bytes the lines come to, or that the text does not fit them.
-#[derive(Clone, Copy)]
-pub enum Size {
-    Bytes(usize),
-    Unfit,
-}
-
 // The room of a field from one of its lines on: the bytes of that line's mark, and those of text that it and the lines behind it hold.
 #[derive(Clone, Copy)]
 pub struct Room {
@@ -35,79 +28,28 @@ pub struct Room {
     pub bytes: usize,
 }
 
-// Such a field in numbers: whether a later line may not open with `:` or `-`; the room of the first line and of each later one, and how many of
-// these there may be; the bytes before the first line and before each later one.
-#[derive(Clone, Copy)]
-struct LayoutNumbers {
-    barred: bool,
-    first: usize,
-    later: usize,
-    more: usize,
-    mark: usize,
-    next: usize,
-}
-
-fn layout_numbers(into: DetailsField) -> LayoutNumbers
-    ensures { result ≡ layout_numbers into }
-{
-    match into {
-        DetailsField::In70 => LayoutNumbers {
-            barred: true,
-            first: 35,
-            later: 35,
-            more: 3,
-            mark: 0,
-            next: 2,
-        },
-        DetailsField::In72 => LayoutNumbers {
-            barred: false,
-            first: 30,
-            later: 33,
-            more: 5,
-            mark: 5,
-            next: 4,
-        },
-        DetailsField::BehindRpp => LayoutNumbers {
-            barred: false,
-            first: 30,
-            later: 33,
-            more: 4,
-            mark: 5,
-            next: 4,
-        },
-    }
-}
-
 fn may_open(barred: bool, b: u8) -> bool
     ensures { result ≡ opens (barred_by barred) b }
 {
-    if !barred {
-        return true;
-    }
-    if b == b':' {
-        return false;
-    }
-    b != b'-'
+    !barred || (b != b':' && b != b'-')
 }
 
-// The last place behind low, up to high, whose byte may open a line; low if there is none.
-fn cut(text: &[u8], low: usize, high: usize, barred: bool) -> usize
+// The last place behind low, up to high, whose byte may open a line.
+fn cut(text: &[u8], low: usize, high: usize, barred: bool) -> Option<usize>
     requires { high < length text.now }
     ensures { result ≡ cut_at (opens (barred_by barred)) text.now low high }
 {
-    let mut e = high;
-    while low < e {
-        if may_open(barred, text[e]) {
-            return e;
+    for e in (low..high).rev() {
+        if may_open(barred, text[e + 1]) {
+            return Some(e + 1);
         }
-        e -= 1;
     }
-    low
+    None
 }
 
+// Stays: the loops of `measure` and `put_lines` go from break to break and count no index; a `for` over the lines would ask twice whether the text ends.
 // The size of a text whose first line ends behind low.
-fn measure(text: &[u8], low: usize, s: LayoutNumbers) -> Size
-    requires { Small s }
+fn measure(text: &[u8], low: usize, s: LayoutNumbers) -> Option<usize>
     ensures { result ≡ size_by (s.mark + length text.now) s.next (breaks_in s text.now low) }
 {
     let mut a = low;
@@ -115,19 +57,12 @@ fn measure(text: &[u8], low: usize, s: LayoutNumbers) -> Size
     let mut left = s.more;
     let mut size = s.mark;
     while h < text.len() {
-        if left == 0 {
-            return Size::Unfit;
-        }
-        let e = cut(text, a, h, s.barred);
-        if e == a {
-            return Size::Unfit;
-        }
-        a = e;
-        h = e + s.later;
-        left -= 1;
+        left = left.checked_sub(1)?;
+        a = cut(text, a, h, s.barred)?;
+        h = a + s.later;
         size += s.next;
     }
-    Size::Bytes(size + text.len())
+    Some(size + text.len())
 }
 
 // One part put behind another: the place behind both.
@@ -151,7 +86,7 @@ fn put_lines(
     out: &mut [u8],
     at: usize,
 )
-    requires low_in_bounds { (low < length text.now) × Small s }
+    requires low_in_bounds { low < length text.now }
     requires room_for { RoomFor mark.now sep.now text.now (breaks_in s text.now low) at (length out.old) }
     ensures { out.new ≡ placed out.old at (whole_by mark.now sep.now text.now (breaks_in s text.now low)) }
 {
@@ -161,7 +96,7 @@ fn put_lines(
     let mut a = low;
     let mut h = s.first;
     while h < text.len() {
-        let e = cut(text, a, h, s.barred);
+        let e = cut(text, a, h, s.barred).unwrap_or(a);
         n = put_both(out, n, &text[from..e], sep);
         from = e;
         a = e;
@@ -170,67 +105,56 @@ fn put_lines(
     put(out, n, &text[from..]);
 }
 
-fn one_less(n: usize) -> usize
-    ensures { result ≡ n - 1 }
-{
-    if n == 0 {
-        return 0;
-    }
-    n - 1
-}
-
-// Lines are counted from 0, and behind the last there is no room. A layout's `next` counts CR LF too.
+// Lines are counted from 0, and behind the last there is no room.
 pub fn room_from(into: DetailsField, line: usize) -> Room
     ensures { result ≡ room_from into line }
 {
-    let s = layout_numbers(into);
+    let s = LayoutNumbers::new(into);
     if line == 0 {
         return Room {
             mark: s.mark,
             bytes: s.first + s.more * s.later,
         };
     }
-    let mark = s.next - LINE_END;
-    if s.more < line {
-        return Room { mark, bytes: 0 };
-    }
+    let lines = (s.more + 1).saturating_sub(line);
     Room {
-        mark,
-        bytes: (s.more - line + 1) * s.later,
+        mark: s.next - LINE_END,
+        bytes: lines * s.later,
     }
 }
 
-// How many bytes the lines of a text come to, whose first `least` bytes are the code.
-pub fn size_of(into: DetailsField, least: usize, text: &[u8]) -> Size
+// How many bytes the lines of a text come to, whose first `least` bytes are the code; none where it does not fit them.
+pub fn size_of(into: DetailsField, least: usize, text: &[u8]) -> Option<usize>
     ensures { result ≡ size_for into least text.now }
 {
-    let low = one_less(least);
+    let low = least.saturating_sub(1);
     if text.len() <= low {
-        return Size::Unfit;
+        return None;
     }
-    measure(text, low, layout_numbers(into))
+    measure(text, low, LayoutNumbers::new(into))
 }
 
-// The lines put into out from `at` on, where they fit: how many bytes these are, else 0.
-pub fn lay(into: DetailsField, least: usize, text: &[u8], out: &mut [u8], at: usize) -> usize
+// The lines put into out from `at` on, where they fit: how many bytes these are.
+pub fn lay(
+    into: DetailsField,
+    least: usize,
+    text: &[u8],
+    out: &mut [u8],
+    at: usize,
+) -> Option<usize>
     ensures { Lays into least text.now out.old at result out.new }
 {
-    let size = size_of(into, least, text);
-    let Size::Bytes(n) = size else {
-        return 0;
-    };
-    if out.len() < at {
-        return 0;
+    let n = size_of(into, least, text)?;
+    if out.len() < at || out.len() - at < n {
+        return None;
     }
-    if out.len() - at < n {
-        return 0;
+    let low = least.saturating_sub(1);
+    let s = LayoutNumbers::new(into);
+    match into {
+        DetailsField::In70 => put_lines(text, low, s, b"", b"\r\n", out, at),
+        DetailsField::In72 | DetailsField::BehindRpp => {
+            put_lines(text, low, s, b"/NZP/", b"\r\n//", out, at)
+        }
     }
-    let low = one_less(least);
-    let s = layout_numbers(into);
-    if let DetailsField::In70 = into {
-        put_lines(text, low, s, b"", b"\r\n", out, at);
-    } else {
-        put_lines(text, low, s, b"/NZP/", b"\r\n//", out, at);
-    }
-    n
+    Some(n)
 }

@@ -22,8 +22,7 @@ use Rattle.details.specs.declared.DetailsField.TheVariants.{In70, In72, BehindRp
 use Rattle.details.specs.Lines.{none, lines}
 use Rattle.details.specs.Breaking.{opens, last, breaks, broken}
 use Rattle.details.specs.Layouts.{layout, DivisionIn, size_for, is_unfit}
-use Rattle.details.specs.declared.Size.{Size}
-use Rattle.details.specs.declared.Size.TheVariants as size
+use Rattle.std.specs.Prelude.{Option, Some, None}
 use Rattle.details.proofs.DivisionTheorems.{fitted}
 use Rattle.details.proofs.RoomLaws.{division_within}
 use Rattle.runon.specs.Cut.{Fits, Lawful, Comes, unfit}
@@ -79,9 +78,9 @@ full = replicate 162 (ascii "A")
 pub divided_72 : (note : DetailsField) (text : List ℕ) → is_unfit (size_for note 0 text) ≡ false → (ls : List (List ℕ)) × DivisionIn (layout note) 0 text ls
 divided_72 note text e = go (size_for note 0 text) refl e
   where
-    go : (z : Size) → size_for note 0 text ≡ z → is_unfit z ≡ false → (ls : List (List ℕ)) × DivisionIn (layout note) 0 text ls
-    go (size.Bytes n) f q = let w = fitted note 0 text n f in (w.ls, w.division)
-    go size.Unfit f q = absurd (true≢false q)
+    go : (z : Option ℕ) → size_for note 0 text ≡ z → is_unfit z ≡ false → (ls : List (List ℕ)) × DivisionIn (layout note) 0 text ls
+    go (Some n) f q = let w = fitted note 0 text n f in (w.ls, w.division)
+    go None f q = absurd (true≢false q)
 
 in_72_lem : (ls : List (List ℕ)) × DivisionIn (layout In72) 0 full ls
 unfolding size_for broken breaks last opens is_in

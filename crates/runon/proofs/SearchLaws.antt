@@ -4,14 +4,13 @@ use mathlib.Core.Path.{◌≡◌, refl, sym, ap, ◌∙◌}
 use mathlib.Core.Bool.{Bool, true, false, false≢true}
 use mathlib.Core.List.{List}
 use native.Mathlib.Omega.{arith}
-use native.Mathlib.Decide.{dec_lt}
 use lib.ListN.{length}
 use borrow.Author.Tests.{lt-ltb, le-ltb}
 use Rattle.base.specs.Choice.{pick}
 use Rattle.base.specs.Calls.{Answer, said, text_of}
 use Rattle.alphabets.specs.Best.{writing}
 use Rattle.alphabets.specs.Parts.{extent}
-use Rattle.alphabets.specs.declared.parts.Extent.TheVariants.{Takes, Halts, Long}
+use Rattle.alphabets.specs.Extent.{Takes, Halts, Long}
 use Rattle.alphabets.proofs.PartTheorems.{size_takes, size_halts, size_long}
 use Rattle.fields.specs.Frame.{limit}
 use Rattle.details.specs.declared.DetailsField.{DetailsField}
@@ -19,11 +18,12 @@ use Rattle.details.specs.declared.DetailsField.TheVariants.{In70}
 use Rattle.roles.specs.Rule21.{most}
 use Rattle.runon.specs.Cut.{Fits}
 use Rattle.runon.specs.Run.{bank_of, fits_in, cut_at, last_cut, unless_stuck, run_for}
-use Rattle.runon.specs.Steps.{room_70, tried_at}
+use Rattle.runon.specs.Steps.{room_70, fit_of, tried_at}
+use Rattle.std.specs.Prelude.{Result, Ok, Err, is_ok, min}
 use Rattle.runon.specs.declared.Run.{Run}
 use Rattle.runon.specs.declared.Run.TheVariants.{Stuck, Whole, Unfit}
 use Rattle.runon.specs.declared.Tried.TheVariants.{Over, Bad}
-use Rattle.runon.proofs.FitLaws.{fits_bank, test_fits, fits_room}
+use Rattle.runon.proofs.FitLaws.{fits_bank, test_fits, fits_room, fit_yes, fit_no}
 use Rattle.runon.proofs.TryLaws.{bad_cut, over_size, last_none}
 use Rattle.runon.proofs.CutTheorems.{parts, none_to, none_over, none_behind, none_near, down_to}
 
@@ -36,16 +36,11 @@ module _ (s : Bool) (front : List ℕ) (note : DetailsField) (text : List ℕ) w
     pub cut_above : most < length front + length t → Unfit ≡ last_cut s front note text (length text)
     cut_above h = sym (none_to s front note text (length text) (none_over s front note text t w h))
 
-    pub cut_top : (top : ℕ) {r : Run} → (length text ≡ 0 → ⊥) → (length text - 1 < room_70 - length front → top ≡ length text - 1) → (room_70 - length front ≤ length text - 1 → top ≡ room_70 - length front)
-        → top ≤ length text - 1 → length front ≤ room_70 → r ≡ last_cut s front note text top → r ≡ last_cut s front note text (length text)
-    cut_top top some f g h l e = e ∙ sym (down_to s front note text top (length text) (omega arith) above)
+    pub cut_top : (top : ℕ) {r : Run} → 1 ≤ length text → top ≡ min (length text - 1) (room_70 - length front) → length front ≤ room_70 → r ≡ last_cut s front note text top → r ≡ last_cut s front note text (length text)
+    cut_top top some f l e = e ∙ sym (down_to s front note text top (length text) (omega arith) above)
       where
         above : (k : ℕ) → top < k → k ≤ length text → cut_at s front note text k ≡ true → ⊥
-        above k m i q = go (dec_lt (length text - 1) (room_70 - length front))
-          where
-            go : Dec (length text - 1 < room_70 - length front) → ⊥
-            go (yes y) = omega (arith, f y, (parts s front note text k q).more)
-            go (no y) = none_behind s front note text t w k (omega (arith, g (omega arith))) q
+        above k m i q = none_behind s front note text t w k (omega (arith, f, (parts s front note text k q).more)) q
 
     pub cut_empty : length text ≡ 0 → Unfit ≡ last_cut s front note text (length text)
     cut_empty e = sym (ap (last_cut s front note text) e ∙ last_none s front note text)
@@ -88,11 +83,19 @@ module _ (s : Bool) (front : List ℕ) (note : DetailsField) (text : List ℕ) w
     takes_by : {r : Run} → r ≡ rest → r ≡ run_for s front note text
     takes_by q = run_by takes_few (size_takes s text n (sym e)).is q
 
-    pub run_whole : {x : Bool} → x ≡ fits_in s In70 front text → x ≡ true → Whole ≡ run_for s front note text
-    run_whole f g = takes_by (ap (λ (b : Bool). pick b Whole (last_cut s front note text (length text))) (sym g ∙ f))
+    -- what fits 70, and what does not
+    fit_is : (z : Result ℕ ℕ) → z ≡ fit_of s In70 front text → is_ok z ≡ fits_in s In70 front text
+    fit_is (Ok m) f = sym (fit_yes s In70 front text f).1
+    fit_is (Err m) f = sym (fit_no s In70 front text f).1
 
-    pub run_cut : {x : Bool} {r : Run} → x ≡ fits_in s In70 front text → x ≡ false → r ≡ last_cut s front note text (length text) → r ≡ run_for s front note text
-    run_cut f g q = takes_by (q ∙ ap (λ (b : Bool). pick b Whole (last_cut s front note text (length text))) (sym g ∙ f))
+    pub run_whole : {z : Result ℕ ℕ} → z ≡ fit_of s In70 front text → is_ok z ≡ true → Whole ≡ run_for s front note text
+    run_whole {z} f g = takes_by (ap (λ (b : Bool). pick b Whole (last_cut s front note text (length text))) (sym g ∙ fit_is z f))
+
+    run_by_cut : {r : Run} → fits_in s In70 front text ≡ false → r ≡ last_cut s front note text (length text) → r ≡ run_for s front note text
+    run_by_cut f q = takes_by (q ∙ ap (λ (b : Bool). pick b Whole (last_cut s front note text (length text))) (sym f))
+
+    pub run_cut : {z : Result ℕ ℕ} {r : Run} → z ≡ fit_of s In70 front text → is_ok z ≡ false → r ≡ last_cut s front note text (length text) → r ≡ run_for s front note text
+    run_cut {z} f g q = run_by_cut (sym (fit_is z f) ∙ g) q
 
     unfit_by : (Fits s In70 front text → ⊥) → fits_in s In70 front text ≡ false
     unfit_by f = go (fits_in s In70 front text) refl
@@ -102,7 +105,7 @@ module _ (s : Bool) (front : List ℕ) (note : DetailsField) (text : List ℕ) w
         go false e = refl
 
     pub run_front : room_70 < length front → Unfit ≡ run_for s front note text
-    run_front h = run_cut refl (unfit_by (λ f. omega (arith, fits_room f))) (cut_front (bank_of s text) takes_asks.2 h)
+    run_front h = run_by_cut (unfit_by (λ f. omega (arith, fits_room f))) (cut_front (bank_of s text) takes_asks.2 h)
 
     pub run_long_cut : {r : Run} → room_70 < length front + n → r ≡ last_cut s front note text (length text) → r ≡ run_for s front note text
-    run_long_cut h q = run_cut refl (unfit_by (λ f. omega (arith, fits_room f, ap length (fits_bank s In70 front text f), takes_asks.3))) q
+    run_long_cut h q = run_by_cut (unfit_by (λ f. omega (arith, fits_room f, ap length (fits_bank s In70 front text f), takes_asks.3))) q

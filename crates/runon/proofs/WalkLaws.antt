@@ -11,7 +11,7 @@ use lib.ListN.{length, take, drop}
 use borrow.Author.Tests.{eqb-true, eqb-false}
 use Rattle.base.specs.Choice.{pick}
 use Rattle.base.specs.Bytes.{same, empty}
-use Rattle.base.specs.declared.Verdict.TheVariants.{Fine}
+use Rattle.base.specs.Verdicts.{Fine}
 use Rattle.base.proofs.RuleLaws.{fine_broken}
 use Rattle.base.proofs.ByteLaws.{same_is}
 use Rattle.fields.specs.Field.{Field, field, tag_of}

@@ -1,31 +1,26 @@
 -- `cut`: from high down to the first place whose byte may open a line. Assumes nothing.
-use mathlib.Core.Path.{refl, sym, ◌∙◌}
+use Prim.Native.Nat.{◌+◌, ◌-◌}
+use mathlib.Core.Path.{◌≡◌, sym, ◌∙◌}
 use native.Mathlib.Omega.{arith}
 use Rattle.details.specs.Breaking.{opens}
 use Rattle.details.specs.Steps.{barred_by}
 use Rattle.details.proofs.StepLaws.{cut_here, cut_down, cut_none}
 use Rattle.details.proofs.cut.Goals as goal
 
-pub loop-e-init : goal.loop-e-init
-loop-e-init c = (omega arith, refl)
-
-pub bounds-text-e : goal.bounds-text-e
-bounds-text-e c = omega arith
-
 pub returns-then-may_open : goal.returns-then-may_open
-returns-then-may_open c = let a = c.args in
-    sym (c.loop-e.invariant.1 ∙ cut_here (opens (barred_by a.barred)) a.text.now a.low c.loop-e.e c.loop-e-test.true (sym c.may_open.ensures ∙ c.if-may_open.true))
-
-pub overflow_sub-e : goal.overflow_sub-e
-overflow_sub-e c = omega arith
-
-pub loop-e-smaller : goal.loop-e-smaller
-loop-e-smaller c = omega arith
+returns-then-may_open c =
+    let a = c.args in
+    let same : c.loop-e.e - 1 + 1 ≡ c.loop-e.e = omega (arith, c.loop-e-test.true) in
+    let may = rw same at (sym c.may_open.ensures ∙ c.if-may_open.true) in
+    rw same (sym (c.loop-e.invariant ∙ cut_here (opens (barred_by a.barred)) a.text.now a.low c.loop-e.e c.loop-e-test.true may))
 
 pub loop-e-preserved : goal.loop-e-preserved
-loop-e-preserved c = let a = c.args in
-    (omega arith, c.loop-e.invariant.1 ∙ cut_down (opens (barred_by a.barred)) a.text.now a.low c.loop-e.e c.loop-e-test.true (sym c.may_open.ensures ∙ c.if-may_open.false))
+loop-e-preserved c =
+    let a = c.args in
+    let same : c.loop-e.e - 1 + 1 ≡ c.loop-e.e = omega (arith, c.loop-e-test.true) in
+    let bars = rw same at (sym c.may_open.ensures ∙ c.if-may_open.false) in
+    c.loop-e.invariant ∙ cut_down (opens (barred_by a.barred)) a.text.now a.low c.loop-e.e c.loop-e-test.true bars
 
 pub returns : goal.returns
 returns c = let a = c.args in
-    sym (c.loop-e.invariant.1 ∙ cut_none (opens (barred_by a.barred)) a.text.now a.low c.loop-e.e c.loop-e-test.false)
+    sym (c.loop-e.invariant ∙ cut_none (opens (barred_by a.barred)) a.text.now a.low c.loop-e.e c.loop-e-test.false)
