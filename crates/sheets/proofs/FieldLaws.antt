@@ -13,7 +13,7 @@ use Rattle.base.specs.Choice.{pick, all}
 use Rattle.base.specs.Bytes.{byte, capital, without, empty}
 use Rattle.base.specs.Calls.{placed, Puts}
 use Rattle.base.proofs.Room.{puts_put, puts_on, puts_by, puts_none, Leads, leads_on}
-use Rattle.base.specs.declared.Verdict.TheVariants.{Fine}
+use Rattle.base.specs.Verdicts.{Fine}
 use Rattle.base.proofs.ByteLaws.{past_in}
 use Rattle.base.proofs.Bools.{left, right}
 use Rattle.base.proofs.RuleLaws.{fine_broken}
@@ -33,8 +33,7 @@ use Rattle.fields.proofs.ContentLaws.{lines_joined}
 use Rattle.fields.proofs.PlaceLaws.{joined_length}
 use Rattle.roles.specs.Role.{shape_of}
 use Rattle.roles.specs.declared.Shape as roles
-use Rattle.message.specs.Parts.{Settled}
-use Rattle.message.proofs.FieldLaws.{Stands, stands}
+use Rattle.message.proofs.FieldLaws.{Settled, Stands, stands}
 use Rattle.records.specs.Record.{tabbed, line}
 use Rattle.sheets.specs.Gather.{type_record}
 use Rattle.sheets.specs.Steps.{content_by, joined_parts, is_note, rpp_part, tag_end, tag_in, content_in, field_in, Part, part_at, record_line, sheet_by}

@@ -1,4 +1,5 @@
 -- The lines that code puts, field by field, are the sheet of the joined records (S2, B6). Assumes nothing.
+use Rattle.message.proofs.FieldLaws.{Settled}
 use Prim.Native.Nat.{ℕ, ◌+◌, ◌-◌, ◌≤◌}
 use mathlib.Core.Path.{◌≡◌, refl, sym, ap, ◌∙◌}
 use mathlib.Core.Bool.{Bool, true, false, true≢false}
@@ -18,7 +19,6 @@ use Rattle.types.specs.Sign.{first_line}
 use Rattle.roles.specs.Role.{shape_of}
 use Rattle.roles.specs.declared.Shape.{Shape}
 use Rattle.roles.specs.declared.Shape.TheVariants.{Plain, Payer, Payee, Agent, Details, Note103, Note202}
-use Rattle.message.specs.Parts.{Settled}
 use Rattle.records.specs.Record.{Record, line, sheet}
 use Rattle.runon.specs.RunOn.{tag_70, tag_72, parts_of, second_part, join_as, join}
 use Rattle.runon.proofs.RecordLaws.{not_70, joined_70, joined_72, joined_not, shape_70, shape_72}

@@ -10,7 +10,7 @@ use lib.ListN.{drop}
 use Rattle.base.specs.Choice.{pick, all}
 use Rattle.base.specs.Bytes.{same, empty}
 use Rattle.base.specs.Calls.{Answer, said, text_of}
-use Rattle.base.specs.declared.Verdict.TheVariants.{Fine}
+use Rattle.base.specs.Verdicts.{Fine}
 use Rattle.base.proofs.Bools.{right}
 use Rattle.base.proofs.ByteLaws.{same_is}
 use Rattle.alphabets.specs.Bank.{reading}

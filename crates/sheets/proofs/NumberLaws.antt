@@ -9,8 +9,7 @@ use lib.ListN.{length}
 use Rattle.base.specs.Choice.{pick}
 use Rattle.base.specs.Bytes.{xset, begins, empty}
 use Rattle.base.specs.Calls.{long}
-use Rattle.base.specs.declared.Verdict.{Verdict}
-use Rattle.base.specs.declared.Verdict.TheVariants.{Fine, Broken}
+use Rattle.base.specs.Verdicts.{Verdict, Fine, Broken}
 use Rattle.base.proofs.RuleLaws.{fine_broken, same_broken}
 use Rattle.fields.specs.Field.{body, lines, fields}
 use Rattle.fields.specs.Frame.{limit, rule_1, rule_2, rule_3, rule_4, framed, scan, line_bad, bad_line}

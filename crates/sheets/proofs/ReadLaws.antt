@@ -8,15 +8,14 @@ use lib.ListN.{length, drop}
 use Rattle.base.specs.Choice.{pick, all}
 use Rattle.base.specs.Bytes.{begins, xset}
 use Rattle.base.specs.Calls.{Answer, said, stuck, text_of}
-use Rattle.base.specs.declared.Verdict.TheVariants.{Fine}
+use Rattle.base.specs.Verdicts.{Fine}
 use Rattle.base.proofs.Bools.{left, right, all_append, all_front, all_behind}
 use Rattle.base.proofs.CallLaws.{not_said}
 use Rattle.alphabets.specs.Bank.{reads, reading}
 use Rattle.alphabets.specs.Steps.{back_table}
-use Rattle.alphabets.specs.Pieces.{piece_after, piece_in, piece_on, whole}
+use Rattle.std.specs.Prelude.{Ok, Err}
+use Rattle.alphabets.specs.Pieces.{Piece, Read, piece_after, piece_in, piece_on, whole}
 use Rattle.alphabets.specs.Parts.{spoken, piece_text}
-use Rattle.alphabets.specs.declared.pieces.Piece.{Piece}
-use Rattle.alphabets.specs.declared.pieces.Piece.TheVariants.{Read, Stops}
 use Rattle.alphabets.proofs.PieceLaws.{reads_piece, piece_append}
 use Rattle.alphabets.proofs.SpokenLaws.{read_stops}
 use Rattle.alphabets.proofs.PartTheorems.{text_append, text_whole}
@@ -45,8 +44,8 @@ use Rattle.roles.specs.declared.Role.{Role}
 use Rattle.roles.specs.declared.Role.TheVariants.{Copies, OfPayer, OfPayee, OfAgent, Taxed, Names}
 use Rattle.roles.proofs.PartLaws.{first_part, cast_none, cast_cons}
 use Rattle.roles.proofs.BreachLaws.{first_clause, same_lines, rule_14_fine}
+use Rattle.message.proofs.FieldLaws.{Settled}
 use Rattle.message.specs.Message.{verdict_of}
-use Rattle.message.specs.Parts.{Settled}
 use Rattle.message.proofs.RuleLaws.{accepted_rules}
 use Rattle.message.proofs.VerdictTheorems.{frame_clean}
 use Rattle.records.specs.Record.{Record, line, sheet}
@@ -137,8 +136,8 @@ over_plain latin [] = refl
 over_plain latin (p ∷ ps) = ap (λ (x : List ℕ). p ++ x) (over_plain latin ps)
 
 after_read : (i m n : ℕ) (z : Bool) (p : Piece) → piece_after i m p ≡ Read n z → (k : ℕ) × ((y : Bool) × (p ≡ Read k y))
-after_read i m n z (Read k y) e = (k, (y, refl))
-after_read i m n z (Stops k) e = absurd (read_stops n (i + k) z e)
+after_read i m n z (Ok p) e = (p.units, (p.latin, refl))
+after_read i m n z (Err k) e = absurd (read_stops n (i + k) z e)
 
 none_said : (y : Bool) → piece_text back_table y [] ≡ []
 unfolding piece_text piece_in spoken
@@ -152,20 +151,21 @@ over_spoken latin (p ∷ ps) n z e = go (piece_in back_table latin p) refl (sym 
     go : (q : Piece) → piece_in back_table latin p ≡ q → piece_on (length p) (piece_in back_table latin p) (λ y. piece_in back_table y (run ps)) ≡ Read n z
         → ((y : Bool) (k : ℕ) (v : Bool) → piece_in back_table y (run ps) ≡ Read k v → over_by back_table true y ps ≡ piece_text back_table y (run ps))
         → piece_text back_table latin p ++ over_by back_table true (side_by back_table true latin p) ps ≡ piece_text back_table latin (p ++ run ps)
-    go (Stops k) f g ih = absurd (read_stops n k z (sym (ap (λ (q : Piece). piece_on (length p) q (λ y. piece_in back_table y (run ps))) f) ∙ g))
-    go (Read a y) f g ih =
-        let r = after_read (length p) a n z (piece_in back_table y (run ps)) (sym (ap (λ (q : Piece). piece_on (length p) q (λ x. piece_in back_table x (run ps))) f) ∙ g) in
+    go (Err k) f g ih = absurd (read_stops n k z (sym (ap (λ (q : Piece). piece_on (length p) q (λ y. piece_in back_table y (run ps))) f) ∙ g))
+    go (Ok h) f g ih =
+        let y : Bool = h.latin in
+        let r = after_read (length p) h.units n z (piece_in back_table y (run ps)) (sym (ap (λ (q : Piece). piece_on (length p) q (λ x. piece_in back_table x (run ps))) f) ∙ g) in
         ap (λ (x : Bool). piece_text back_table latin p ++ over_by back_table true x ps) (ap (side_of latin) f)
         ∙ ap (λ (x : List ℕ). piece_text back_table latin p ++ x) (ih y r.0 r.1.0 r.1.1)
-        ∙ sym (text_append back_table latin p (run ps) a y r.0 r.1.0 f r.1.1)
+        ∙ sym (text_append back_table latin p (run ps) h.units y r.0 r.1.0 f r.1.1)
 
 -- a text that reads is one piece
 one_piece : (b d : List ℕ) → reads false b ≡ said d → (n : ℕ) × ((z : Bool) × (piece_in back_table false b ≡ Read n z))
 one_piece b d e = go (piece_in back_table false b) (sym (reads_piece false b) ∙ e)
   where
     go : (p : Piece) → whole (length b) p (spoken back_table false b) ≡ said d → (n : ℕ) × ((z : Bool) × (p ≡ Read n z))
-    go (Read n z) f = (n, (z, refl))
-    go (Stops k) f = absurd (not_said k d f)
+    go (Ok p) f = (p.units, (p.latin, refl))
+    go (Err k) f = absurd (not_said k d f)
 
 over_reads : (s : Bool) (ps : List (List ℕ)) → Speaks s (run ps) → over_by back_table s false ps ≡ text_of (reading s (run ps))
 over_reads true ps w = let o = one_piece (run ps) w.0 w.1 in over_spoken false ps o.0 o.1.0 o.1.1 ∙ spoken_whole (run ps) w

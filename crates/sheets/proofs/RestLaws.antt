@@ -160,11 +160,3 @@ content_small {f} p e = omega (arith, p.within, ap length e, content_few f)
 
 pub rest_small : {f c r : List ℕ} → Part f → c ≡ content_in f → r ≡ rest_in c → length r ≤ limit
 rest_small {c = c} p e q = omega (arith, content_small p e, ap length q, rest_few c)
-
--- ---- a field without a record
-module _ (f : List ℕ) (sh : Shape) {b : Bool} (y : b ≡ is_note sh) where
-  pub left_none : b ≡ false → false ≡ (is_note sh && empty (rpp_part (content_in f)))
-  left_none e = ap (λ (d : Bool). d && empty (rpp_part (content_in f))) (sym e ∙ y)
-
-  pub left_note : {c p : List ℕ} → b ≡ true → c ≡ content_in f → p ≡ rpp_part c → eqb (length p) 0 ≡ (is_note sh && empty (rpp_part (content_in f)))
-  left_note {p = p} e i j = size_empty p ∙ ap empty (j ∙ ap rpp_part i) ∙ ap (λ (d : Bool). d && empty (rpp_part (content_in f))) (sym e ∙ y)

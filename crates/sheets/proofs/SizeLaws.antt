@@ -10,7 +10,7 @@ use lib.ListN.{length, drop, length-append, length-take, length-drop}
 use Rattle.base.specs.Choice.{pick, all}
 use Rattle.base.specs.Bytes.{same, empty}
 use Rattle.base.specs.Calls.{text_of}
-use Rattle.base.specs.declared.Verdict.TheVariants.{Fine}
+use Rattle.base.specs.Verdicts.{Fine}
 use Rattle.base.proofs.Bools.{left, right}
 use Rattle.alphabets.specs.Bank.{reading}
 use Rattle.alphabets.proofs.SaidLaws.{text_short}

@@ -11,7 +11,7 @@ use lib.ListN.{length, take, drop, drop_of_length-le}
 use Rattle.base.specs.Choice.{pick, all}
 use Rattle.base.specs.Bytes.{byte, same}
 use Rattle.base.specs.Quoted.{bytes}
-use Rattle.base.specs.declared.Verdict.TheVariants.{Fine}
+use Rattle.base.specs.Verdicts.{Fine}
 use Rattle.base.proofs.Bools.{left, right}
 use Rattle.base.proofs.ByteLaws.{same_is}
 use Rattle.fields.specs.Field.{Field, field}

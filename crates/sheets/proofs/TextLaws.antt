@@ -10,10 +10,9 @@ use Rattle.base.specs.Bytes.{count_up_to}
 use Rattle.base.specs.Choice.{pick}
 use Rattle.base.specs.Calls.{placed, Puts}
 use Rattle.alphabets.specs.Runs.{floor_of}
-use Rattle.alphabets.specs.Pieces.{piece_after, piece_in}
+use Rattle.std.specs.Prelude.{Ok, Err}
+use Rattle.alphabets.specs.Pieces.{Piece, Read, Stops, piece_after, piece_in}
 use Rattle.alphabets.specs.Parts.{spoken, unless_stops, piece_text}
-use Rattle.alphabets.specs.declared.pieces.Piece.{Piece}
-use Rattle.alphabets.specs.declared.pieces.Piece.TheVariants.{Read, Stops}
 use Rattle.alphabets.proofs.SpokenLaws.{counted, text_stops}
 use Rattle.fields.specs.Frame.{limit}
 use Rattle.fields.specs.Lines.{lines_in}
@@ -39,8 +38,8 @@ code_few false l e = omega (arith, ap length e, take_few 5 (drop 3 l))
 -- ---- a text
 -- a piece has no more signs than bytes
 abbrev units_of : Piece → ℕ
-units_of (Read n z) = n
-units_of (Stops k) = 0
+units_of (Ok p) = p.units
+units_of (Err k) = 0
 
 units_few : (t : List ℕ) (s : Bool) (b : List ℕ) → units_of (piece_in t s b) ≤ length b
 unfolding piece_in
@@ -48,8 +47,8 @@ units_few t s [] = omega arith
 units_few t s (x ∷ xs) = go (ltb (floor_of s) (get_or t x 0)) (eqb x 39) (piece_in t s xs) (piece_in t (not s) xs) (units_few t s xs) (units_few t (not s) xs)
   where
     more : (j : ℕ) (p : Piece) → j ≤ 1 → units_of p ≤ length xs → units_of (piece_after 1 j p) ≤ suc (length xs)
-    more j (Read n z) h k = omega arith
-    more j (Stops n) h k = omega arith
+    more j (Ok p) h k = omega arith
+    more j (Err n) h k = omega arith
 
     go : (q r : Bool) (a b : Piece) → units_of a ≤ length xs → units_of b ≤ length xs → units_of (pick q (piece_after 1 1 a) (pick r (piece_after 1 0 b) (Stops 0))) ≤ suc (length xs)
     go true r a b h k = more 1 a (omega arith) h

@@ -2,18 +2,16 @@
 -- any two outcomes are equal; that room of the message's length is always enough; and that every text of an accepted message reads (N17, O1, K4,
 -- K6, K9, D2e). Assumes nothing.
 use Prim.Native.Nat.{ℕ, ◌<◌, ◌≤◌}
-use mathlib.Core.Path.{◌≡◌, refl, ap, ◌∙◌, subst}
+use mathlib.Core.Path.{◌≡◌, refl, ap, ◌∙◌, subst, sym}
 use mathlib.Core.List.{List}
 use mathlib.Core.Logic.{◌↔◌}
 use native.Mathlib.Omega.{arith}
 use lib.ListN.{length}
+use Rattle.std.specs.Prelude.{Err}
 use Rattle.base.specs.Rules.{first, Clean, FirstOf}
-use Rattle.base.specs.Calls.{outcome, over, room, Gives}
-use Rattle.base.specs.declared.Verdict.{Verdict}
-use Rattle.base.specs.declared.Verdict.TheVariants.{Fine, Broken}
-use Rattle.base.specs.declared.Outcome.{Outcome}
-use Rattle.base.specs.declared.Outcome.TheVariants.{Done, Refused}
-use Rattle.base.proofs.RuleLaws.{accepted_iff, refused_iff}
+use Rattle.base.specs.Calls.{over, room, Gives}
+use Rattle.base.specs.Verdicts.{Verdict, Fine, Broken, Outcome, Done, Refused, answered}
+use Rattle.base.proofs.RuleLaws.{accepted_iff, refused_iff, same_refusal}
 use Rattle.base.proofs.CallLaws.{gives_one, accepted, refused, is_short, not_short}
 use Rattle.fields.specs.Field.{fields}
 use Rattle.types.specs.declared.Form.{Form}
@@ -33,9 +31,9 @@ sheet_one form m out g h = gives_one g h
 
 module _ (form : Form) (m out : List ℕ) (r : Outcome) (after : List ℕ) (g : SheetTo form m out r after) where
   -- the outcome by the first rule that is broken
-  by_first : {v : Verdict} → first (read_rules form m out) ≡ v → r ≡ outcome v (length (sheet_of form m))
+  by_first : {v : Verdict} → first (read_rules form m out) ≡ v → r ≡ answered v (length (sheet_of form m))
   unfolding SheetTo
-  by_first e = g.answers ∙ ap (λ (v : Verdict). outcome v (length (sheet_of form m))) e
+  by_first e = g.answers ∙ ap (λ (v : Verdict). answered v (length (sheet_of form m))) e
 
   held : {q : Outcome} → r ≡ q → Gives (read_rules form m out) (sheet_of form m) out q after
   unfolding SheetTo
@@ -75,16 +73,16 @@ module _ (form : Form) (m out : List ℕ) (r : Outcome) (after : List ℕ) (g : 
 
   -- room of the message's length is enough for any message, so there 17 never comes: the message's refusal, or the sheet
   module _ (h : length m ≤ length out) where
-    pub sheet_by_lem : {v : Verdict} → verdict_of form m ≡ v → (r ≡ outcome v (length (sheet_of form m))) × (after ≡ room v (sheet_of form m) out)
+    pub sheet_by_lem : {v : Verdict} → verdict_of form m ≡ v → (r ≡ answered v (length (sheet_of form m))) × (after ≡ room v (sheet_of form m) out)
     sheet_by_lem {v = Fine} e = sheet_wide e (omega (arith, sheet_no_longer form m e))
-    sheet_by_lem {v = Broken n p} e = let d = sheet_own n p e in (d, sheet_kept n p d)
+    sheet_by_lem {v = Err q} e = let d = sheet_own q.number q.place e in (d, sheet_kept q.number q.place d)
 
     pub sheet_never_17 : (p : ℕ) → r ≡ Refused 17 p → ⊥
     sheet_never_17 p e = go (verdict_of form m) refl
       where
         go : (v : Verdict) → verdict_of form m ≡ v → ⊥
         go Fine f = let d = (sheet_by_lem f).0 in let z : ◌≡◌ {A = ℕ} 0 1 = cc in omega arith
-        go (Broken k q) f = let d = (sheet_by_lem f).0 in let z : k ≡ 17 = cc in verdict_never form m q (f ∙ ap (λ (i : ℕ). Broken i q) z)
+        go (Err q) f = let d = (sheet_by_lem f).0 in verdict_never form m q.place (f ∙ ap (λ (i : ℕ). Broken i q.place) (same_refusal (sym d ∙ e)).0)
 
 -- every text of an accepted message reads, so that no part of its sheet stands for a text without a reading
 pub texts_read : (form : Form) (m : List ℕ) → verdict_of form m ≡ Fine → AllReadable form (sign_of (fields m)) (fields m)

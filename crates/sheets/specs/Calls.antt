@@ -2,8 +2,7 @@
 use Rattle.std.specs.Prelude.{ℕ, List, [], ◌∷◌, ◌++◌}
 use Rattle.types.specs.declared.Form.{Form}
 use Rattle.base.specs.Calls.{short, Gives}
-use Rattle.base.specs.declared.Verdict.{Verdict}
-use Rattle.base.specs.declared.Outcome.{Outcome}
+use Rattle.base.specs.Verdicts.{Verdict, Outcome}
 use Rattle.message.specs.Message.{message_rules}
 use Rattle.sheets.specs.Gather.{sheet_of}
 

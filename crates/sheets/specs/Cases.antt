@@ -5,7 +5,7 @@ use Prim.Native.String.{String}
 use Rattle.types.specs.Form.{form_of}
 use Rattle.base.specs.Quoted.{bytes, desk}
 use Rattle.base.specs.Rules.{first}
-use Rattle.base.specs.declared.Verdict.TheVariants.{Fine, Broken}
+use Rattle.base.specs.Verdicts.{Fine, Broken}
 use Rattle.sheets.specs.Gather.{sheet_of}
 use Rattle.sheets.specs.Calls.{read_rules}
 

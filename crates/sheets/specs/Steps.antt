@@ -1,15 +1,12 @@
 -- What the functions say to each other that put a message's sheet into room: fields, lines and texts as code finds them, the table lent (S2, T7,
 -- T12, Cdetails, C72, B6). With the table backwards, over an accepted message, this is its sheet (proofs/ReadLaws). Assumes nothing.
-use Rattle.std.specs.Prelude.{ℕ, ◌+◌, ◌-◌, ◌≤◌, ◌<◌, ◌≡◌, Bool, true, false, ◌&&◌, List, [], ◌∷◌, ◌++◌, map, eqb, length, take, drop}
+use Rattle.std.specs.Prelude.{ℕ, ◌+◌, ◌-◌, ◌≤◌, ◌<◌, ◌≡◌, Bool, true, false, ◌&&◌, List, [], ◌∷◌, ◌++◌, map, eqb, length, take, drop, Ok, Err}
 use Rattle.types.specs.declared.Form.{Form}
 use Rattle.base.specs.Choice.{pick}
 use Rattle.base.specs.Bytes.{byte, empty, count_up_to}
-use Rattle.base.specs.declared.Verdict.TheVariants.{Fine}
-use Rattle.alphabets.specs.Pieces.{piece_in}
+use Rattle.alphabets.specs.Pieces.{Piece, piece_in}
 use Rattle.alphabets.specs.Parts.{piece_text}
-use Rattle.alphabets.specs.declared.pieces.Piece.{Piece}
-use Rattle.alphabets.specs.declared.pieces.Piece.TheVariants.{Read, Stops}
-use Rattle.fields.specs.Field.{Field, field, fields}
+use Rattle.fields.specs.Field.{Field, field}
 use Rattle.fields.specs.Frame.{limit}
 use Rattle.fields.specs.Shapes.{unpack, packed}
 use Rattle.fields.specs.Lines.{lines_in}
@@ -21,8 +18,6 @@ use Rattle.roles.specs.declared.Shape.{Shape}
 use Rattle.roles.specs.declared.Shape.TheVariants.{Plain, Payer, Payee, Agent, Details, Note103, Note202}
 use Rattle.roles.specs.declared.Role.{Role}
 use Rattle.roles.specs.declared.Role.TheVariants.{Copies, OfPayer, OfPayee, OfAgent}
-use Rattle.message.specs.Message.{verdict_of}
-use Rattle.message.specs.Parts.{Settled}
 use Rattle.records.specs.Record.{Record, line}
 use Rattle.runon.specs.RunOn.{second_part}
 use Rattle.types.specs.Sign.{first_line}
@@ -35,8 +30,8 @@ said_by t spoken latin p = pick spoken (piece_text t latin p) p
 
 -- the side behind it
 abbrev pub side_of : Bool → Piece → Bool
-side_of latin (Read n z) = z
-side_of latin (Stops k) = latin
+side_of latin (Ok p) = p.latin
+side_of latin (Err k) = latin
 
 abbrev pub side_by : List ℕ → Bool → Bool → List ℕ → Bool
 side_by t spoken latin p = pick spoken (side_of latin (piece_in t latin p)) latin
@@ -157,9 +152,3 @@ record_line t form s two (field g ls) = line_by (shape_of form g) two (record_by
 abbrev pub sheet_by : List ℕ → Form → Bool → List ℕ → List Field → List ℕ
 sheet_by t form s two [] = []
 sheet_by t form s two (f ∷ fs) = record_line t form s two f ++ sheet_by t form s two fs
-
--- ---- an accepted message: where its fields stand, and how many there are
-pub record Sound (form : Form) (m spots : List ℕ) (n : ℕ) : Type 0 where
-  pub fine : verdict_of form m ≡ Fine
-  pub settled : Settled m spots
-  pub count : n ≡ length (fields m)

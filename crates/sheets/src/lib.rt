@@ -3,6 +3,7 @@
 
 mod built;
 mod parts;
+mod reading;
 mod rest;
 mod texts;
 pub mod to_sheet;

@@ -8,6 +8,7 @@ ghost use Rattle.roles.specs.declared.Shape.TheVariants as shapes;
 ghost use Rattle.sheets.specs.Gather.{code_digits, note_parts};
 ghost use Rattle.sheets.specs.Steps.{details_by, rest_text, content_by, joined_parts};
 
+use super::reading::Reading;
 use super::rest::rpp_part;
 use super::texts::{put_lines, put_over, put_part};
 use base::bytes::{front, past, put};
@@ -32,85 +33,73 @@ fn digits_of(sign: bool, l: &[u8]) -> &[u8]
 fn code_size(sign: bool) -> usize
     ensures { (result ≡ code_size sign) × (result ≤ 11) }
 {
-    if sign {
-        return SIGNED_CODE;
-    }
-    CODE
+    if sign { SIGNED_CODE } else { CODE }
 }
 
 // VO digits and the text, of lines behind `first` bytes of mark in the first and `mark` bytes in each later one.
-fn put_details(
-    back: &[u8; 256],
-    sign: bool,
-    first: usize,
-    mark: usize,
-    c: &[u8],
-    out: &mut [u8],
-    at: usize,
-) -> usize
+fn put_details(r: &Reading, first: usize, mark: usize, c: &[u8], out: &mut [u8], at: usize) -> usize
     requires { (first ≤ 5) × (length c.now ≤ 10000) × (at ≤ 300000) }
-    ensures { (result ≤ at + length c.now + 7) × Puts (tabbed (details_by back.now sign first mark (lines_in c.now))) out.old at result out.new }
+    ensures { (result ≤ at + length c.now + 7) × Puts (tabbed (details_by r.now.back.now r.now.sign first mark (lines_in c.now))) out.old at result out.new }
 {
-    let e = mark_at(13, c, 0);
-    let n = put_part(back, false, digits_of(sign, past(&c[..e], first)), out, at);
+    let e = mark_at(b'\r', c, 0);
+    let n = put_part(
+        r.back,
+        false,
+        digits_of(r.sign, past(&c[..e], first)),
+        out,
+        at,
+    );
     put(out, n, b"\t");
-    put_over(back, sign, first + code_size(sign), mark, c, out, n + 1)
+    put_over(
+        r.back,
+        r.sign,
+        first + code_size(r.sign),
+        mark,
+        c,
+        out,
+        n + 1,
+    )
 }
 
 // 70 of a 103: VO digits and the text, then the rest of it, which is a text by itself.
-fn put_whole(
-    back: &[u8; 256],
-    sign: bool,
-    rest: &[u8],
-    c: &[u8],
-    out: &mut [u8],
-    at: usize,
-) -> usize
-    requires { (length rest.now ≤ 10000) × (length c.now ≤ 10000) × (at ≤ 200000) }
-    ensures { (result ≤ at + length c.now + 7 + length rest.now) × Puts (tabbed (joined_parts shapes.Details (rest_text back.now sign (lines_in rest.now)) (details_by back.now sign 0 0 (lines_in c.now)))) out.old at result out.new }
+fn put_whole(r: &Reading, c: &[u8], out: &mut [u8], at: usize) -> usize
+    requires { (length c.now ≤ 10000) × (at ≤ 200000) }
+    ensures { (result ≤ at + length c.now + 7 + length r.now.rest.now) × Puts (tabbed (joined_parts shapes.Details (rest_text r.now.back.now r.now.sign (lines_in r.now.rest.now)) (details_by r.now.back.now r.now.sign 0 0 (lines_in c.now)))) out.old at result out.new }
 {
-    let n = put_details(back, sign, 0, 0, c, out, at);
-    if rest.len() == 0 {
+    let n = put_details(r, 0, 0, c, out, at);
+    if r.rest.is_empty() {
         return n;
     }
-    put_over(back, sign, NZP, LATER, rest, out, n)
+    put_over(r.back, r.sign, NZP, LATER, r.rest, out, n)
 }
 
 // 72 of a 202: what follows /RPP/ or an empty part, then VO digits and text.
-fn put_note(back: &[u8; 256], sign: bool, c: &[u8], out: &mut [u8], at: usize) -> usize
+fn put_note(r: &Reading, c: &[u8], out: &mut [u8], at: usize) -> usize
     requires { (length c.now ≤ 10000) × (at ≤ 200000) }
-    ensures { (result ≤ at + length c.now + 8) × Puts (tabbed (note_parts (details_by back.now sign 5 2) (lines_in c.now))) out.old at result out.new }
+    ensures { (result ≤ at + length c.now + 8) × Puts (tabbed (note_parts (details_by r.now.back.now r.now.sign 5 2) (lines_in c.now))) out.old at result out.new }
 {
-    let e = mark_at(13, c, 0);
+    let e = mark_at(b'\r', c, 0);
     if !opens_rpp(&c[..e]) {
         put(out, at, b"\t");
-        return put_details(back, sign, NZP, LATER, c, out, at + 1);
+        return put_details(r, NZP, LATER, c, out, at + 1);
     }
-    let n = put_part(back, false, past(&c[..e], RPP_MARK), out, at);
+    let n = put_part(r.back, false, past(&c[..e], RPP_MARK), out, at);
     if c.len() <= e {
         return n;
     }
     let i = next_line(e, c.len());
-    put_details(back, sign, NZP, LATER, &c[i..], out, n)
+    put_details(r, NZP, LATER, &c[i..], out, n)
 }
 
 // The parts of a content, each behind a tab, by the shape of its tag: those of 70 with the rest of the details, those of a 72 of a 103 without it.
-pub(crate) fn put_content(
-    back: &[u8; 256],
-    shape: Shape,
-    sign: bool,
-    rest: &[u8],
-    c: &[u8],
-    out: &mut [u8],
-    at: usize,
-) -> usize
-    requires { (length rest.now ≤ 10000) × (length c.now ≤ 10000) × (at ≤ 200000) }
-    ensures { (result ≤ at + length c.now + 8 + length rest.now) × Puts (tabbed (joined_parts shape (rest_text back.now sign (lines_in rest.now)) (content_by back.now sign shape (lines_in c.now)))) out.old at result out.new }
+pub(crate) fn put_content(r: &Reading, shape: Shape, c: &[u8], out: &mut [u8], at: usize) -> usize
+    requires { (length c.now ≤ 10000) × (at ≤ 200000) }
+    ensures { (result ≤ at + length c.now + 8 + length r.now.rest.now) × Puts (tabbed (joined_parts shape (rest_text r.now.back.now r.now.sign (lines_in r.now.rest.now)) (content_by r.now.back.now r.now.sign shape (lines_in c.now)))) out.old at result out.new }
 {
     match shape {
-        Shape::Details => put_whole(back, sign, rest, c, out, at),
-        Shape::Note103 => put_part(back, false, rpp_part(c), out, at),
-        Shape::Note202 => put_note(back, sign, c, out, at),
-        _ => put_lines(back, sign, first_role(shape), 0, c, out, at),
+        Shape::Details => put_whole(r, c, out, at),
+        Shape::Note103 => put_part(r.back, false, rpp_part(c), out, at),
+        Shape::Note202 => put_note(r, c, out, at),
+        _ => put_lines(r.back, r.sign, first_role(shape), 0, c, out, at),
     }
 }

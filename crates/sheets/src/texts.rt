@@ -6,7 +6,6 @@ ghost use Rattle.records.specs.Record.{tabbed};
 ghost use Rattle.sheets.specs.Steps.{said_by, side_by, parts_by, text_pieces, over_by};
 
 use alphabets::parts::put_piece;
-use alphabets::pieces::Piece;
 use base::bytes::{past, put};
 use base::marks::mark_at;
 use fields::lines::next_line;
@@ -40,11 +39,11 @@ fn put_text(
         };
     }
     match put_piece(back, latin, p, out, at) {
-        Piece::Stops(_) => Behind { at, latin },
-        Piece::Read { units, latin: side } => Behind {
-            at: at + units,
-            latin: side,
+        Ok(heard) => Behind {
+            at: at + heard.units,
+            latin: heard.latin,
         },
+        Err(_) => Behind { at, latin },
     }
 }
 

@@ -10,12 +10,9 @@ use lib.ListN.{length, take, drop}
 use lib.Seq.{take-append_seam}
 use Rattle.types.specs.Form.{type_of}
 use Rattle.base.specs.Rules.{then, first, Clean}
-use Rattle.base.specs.Calls.{short, outcome, over}
+use Rattle.base.specs.Calls.{short, over}
 use Rattle.base.specs.Calls.{room as left}
-use Rattle.base.specs.declared.Verdict.{Verdict}
-use Rattle.base.specs.declared.Verdict.TheVariants.{Fine, Broken}
-use Rattle.base.specs.declared.Outcome.{Outcome}
-use Rattle.base.specs.declared.Outcome.TheVariants.{Done}
+use Rattle.base.specs.Verdicts.{Verdict, Fine, Broken, Outcome, Done, answered}
 use Rattle.base.proofs.RuleLaws.{first_append, first_last, then_clean}
 use Rattle.base.proofs.CallLaws.{accepted, not_short}
 use Rattle.base.specs.Examples.{AllHold}
@@ -127,14 +124,14 @@ module _ (form : Form) (m room : List ℕ) (e : verdict_of form m ≡ Fine) (r :
       rules_write sheet room (record { sheet = sheet_rules_lem sheet c; room = not_short built room (enough c); own = own_again form m e c }) in
       let q : b ≡ over built room = g.leaves ∙ ap (λ (v : Verdict). left v built room) f in
       let t : take (length built) b ≡ built = ap (take (length built)) q ∙ take-append_seam built (drop (length built) room) in
-      back (length built) (g.answers ∙ ap (λ (v : Verdict). outcome v (length built)) f) (ap (verdict_of form) t ∙ accepted_again form m e c) (ap (sheet_of form) t ∙ same_sheet form m e c)
+      back (length built) (g.answers ∙ ap (λ (v : Verdict). answered v (length built)) f) (ap (verdict_of form) t ∙ accepted_again form m e c) (ap (sheet_of form) t ∙ same_sheet form m e c)
       (q ∙ ap (λ (x : List ℕ). x ++ drop (length built) room) (sym t))
 
   stops : MessageTo sheet room r b → first (sheet_rules sheet) ≡ Broken 16 0 → CrowdedBehindRpp form (sign_of (fields m)) (fields m) → Returns form m room r b
   unfolding MessageTo
   stops g f n =
       let k : first (write_rules sheet room) ≡ Broken 16 0 = first_append (sheet_rules sheet) (short built room ∷ own_rule sheet ∷ []) ∙ ap (λ (v : Verdict). then v (first (short built room ∷ own_rule sheet ∷ []))) f in
-      crowded (g.answers ∙ ap (λ (v : Verdict). outcome v (length built)) k) (g.leaves ∙ ap (λ (v : Verdict). left v built room) k) n
+      crowded (g.answers ∙ ap (λ (v : Verdict). answered v (length built)) k) (g.leaves ∙ ap (λ (v : Verdict). left v built room) k) n
 
   returns : MessageTo sheet room r b → Returns form m room r b
   returns g = go (sheet_passes form m e)

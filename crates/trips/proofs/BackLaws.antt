@@ -16,9 +16,7 @@ use Rattle.base.specs.Bytes.{digit, empty, same}
 use Rattle.base.specs.Quoted.{bytes}
 use Rattle.base.specs.Rules.{Clean}
 use Rattle.base.specs.Calls.{text_of, over}
-use Rattle.base.specs.declared.Verdict.TheVariants.{Fine}
-use Rattle.base.specs.declared.Outcome.{Outcome}
-use Rattle.base.specs.declared.Outcome.TheVariants.{Done, Refused}
+use Rattle.base.specs.Verdicts.{Fine, Outcome, Done, Refused}
 use Rattle.base.proofs.Bools.{left, right}
 use Rattle.base.proofs.ByteLaws.{digit_range}
 use Rattle.base.proofs.RuleLaws.{fine_broken}

@@ -21,8 +21,7 @@ use Rattle.records.specs.Sentences as sentences
 use Rattle.details.specs.Layouts.{layout, DivisionIn, marked, fit_lines, lines_for, size_for, is_unfit}
 use Rattle.details.specs.declared.DetailsField.{DetailsField}
 use Rattle.details.specs.declared.DetailsField.TheVariants.{In70, In72, BehindRpp}
-use Rattle.details.specs.declared.Size.{Size}
-use Rattle.details.specs.declared.Size.TheVariants.{Bytes, Unfit}
+use Rattle.std.specs.Prelude.{Option, Some, None}
 use Rattle.details.proofs.DivisionTheorems.{Fitted, fitted}
 use Rattle.details.specs.Front.{code, rpp_line, note_field}
 use Rattle.runon.specs.Run.{bank_of, fits_in}
@@ -41,12 +40,12 @@ module _ (s : Bool) where
   unfolding lines_for
   fits_divided p front text u = go (size_for p (length front) (front ++ bank_of s text)) refl (sym (twice_not (is_unfit (size_for p (length front) (front ++ bank_of s text)))) ∙ u)
     where
-      go : (z : Size) → size_for p (length front) (front ++ bank_of s text) ≡ z → is_unfit z ≡ false
+      go : (z : Option ℕ) → size_for p (length front) (front ++ bank_of s text) ≡ z → is_unfit z ≡ false
           → (ls : List (List ℕ)) × (laid_lines s p front text ≡ marked (layout p) ls) × DivisionIn (layout p) (length front) (front ++ bank_of s text) ls
-      go (Bytes n) f u =
+      go (Some n) f u =
           let w : Fitted p (length front) (front ++ bank_of s text) n = fitted p (length front) (front ++ bank_of s text) n f in
           (w.ls, ap (λ (a : _). marked (layout p) (fit_lines a)) w.is, w.division)
-      go Unfit f u = absurd (true≢false u)
+      go None f u = absurd (true≢false u)
 
   -- details: their text as it is written has a byte, as the desk text has one
   text_pass : (p : DetailsField) (vo t : List ℕ) → is_digits 5 vo ≡ true → empty t ≡ false → all (speaks s) (copy vo ∷ name t ∷ []) ≡ true → not (fits_in s p (code s vo) t) ≡ false

@@ -40,8 +40,7 @@ use Rattle.details.specs.Lines.{together, lines}
 use Rattle.details.specs.Layouts.{layout, DivisionIn, marked, size_for, is_unfit}
 use Rattle.details.specs.declared.DetailsField.{DetailsField}
 use Rattle.details.specs.declared.DetailsField.TheVariants.{In70, In72, BehindRpp}
-use Rattle.details.specs.declared.Size.{Size}
-use Rattle.details.specs.declared.Size.TheVariants.{Bytes, Unfit}
+use Rattle.std.specs.Prelude.{Option, Some, None}
 use Rattle.details.proofs.DivisionTheorems.{less_divided, unfit_none}
 use Rattle.details.specs.Front.{code, rpp_line, note_field}
 use Rattle.runon.specs.Run.{fits_in}
@@ -201,9 +200,9 @@ shown_behind w h = record { spelt = rest_whole w; rows = w.text ∷ w.texts; mar
 never_unfit : (p : DetailsField) (least : ℕ) (text : List ℕ) {ls : List (List ℕ)} → DivisionIn (layout p) least text ls → is_unfit (size_for p least text) ≡ false
 never_unfit p least text d = go (size_for p least text) refl
   where
-    go : (z : Size) → size_for p least text ≡ z → is_unfit z ≡ false
-    go (Bytes n) e = refl
-    go Unfit e = absurd (unfit_none p least text e d)
+    go : (z : Option ℕ) → size_for p least text ≡ z → is_unfit z ≡ false
+    go (Some n) e = refl
+    go None e = absurd (unfit_none p least text e d)
 
 -- a text that is written again is no longer: that is enough where no byte is barred
 free_fits : {p : DetailsField} {s : Bool} {ls : List (List ℕ)} (w : DetailsOver p s ls) (h : Means s (whole w)) → (layout p).barred ≡ [] → not (fits_in s p (code s w.vo) h.desk) ≡ false

@@ -12,8 +12,7 @@ use Rattle.base.specs.Calls.{Answer, said, text_of, long, short}
 use Rattle.base.specs.Bytes.{empty, is_in, digit, capital, letter, marks, shared, xset, same}
 use Rattle.base.specs.Quoted.{bytes, desk}
 use Rattle.base.specs.Rules.{then, first, Clean}
-use Rattle.base.specs.declared.Verdict.{Verdict}
-use Rattle.base.specs.declared.Verdict.TheVariants.{Fine, Broken}
+use Rattle.base.specs.Verdicts.{Verdict, Fine, Broken}
 use Rattle.base.proofs.RuleLaws.{first_last, first_clean}
 use Rattle.frame.specs.Cases.{sample}
 use Rattle.fields.specs.Field.{Field, field, message, body, cut_lines, upto, past, grouped, fields}

@@ -10,14 +10,13 @@ use native.Mathlib.Decide.{dec_lt}
 use lib.Dec.{ltb}
 use lib.ListN.{length, length-append}
 use borrow.Author.Tests.{ltb-false, eq-eqb, le-leb}
+use Rattle.std.specs.Prelude.{Option, None, Some}
 use Rattle.base.specs.Choice.{pick}
 use Rattle.base.specs.Bytes.{empty, same}
 use Rattle.base.specs.Calls.{said}
 use Rattle.base.specs.Examples.{AllHold}
-use Rattle.roles.specs.declared.Spot.{Spot}
-use Rattle.roles.specs.declared.Spot.TheVariants.{Nowhere, At}
 use Rattle.roles.specs.Places.{verdict_at}
-use Rattle.base.specs.declared.Verdict.TheVariants.{Fine}
+use Rattle.base.specs.Verdicts.{Fine}
 use Rattle.base.proofs.Bools.{both}
 use Rattle.base.proofs.ByteLaws.{same_is}
 use Rattle.base.proofs.RuleLaws.{fine_broken}
@@ -112,11 +111,11 @@ seventy s ls h =
     }
 
 -- ---- 72: an RPP line alone, or a text that runs on
-within : (n o : ℕ) (ls : List (List ℕ)) → over_from n o ls ≡ Nowhere → n + size_72 ls ≤ most ⊎ (ls ≡ [])
+within : (n o : ℕ) (ls : List (List ℕ)) → over_from n o ls ≡ None → n + size_72 ls ≤ most ⊎ (ls ≡ [])
 within n o [] e = inr refl
 within n o (l ∷ ls) e = inl (go (ltb most (n + size_72 (l ∷ ls))) refl e)
   where
-    go : (b : Bool) → ltb most (n + size_72 (l ∷ ls)) ≡ b → pick b (At o) Nowhere ≡ Nowhere → n + size_72 (l ∷ ls) ≤ most
+    go : (b : Bool) → ltb most (n + size_72 (l ∷ ls)) ≡ b → pick b (Some o) None ≡ None → n + size_72 (l ∷ ls) ≤ most
     go true q e = let z : ◌≡◌ {A = ℕ} 0 1 = cc in absurd (omega arith)
     go false q e = ltb-false most (n + size_72 (l ∷ ls)) q
 
@@ -126,13 +125,13 @@ record Runs (s : Bool) (ls : List (List ℕ)) (r two : List ℕ) : Type 0 where
   says : reading s more ≡ said two
   some : 0 < length two
   in_72 : DivisionIn (layout (note_field r)) 0 more rows
-  size : (n : ℕ) → over_most n ls ≡ Nowhere → n + length more ≤ most
+  size : (n : ℕ) → over_most n ls ≡ None → n + length more ≤ most
 
 data Note (s : Bool) (ls : List (List ℕ)) : List (List ℕ) → Type 0 where
   alone : (r : List ℕ) → Note s ls (r ∷ [])
   runs : (r two : List ℕ) → Runs s ls r two → Note s ls (r ∷ two ∷ [])
 
-few : {p : DetailsField} {ls : List (List ℕ)} (w : RestOver p ls) (n o : ℕ) → over_from n o ls ≡ Nowhere → n + length (rest_whole w) ≤ most
+few : {p : DetailsField} {ls : List (List ℕ)} (w : RestOver p ls) (n o : ℕ) → over_from n o ls ≡ None → n + length (rest_whole w) ≤ most
 few {ls = ls} w n o e = go (within n o ls e)
   where
     go : n + size_72 ls ≤ most ⊎ (ls ≡ []) → n + length (rest_whole w) ≤ most
@@ -232,21 +231,21 @@ bytes_70 o (field t ls ∷ fs) = go (same t tag_70) (bytes_70 (next_of o (field 
     go true i = refl
     go false i = i
 
-none_over : (n o : ℕ) (fs : List Field) → of_first tag_72 Fine (λ s ls. verdict_at 21 s (over_most n ls)) o fs ≡ Fine → over_most n (parts_of tag_72 fs) ≡ Nowhere
+none_over : (n o : ℕ) (fs : List Field) → of_first tag_72 Fine (λ s ls. verdict_at 21 s (over_most n ls)) o fs ≡ Fine → over_most n (parts_of tag_72 fs) ≡ None
 unfolding over_most
 none_over n o [] e = refl
 none_over n o (field t ls ∷ fs) e = go (same t tag_72) e (none_over n (next_of o (field t ls)) fs)
   where
-    nowhere : (v : Spot) → verdict_at 21 (start_of o (field t ls)) v ≡ Fine → v ≡ Nowhere
-    nowhere Nowhere e = refl
-    nowhere (At q) e = absurd (fine_broken 21 (start_of o (field t ls) + q) (sym e))
+    nowhere : (v : Option ℕ) → verdict_at 21 (start_of o (field t ls)) v ≡ Fine → v ≡ None
+    nowhere None e = refl
+    nowhere (Some q) e = absurd (fine_broken 21 (start_of o (field t ls) + q) (sym e))
 
     go : (b : Bool) → pick b (verdict_at 21 (start_of o (field t ls)) (over_most n ls)) (of_first tag_72 Fine (λ s ls. verdict_at 21 s (over_most n ls)) (next_of o (field t ls)) fs) ≡ Fine
-        → (of_first tag_72 Fine (λ s ls. verdict_at 21 s (over_most n ls)) (next_of o (field t ls)) fs ≡ Fine → over_most n (parts_of tag_72 fs) ≡ Nowhere) → over_most n (pick b ls (parts_of tag_72 fs)) ≡ Nowhere
+        → (of_first tag_72 Fine (λ s ls. verdict_at 21 s (over_most n ls)) (next_of o (field t ls)) fs ≡ Fine → over_most n (parts_of tag_72 fs) ≡ None) → over_most n (pick b ls (parts_of tag_72 fs)) ≡ None
     go true e i = nowhere (over_most n ls) e
     go false e i = i e
 
-fine_21 : (fs : List Field) → rule_21 Mt103 fs ≡ Fine → over_most (size_70 (parts_of tag_70 fs)) (parts_of tag_72 fs) ≡ Nowhere
+fine_21 : (fs : List Field) → rule_21 Mt103 fs ≡ Fine → over_most (size_70 (parts_of tag_70 fs)) (parts_of tag_72 fs) ≡ None
 unfolding rule_21
 fine_21 fs e = ap (λ (n : ℕ). over_most n (parts_of tag_72 fs)) (sym (bytes_70 5 fs)) ∙ none_over (bytes_in_70 fs) 5 fs e
 
@@ -342,7 +341,7 @@ module _ (s : Bool) (fs : List Field) (h : AllHold (HeldField Mt103 s) fs) (a : 
         let i : rpp_in apart ≡ r = ap first_line e in
         let j : two ≡ t = ap second_part e in
         let k = fine_21 fs most_fine in
-        let z : over_most (length front + length seven.bank) ls ≡ Nowhere = ap₂ over_most (sym seven.size ∙ ap size_70 (sym it.was)) (sym w) ∙ k in
+        let z : over_most (length front + length seven.bank) ls ≡ None = ap₂ over_most (sym seven.size ∙ ap size_70 (sym it.was)) (sym w) ∙ k in
         let heard : Heard s front (note_field r) seven.bank d.more seven.one t =
         record { first = seven.heard; says = d.says; some = d.some; rows = d.rows; in_72 = d.in_72; within = d.size (length front + length seven.bank) z } in
         let u : run_for s front (note_field r) (seven.one ++ t) ≡ run.Unfit =

@@ -7,7 +7,7 @@ use mathlib.Core.List.{List, [], ◌∷◌, ◌++◌, map}
 use native.Mathlib.Omega.{arith}
 use Rattle.base.specs.Choice.{all}
 use Rattle.base.specs.Bytes.{xset}
-use Rattle.base.specs.declared.Verdict.TheVariants.{Fine}
+use Rattle.base.specs.Verdicts.{Fine}
 use Rattle.base.proofs.Bools.{left, right, both, all_front, all_behind}
 use Rattle.base.specs.Examples.{AllHold}
 use Rattle.fields.specs.Field.{Field, field, lines_of, fields}

@@ -11,8 +11,7 @@ use Rattle.base.specs.Bytes.{begins, empty, same, digit, capital, letter, shared
 use Rattle.base.specs.Quoted.{bytes}
 use Rattle.base.specs.Rules.{first, Clean}
 use Rattle.base.specs.Calls.{said, long}
-use Rattle.base.specs.declared.Verdict.{Verdict}
-use Rattle.base.specs.declared.Verdict.TheVariants.{Fine, Broken}
+use Rattle.base.specs.Verdicts.{Verdict, Fine, Broken}
 use Rattle.base.proofs.Bools.{left, right, both}
 use Rattle.base.proofs.ByteLaws.{same_is}
 use Rattle.base.proofs.RuleLaws.{fine_broken}

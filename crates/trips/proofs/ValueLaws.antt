@@ -8,7 +8,7 @@ use mathlib.Core.Logic.{inl, inr}
 use Rattle.base.specs.Choice.{pick}
 use Rattle.base.specs.Bytes.{begins, empty, same}
 use Rattle.base.specs.Quoted.{bytes}
-use Rattle.base.specs.declared.Verdict.TheVariants.{Fine, Broken}
+use Rattle.base.specs.Verdicts.{Fine, Broken}
 use Rattle.base.proofs.ByteLaws.{same_is}
 use Rattle.base.proofs.RuleLaws.{fine_broken}
 use Rattle.base.specs.Examples.{AllHold}

@@ -8,7 +8,7 @@ use lib.Dec.{eqb}
 use lib.ListN.{length, length-append}
 use Rattle.base.specs.Choice.{pick, all}
 use Rattle.base.specs.Bytes.{empty}
-use Rattle.base.specs.declared.Verdict.TheVariants.{Fine, Broken}
+use Rattle.base.specs.Verdicts.{Fine, Broken}
 use Rattle.base.proofs.Bools.{both}
 use Rattle.base.proofs.RuleLaws.{fine_broken}
 use Rattle.base.proofs.CallLaws.{not_long}

@@ -8,7 +8,7 @@ use lib.ListN.{length, take, length-append}
 use Rattle.base.specs.Rules.{Clean}
 use Rattle.base.specs.Calls.{said}
 use Rattle.base.specs.Examples.{AllHold}
-use Rattle.base.specs.declared.Outcome.TheVariants.{Done}
+use Rattle.base.specs.Verdicts.{Done}
 use Rattle.fields.specs.Field.{Field, field, fields}
 use Rattle.types.specs.declared.Form.{Form}
 use Rattle.types.specs.Sign.{sign_of}

@@ -5,9 +5,7 @@ use Rattle.types.specs.declared.Form.{Form}
 use Rattle.types.specs.declared.Form.TheVariants.{Mt103}
 use Rattle.base.specs.Bytes.{empty}
 use Rattle.base.specs.Calls.{text_of}
-use Rattle.base.specs.declared.Verdict.TheVariants.{Fine}
-use Rattle.base.specs.declared.Outcome.{Outcome}
-use Rattle.base.specs.declared.Outcome.TheVariants.{Done, Refused}
+use Rattle.base.specs.Verdicts.{Fine, Outcome, Done, Refused}
 use Rattle.alphabets.specs.Bank.{reading}
 use Rattle.alphabets.specs.Best.{writing}
 use Rattle.fields.specs.Field.{Field, field, fields}

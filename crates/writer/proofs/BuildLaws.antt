@@ -6,15 +6,18 @@ use mathlib.Core.List.{List, [], ◌∷◌, ◌++◌, tail}
 use native.Mathlib.Omega.{arith}
 use native.Mathlib.Nat.{zero-add}
 use lib.ListN.{length, take, drop}
+use Rattle.writer.specs.declared.NewMessage.{NewMessage}
+use Rattle.base.specs.declared.Refusal.{Refusal}
+use Rattle.writer.specs.Comes.{Step, Put, Stuck, Unfit, At, Whole}
+use Rattle.std.specs.Prelude.{Err, Option, None, Result}
 use Rattle.base.specs.Choice.{pick, all}
 use Rattle.base.specs.Bytes.{same, count_up_to}
 use Rattle.base.specs.Quoted.{bytes}
 use Rattle.base.specs.Rules.{then, first}
 use Rattle.base.specs.Calls.{Answer, said, stuck, placed, Puts}
-use Rattle.base.specs.declared.Verdict.{Verdict}
-use Rattle.base.specs.declared.Verdict.TheVariants.{Fine, Broken}
+use Rattle.base.specs.Verdicts.{Verdict, Fine, Broken, Refused}
 use Rattle.base.proofs.Bools.{right}
-use Rattle.base.proofs.RuleLaws.{fine_broken, then_clean}
+use Rattle.base.proofs.RuleLaws.{fine_broken, then_clean, as_broken, same_broken}
 use Rattle.base.proofs.Room.{puts_put, puts_by, puts_on}
 use Rattle.base.proofs.CallLaws.{is_long, not_long}
 use Rattle.fields.specs.Field.{field, opening, closing, message}
@@ -40,11 +43,6 @@ use Rattle.writer.specs.Spread.{said_part, cast_parts, spread}
 use Rattle.writer.specs.Sheet.{stopped_at, unsaid, rule_15, some_crowded, rule_16, fields_of, message_for, sheet_rules, EachSheetRule}
 use Rattle.writer.specs.Holder.{sources, start_70, has_new, behind_first}
 use Rattle.writer.specs.declared.Cutting.{Cutting}
-use Rattle.writer.specs.declared.Cutting.TheVariants.{Nowhere, At}
-use Rattle.writer.specs.declared.Step.{Step}
-use Rattle.writer.specs.declared.Step.TheVariants.{Stuck, Unfit, Put}
-use Rattle.writer.specs.declared.Build.{Build}
-use Rattle.writer.specs.declared.Build.TheVariants.{Stopped, Whole}
 use Rattle.writer.specs.Steps.{came, Adds, record_stops, records_at}
 use Rattle.writer.specs.Runs.{cut_for, cut_in, one_in, built_by, sheet_cut, Builds, Told}
 use Rattle.writer.proofs.StepLaws.{adds_front, adds_alike, adds_put, moved_by, came_stuck, came_unfit, came_put}
@@ -56,12 +54,12 @@ use Rattle.writer.proofs.SeenLaws.{bare_nowhere, nowhere_kept}
 use Rattle.writer.proofs.HalfLaws.{CutKnown, cut_known}
 
 -- ---- a refusal
-pub builds_stopped : (s : List ℕ) {out after : List ℕ} {n p : ℕ} → first (sheet_rules s) ≡ Broken n p → Builds s out (Stopped n p) after
+pub builds_stopped : (s : List ℕ) {out after : List ℕ} {n p : ℕ} → first (sheet_rules s) ≡ Broken n p → Builds s out (Refused n p) after
 builds_stopped s {n = n} {p = p} q =
     record { answers = ap (λ (v : Verdict). built_by v (sheet_form s) (sheet_sign s) (sheet_cut s) (length (message_for s))) (sym q); fills = λ e. absurd (fine_broken n p (sym e ∙ q)) }
 
 -- what stood in the room before doesn't matter
-pub builds_room : (s out : List ℕ) {mid after : List ℕ} {r : Build} → length mid ≡ length out → Builds s mid r after → Builds s out r after
+pub builds_room : (s out : List ℕ) {mid after : List ℕ} {r : Result NewMessage Refusal} → length mid ≡ length out → Builds s mid r after → Builds s out r after
 builds_room s out e a = record { answers = a.answers; fills = λ f l. a.fills f (omega arith) }
 
 -- ---- the message whole: what opens it, the fields, and behind them what closes it
@@ -82,11 +80,11 @@ module _ (form : Form) (g : Bool) (rs : List Record) {v : Verdict} {b : Bool} {o
 -- ---- 15 gives its own number alone
 then_number : (n : ℕ) (v w : Verdict) → ((j p : ℕ) → v ≡ Broken j p → j ≡ n) → ((j p : ℕ) → w ≡ Broken j p → j ≡ n) → (j p : ℕ) → then v w ≡ Broken j p → j ≡ n
 then_number n Fine w f g j p e = g j p e
-then_number n (Broken k q) w f g j p e = f j p e
+then_number n (Err r) w f g j p e = f j p e
 
 stopped_number : (o : ℕ) (a : Answer) (j p : ℕ) → stopped_at o a ≡ Broken j p → j ≡ 15
 stopped_number o (said t) j p e = absurd (fine_broken j p e)
-stopped_number o (stuck k) j p e = cc
+stopped_number o (stuck k) j p e = sym (same_broken e).0
 
 unsaid_number : (s : Bool) (o : ℕ) (cs : List Part) (j p : ℕ) → unsaid s o cs ≡ Broken j p → j ≡ 15
 unfolding unsaid
@@ -235,7 +233,7 @@ module _ (s : List ℕ) (v : verdict_19_and_18 s ≡ Fine) where
     abbrev size : ℕ
     size = 0 + length (message (spread (sheet_form s) (sheet_sign s) ours))
 
-    pub sound_stuck : {m mid : List ℕ} {r : Step} {k : ℕ} → r ≡ Stuck k → Put-in m r mid → Builds s m (Stopped 15 k) mid
+    pub sound_stuck : {m mid : List ℕ} {r : Step} {k : ℕ} → r ≡ Stuck k → Put-in m r mid → Builds s m (Refused 15 k) mid
     sound_stuck {k = k} e a =
         let z = came_stuck (rule_15 (sheet_form s) (sheet_sign s) 7 ours) (some_crowded (sheet_form s) (sheet_sign s) ours) size k (sym e ∙ a.answers) in
         let n : z.0 ≡ 15 = rule_15_number (sheet_form s) (sheet_sign s) 7 ours z.0 k z.1 in
@@ -244,10 +242,10 @@ module _ (s : List ℕ) (v : verdict_19_and_18 s ≡ Fine) where
     left_is : {v : Verdict} {b : Bool} → rule_15 (sheet_form s) (sheet_sign s) 7 ours ≡ v → some_crowded (sheet_form s) (sheet_sign s) runs ≡ b → Left ≡ then v (then (pick b (Broken 16 0) Fine) Fine)
     left_is p q = ap₂ (λ (u v : Verdict). then u (then v Fine)) (rule_15_is ∙ p) (rule_16_is ∙ ap (λ (b : Bool). pick b (Broken 16 0) Fine) q)
 
-    pub sound_unfit : {m mid : List ℕ} → rule_15 (sheet_form s) (sheet_sign s) 7 ours ≡ Fine → some_crowded (sheet_form s) (sheet_sign s) runs ≡ true → Builds s m (Stopped 16 0) mid
+    pub sound_unfit : {m mid : List ℕ} → rule_15 (sheet_form s) (sheet_sign s) 7 ours ≡ Fine → some_crowded (sheet_form s) (sheet_sign s) runs ≡ true → Builds s m (Refused 16 0) mid
     sound_unfit p q = builds_stopped s (past ∙ left_is p q)
 
-    pub sound_whole : {m mid : List ℕ} {form : Form} {g : Bool} {c : Cutting} {n : ℕ} → form ≡ sheet_form s → g ≡ sheet_sign s → c ≡ sheet_cut s → rule_15 (sheet_form s) (sheet_sign s) 7 ours ≡ Fine → some_crowded (sheet_form s) (sheet_sign s) runs ≡ false
+    pub sound_whole : {m mid : List ℕ} {form : Form} {g : Bool} {c : Option Cutting} {n : ℕ} → form ≡ sheet_form s → g ≡ sheet_sign s → c ≡ sheet_cut s → rule_15 (sheet_form s) (sheet_sign s) 7 ours ≡ Fine → some_crowded (sheet_form s) (sheet_sign s) runs ≡ false
         → Puts (message (spread (sheet_form s) (sheet_sign s) runs)) m 0 n mid → Builds s m (Whole form g c n) mid
     sound_whole {m} {mid} {form} {g} {c} {n} f i d p q a =
         let text : List ℕ = message (spread (sheet_form s) (sheet_sign s) runs) in
@@ -258,11 +256,11 @@ module _ (s : List ℕ) (v : verdict_19_and_18 s ≡ Fine) where
           fills = λ _ l. ap (λ (k : ℕ). take k mid) (sym z) ∙ put_front text a (omega (arith, z)) ∙ message_is;
         }
       where
-        told : Verdict → Build
+        told : Verdict → Result NewMessage Refusal
         told v = built_by v (sheet_form s) (sheet_sign s) (sheet_cut s) (length (message_for s))
 
     -- nothing is crowded, so nothing runs on
-    pub sound_put : {m mid : List ℕ} {r : Step} {form : Form} {g : Bool} {n : ℕ} → form ≡ sheet_form s → g ≡ sheet_sign s → r ≡ Put n → Put-in m r mid → Builds s m (Whole form g Nowhere n) mid
+    pub sound_put : {m mid : List ℕ} {r : Step} {form : Form} {g : Bool} {n : ℕ} → form ≡ sheet_form s → g ≡ sheet_sign s → r ≡ Put n → Put-in m r mid → Builds s m (Whole form g None n) mid
     sound_put {m} {mid} {r} {form} {g} {n} f i e a =
         let k = came_put (rule_15 (sheet_form s) (sheet_sign s) 7 ours) (some_crowded (sheet_form s) (sheet_sign s) ours) size n (sym e ∙ a.answers) in
         let y : runs ≡ ours = bare_kept (sheet_form s) (sheet_sign s) ours k.1 in
@@ -280,13 +278,13 @@ module _ (s : List ℕ) (v : verdict_19_and_18 s ≡ Fine) where
       texts_told = sym (ap₂ (λ (x : Form) (b : Bool). rule_15 x b 7 ours) f i) ∙ p
 
       -- and not cut: 16
-      pub uncut_unfit : {m mid : List ℕ} → cut_in form g ours ≡ Nowhere → some_crowded form g ours ≡ true → Builds s m (Stopped 16 0) mid
+      pub uncut_unfit : {m mid : List ℕ} → cut_in form g ours ≡ None → some_crowded form g ours ≡ true → Builds s m (Refused 16 0) mid
       uncut_unfit c q =
           sound_unfit texts_told
           (sym (ap₂ (λ (x : Form) (b : Bool). some_crowded x b (run_on x b ours)) f i) ∙ ap (some_crowded form g) (nowhere_kept form g ours c) ∙ q)
 
       -- or cut
-      pub cut_whole : {m mid : List ℕ} {c : Cutting} {n : ℕ} → c ≡ cut_in form g ours → some_crowded form g (run_on form g ours) ≡ false → Puts (message (spread form g (run_on form g ours))) m 0 n mid → Builds s m (Whole form g c n) mid
+      pub cut_whole : {m mid : List ℕ} {c : Option Cutting} {n : ℕ} → c ≡ cut_in form g ours → some_crowded form g (run_on form g ours) ≡ false → Puts (message (spread form g (run_on form g ours))) m 0 n mid → Builds s m (Whole form g c n) mid
       cut_whole c q a =
           sound_whole f i (c ∙ ap₂ (λ (x : Form) (b : Bool). cut_in x b ours) f i ∙ cut_is) texts_told (sym (ap₂ (λ (x : Form) (b : Bool). some_crowded x b (run_on x b ours)) f i) ∙ q)
           (puts_by (ap₂ (λ (x : Form) (b : Bool). message (spread x b (run_on x b ours))) f i) a)
@@ -302,14 +300,14 @@ module _ (s : List ℕ) (v : verdict_19_and_18 s ≡ Fine) where
         abbrev pub Known : ℕ → ℕ → ℕ → Bool → Type 0
         Known start place end new = CutKnown s g w seven_within lines_103 texts_103 ours_writable start place end new
 
-        module _ {c : Cutting} (q : c ≡ cut_for g ours) where
+        module _ {c : Option Cutting} (q : c ≡ cut_for g ours) where
           pub cut_103 : {start place end : ℕ} {new : Bool} → c ≡ At start place end new → Known start place end new
           cut_103 e = cut_known s g w seven_within lines_103 texts_103 ours_writable (sym q ∙ e)
 
           cut_told : c ≡ cut_in form g ours
           cut_told = q ∙ ap (λ (x : Form). cut_in x g ours) (sym t)
 
-          pub unfit_103 : {m mid : List ℕ} → c ≡ Nowhere → some_crowded form g ours ≡ true → Builds s m (Stopped 16 0) mid
+          pub unfit_103 : {m mid : List ℕ} → c ≡ None → some_crowded form g ours ≡ true → Builds s m (Refused 16 0) mid
           unfit_103 e k = uncut_unfit (sym cut_told ∙ e) k
 
           pub whole_103 : {start place end : ℕ} {new : Bool} → Known start place end new → {m mid : List ℕ} {n : ℕ}
@@ -319,16 +317,16 @@ module _ (s : List ℕ) (v : verdict_19_and_18 s ≡ Fine) where
               (puts_by (ap (λ (rs : List Record). message (spread Mt103 g rs)) k.known.runs ∙ ap (λ (x : Form). message (spread x g (run_on x g ours))) (sym t)) a)
 
 -- ---- a sheet that is refused
-pub too_long_sheet : (s : List ℕ) {out after : List ℕ} → limit < length s → Builds s out (Stopped 1 limit) after
+pub too_long_sheet : (s : List ℕ) {out after : List ℕ} → limit < length s → Builds s out (Refused 1 limit) after
 too_long_sheet s h = builds_stopped s (rw (is_long limit s h))
 
-pub bad_sheet : (s : List ℕ) {out after : List ℕ} {n p : ℕ} → length s ≤ limit → verdict_19_and_18 s ≡ Broken n p → Builds s out (Stopped n p) after
+pub bad_sheet : (s : List ℕ) {out after : List ℕ} {n p : ℕ} → length s ≤ limit → verdict_19_and_18 s ≡ Broken n p → Builds s out (Refused n p) after
 unfolding verdict_19_and_18
 bad_sheet s {n = n} {p = p} l e = builds_stopped s (go (rule_19 s) (rule_18 (sheet_form s)) refl refl e)
   where
     go : (v w : Verdict) → rule_19 s ≡ v → rule_18 (sheet_form s) ≡ w → then v (then w Fine) ≡ Broken n p → first (sheet_rules s) ≡ Broken n p
-    go (Broken m q) w a b e = rw (not_long limit s l, a) e
-    go Fine (Broken m q) a b e = rw (not_long limit s l, a, b) e
+    go (Err r) w a b e = rw (not_long limit s l, a) e
+    go Fine (Err r) a b e = rw (not_long limit s l, a, b) e
     go Fine Fine a b e = absurd (fine_broken n p e)
 
 -- ---- what a judged sheet says
@@ -346,24 +344,28 @@ module _ (s : List ℕ) {j : Judged} (e : j ≡ judged s) where
   sign_is = ap (λ (x : Judged). x.sign) e
 
 -- ---- back from what was built
-stopped_whole : {n p k : ℕ} {form : Form} {g : Bool} {c : Cutting} → Stopped n p ≡ Whole form g c k → ⊥
+stopped_whole : {n p k : ℕ} {form : Form} {g : Bool} {c : Option Cutting} → Refused n p ≡ Whole form g c k → ⊥
 stopped_whole e = let z : ◌≡◌ {A = ℕ} 0 1 = cc in omega arith
 
-module _ (s : List ℕ) {out after : List ℕ} {r : Build} (a : Builds s out r after) where
-  pub built_stopped : {n p : ℕ} → r ≡ Stopped n p → first (sheet_rules s) ≡ Broken n p
+module _ (s : List ℕ) {out after : List ℕ} {r : Result NewMessage Refusal} (a : Builds s out r after) where
+  pub built_stopped : {n p : ℕ} → r ≡ Refused n p → first (sheet_rules s) ≡ Broken n p
   built_stopped {n} {p} e = go (first (sheet_rules s)) refl (sym e ∙ a.answers)
     where
-      go : (v : Verdict) → first (sheet_rules s) ≡ v → Stopped n p ≡ built_by v (sheet_form s) (sheet_sign s) (sheet_cut s) (length (message_for s)) → first (sheet_rules s) ≡ Broken n p
+      go : (v : Verdict) → first (sheet_rules s) ≡ v → Refused n p ≡ built_by v (sheet_form s) (sheet_sign s) (sheet_cut s) (length (message_for s)) → first (sheet_rules s) ≡ Broken n p
       go Fine f e = absurd (stopped_whole e)
-      go (Broken m q) f e = f ∙ cc
+      go (Err r) f e = f ∙ as_broken e
 
-  module _ {form : Form} {g : Bool} {c : Cutting} {n : ℕ} (e : r ≡ Whole form g c n) where
+  module _ {form : Form} {g : Bool} {c : Option Cutting} {n : ℕ} (e : r ≡ Whole form g c n) where
     told_whole : Told s form g c × (n ≡ length (message_for s))
     told_whole = go (first (sheet_rules s)) refl (sym e ∙ a.answers)
       where
         go : (v : Verdict) → first (sheet_rules s) ≡ v → Whole form g c n ≡ built_by v (sheet_form s) (sheet_sign s) (sheet_cut s) (length (message_for s)) → Told s form g c × (n ≡ length (message_for s))
-        go Fine f e = (record { clean = f; type = cc; sign = cc; cut = cc }, cc)
-        go (Broken m q) f e = absurd (stopped_whole (sym e))
+        go Fine f e =
+            let z : ◌≡◌ {A = NewMessage} (record { form = form; sign = g; cutting = c; size = n }) (record { form = sheet_form s; sign = sheet_sign s; cutting = sheet_cut s; size = length (message_for s) }) = cc in (
+              record { clean = f; type = ap (λ (b : NewMessage). b.form) z; sign = ap (λ (b : NewMessage). b.sign) z; cut = ap (λ (b : NewMessage). b.cutting) z },
+              ap (λ (b : NewMessage). b.size) z,
+            )
+        go (Err r) f e = absurd (stopped_whole (sym e))
 
     pub built_whole : Told s form g c
     built_whole = told_whole.0

@@ -5,12 +5,12 @@ use mathlib.Core.Bool.{Bool}
 use mathlib.Core.List.{List, [], ◌∷◌, ◌++◌}
 use native.Mathlib.Omega.{arith}
 use lib.ListN.{length, take}
+use Rattle.writer.specs.declared.NewMessage.{NewMessage}
+use Rattle.base.specs.declared.Refusal.{Refusal}
+use Rattle.std.specs.Prelude.{Option, Result}
 use Rattle.base.specs.Rules.{then, first}
 use Rattle.base.specs.Calls.{short, over, Gives}
-use Rattle.base.specs.declared.Verdict.{Verdict}
-use Rattle.base.specs.declared.Verdict.TheVariants.{Fine, Broken}
-use Rattle.base.specs.declared.Outcome.{Outcome}
-use Rattle.base.specs.declared.Outcome.TheVariants.{Done, Refused}
+use Rattle.base.specs.Verdicts.{Verdict, Fine, Broken, Outcome, Done, Refused}
 use Rattle.base.proofs.RuleLaws.{then_fine, first_append, first_clean}
 use Rattle.base.proofs.CallLaws.{is_long, is_short, not_short, gives_refused, gives_done, gives_on}
 use Rattle.fields.specs.Frame.{limit, rule_1}
@@ -19,7 +19,6 @@ use Rattle.types.specs.Walk.{rule_18}
 use Rattle.message.specs.Message.{verdict_of}
 use Rattle.records.specs.Rule19.{sheet_form}
 use Rattle.writer.specs.Sheet.{message_for, sheet_rules, hand_rules, MessageTo, DraftTo}
-use Rattle.writer.specs.declared.Build.{Build}
 use Rattle.writer.specs.declared.Cutting.{Cutting}
 use Rattle.writer.specs.Steps.{Hands}
 use Rattle.writer.specs.Runs.{Builds, Told}
@@ -44,7 +43,7 @@ module _ (s out : List ℕ) {n p : ℕ} (q : first (sheet_rules s) ≡ Broken n 
   draft_refused = refused_first (short (message_for s) out ∷ [])
 
 -- ---- the message is built
-module _ (s : List ℕ) {form : Form} {g : Bool} {c : Cutting} {n : ℕ} (b : Told s form g c) (size : n ≡ length (message_for s)) where
+module _ (s : List ℕ) {form : Form} {g : Bool} {c : Option Cutting} {n : ℕ} (b : Told s form g c) (size : n ≡ length (message_for s)) where
   handed : {out after : List ℕ} {q : Outcome} → Hands (sheet_form s) (message_for s) out q after → MessageTo s out q after
   unfolding MessageTo
   handed {out} h = gives_on (sheet_rules s) (hand_rules (sheet_form s) (message_for s) out) b.clean h
@@ -58,7 +57,7 @@ module _ (s : List ℕ) {form : Form} {g : Bool} {c : Cutting} {n : ℕ} (b : To
       handed (hand_refused (sheet_form s) (message_for s) out (omega (arith, size)) (long_verdict (sheet_form s) (message_for s) e (omega (arith, size))))
 
   -- it stands at the front of its room
-  module _ {m mid : List ℕ} {r : Build} (a : Builds s m r mid) (l : n ≤ length m) where
+  module _ {m mid : List ℕ} {r : Result NewMessage Refusal} (a : Builds s m r mid) (l : n ≤ length m) where
     pub message_handed : {out after : List ℕ} {q : Outcome} → Hands form (take n mid) out q after → MessageTo s out q after
     message_handed {out} {after} {q} h =
         let t : take n mid ≡ message_for s = ap (λ (i : ℕ). take i mid) size ∙ a.fills b.clean (omega (arith, size)) in

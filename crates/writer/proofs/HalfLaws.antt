@@ -9,13 +9,15 @@ use lib.Dec.{eqb, leb}
 use lib.ListN.{length, take, drop, length-append, length-take, length-drop, take-append-drop}
 use lib.Seq.{take-append-add, drop-append-add, take-take, drop-drop}
 use borrow.Author.Tests.{eqb-true, ne_eqb, leb-true}
+use Rattle.writer.specs.declared.Cutting.{Cutting}
+use Rattle.writer.specs.Comes.{At}
+use Rattle.std.specs.Prelude.{Err, None}
 use Rattle.base.specs.Choice.{pick, all}
 use Rattle.base.specs.Bytes.{digit, same, empty, other, without, count_up_to}
 use Rattle.base.specs.Examples.{AllHold}
 use Rattle.base.specs.Rules.{then}
 use Rattle.base.specs.Calls.{Answer, said}
-use Rattle.base.specs.declared.Verdict.{Verdict}
-use Rattle.base.specs.declared.Verdict.TheVariants.{Fine, Broken}
+use Rattle.base.specs.Verdicts.{Verdict, Fine}
 use Rattle.base.proofs.Bools.{left, right, both, all_front}
 use Rattle.base.proofs.ByteLaws.{same_is, is_filled, drop_take}
 use Rattle.base.proofs.RuleLaws.{fine_broken, then_clean}
@@ -50,7 +52,6 @@ use Rattle.writer.specs.Sheet.{stopped_at, unsaid, rule_15, some_crowded}
 use Rattle.writer.specs.Steps.{record_stops, record_crowded, records_at}
 use Rattle.writer.specs.Holder.{start_70, is_cut}
 use Rattle.writer.specs.Runs.{note_for, cut_places, cut_for, one_in, Halves, Here}
-use Rattle.writer.specs.declared.Cutting.TheVariants.{Nowhere, At}
 use Rattle.writer.proofs.StepLaws.{moved_by}
 use Rattle.writer.proofs.PurposeLaws.{said_digits, digits_long}
 use Rattle.writer.proofs.PutLaws.{rule_15_cons}
@@ -70,7 +71,7 @@ one_all P u (field t ps ∷ rs) h n = go (same t u) refl n (one_all P u rs (righ
 -- each record can be written where 15 lets all pass
 moved_fine : (o : ℕ) (v : Verdict) → moved_by o v ≡ Fine → v ≡ Fine
 moved_fine o Fine e = refl
-moved_fine o (Broken n p) e = absurd (fine_broken n (o + p) (sym e))
+moved_fine o (Err r) e = absurd (fine_broken r.number (o + r.place) (sym e))
 
 pub texts_fine : (form : Form) (s : Bool) (o : ℕ) (r : Record) (rs : List Record) → rule_15 form s o (r ∷ rs) ≡ Fine → (record_stops form s r ≡ Fine) × (rule_15 form s (next_record o r) rs ≡ Fine)
 texts_fine form s o r rs e = let z = then_clean (moved_by o (record_stops form s r)) (rule_15 form s (next_record o r) rs) (rule_15_cons form s o r rs ∙ e) in (moved_fine o (record_stops form s r) z.0, z.1)
@@ -301,7 +302,7 @@ module _ (s : List ℕ) (g : Bool) (w : length s ≤ limit) (h : 7 ≤ length s)
     at_bare = ap (λ (r : Run). some_crowded Mt103 g (cut_by r ours)) e ∙ cut_16 g ours plain_ours one_70 few_72 k run_comes
 
   -- by the places that were found
-  nowhere_not : {start place end : ℕ} {new : Bool} → Nowhere ≡ At start place end new → ⊥
+  nowhere_not : {start place end : ℕ} {new : Bool} → None ≡ At start place end new → ⊥
   nowhere_not e = let z : ◌≡◌ {A = ℕ} 0 1 = cc in omega arith
 
   pub record CutKnown (start place end : ℕ) (new : Bool) : Type 0 where
@@ -319,10 +320,11 @@ module _ (s : List ℕ) (g : Bool) (w : length s ≤ limit) (h : 7 ≤ length s)
       go run.Whole e f = absurd (nowhere_not f)
       go run.Unfit e f = absurd (nowhere_not f)
       go (run.Cut k) e f =
-          let p : start_70 7 ours ≡ start = cc in
-          let q : start_70 7 ours + 9 + k ≡ place = cc in
-          let u : start_70 7 ours + 9 + length (text_in ours) ≡ end = cc in
-          let v : eqb (how_many tag_72 ours) 0 ≡ new = cc in
+          let z : ◌≡◌ {A = Cutting} (record { start = start_70 7 ours; cut = start_70 7 ours + 9 + k; end = start_70 7 ours + 9 + length (text_in ours); new = eqb (how_many tag_72 ours) 0 }) (record { start = start; cut = place; end = end; new = new }) = cc in
+          let p : start_70 7 ours ≡ start = ap (λ (c : Cutting). c.start) z in
+          let q : start_70 7 ours + 9 + k ≡ place = ap (λ (c : Cutting). c.cut) z in
+          let u : start_70 7 ours + 9 + length (text_in ours) ≡ end = ap (λ (c : Cutting). c.end) z in
+          let v : eqb (how_many tag_72 ours) 0 ≡ new = ap (λ (c : Cutting). c.new) z in
           record {
             known = subst (λ (x : ℕ). CutAt x place end new) p (subst (λ (x : ℕ). CutAt (start_70 7 ours) x end new) q (subst (λ (x : ℕ). CutAt (start_70 7 ours) (start_70 7 ours + 9 + k) x new) u (subst (CutAt (start_70 7 ours) (start_70 7 ours + 9 + k) (start_70 7 ours + 9 + length (text_in ours))) v (at_places k e))));
             bare = at_bare k e;

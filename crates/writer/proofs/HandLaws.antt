@@ -8,9 +8,7 @@ use lib.ListN.{length}
 use Rattle.types.specs.declared.Form.{Form}
 use Rattle.base.specs.Rules.{then}
 use Rattle.base.specs.Calls.{placed}
-use Rattle.base.specs.declared.Verdict.{Verdict}
-use Rattle.base.specs.declared.Verdict.TheVariants.{Fine, Broken}
-use Rattle.base.specs.declared.Outcome.TheVariants.{Done, Refused}
+use Rattle.base.specs.Verdicts.{Verdict, Fine, Broken, Done, Refused}
 use Rattle.base.proofs.Room.{over_sets, placed_fits}
 use Rattle.base.proofs.CallLaws.{gives_refused, gives_done, gives_past, is_short, not_short}
 use Rattle.message.specs.Message.{verdict_of}

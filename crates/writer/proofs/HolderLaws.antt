@@ -6,12 +6,13 @@ use mathlib.Core.Bool.{Bool, true, false, ◌||◌, true≢false}
 use mathlib.Core.List.{List, [], ◌∷◌}
 use native.Mathlib.Omega.{arith}
 use lib.ListN.{length, take, drop}
+use Rattle.writer.specs.Comes.{Step, Put, At}
+use Rattle.std.specs.Prelude.{Option, None, Some}
 use Rattle.base.specs.Choice.{pick}
 use Rattle.base.specs.Bytes.{count_up_to}
 use Rattle.base.specs.Rules.{first}
 use Rattle.base.specs.Calls.{over, Puts}
-use Rattle.base.specs.declared.Verdict.{Verdict}
-use Rattle.base.specs.declared.Verdict.TheVariants.{Fine, Broken}
+use Rattle.base.specs.Verdicts.{Verdict, Fine, Broken}
 use Rattle.base.proofs.RuleLaws.{first_clean}
 use Rattle.base.proofs.Room.{over_sets, puts_by}
 use Rattle.base.proofs.CallLaws.{within_limit}
@@ -32,11 +33,6 @@ use Rattle.writer.specs.Sheet.{rule_15, some_crowded, fields_of, message_for, sh
 use Rattle.writer.specs.Holder.{lies_in, holder_in, sources, start_70, has_new, behind_first, unless_refused, holder_of}
 use Rattle.writer.specs.Runs.{cut_in, one_in, Told}
 use Rattle.writer.specs.declared.Cutting.{Cutting}
-use Rattle.writer.specs.declared.Cutting.TheVariants.{Nowhere, At}
-use Rattle.writer.specs.declared.holder.Holder.{Holder}
-use Rattle.writer.specs.declared.holder.Holder.TheVariants as holder
-use Rattle.writer.specs.declared.Step.{Step}
-use Rattle.writer.specs.declared.Step.TheVariants.{Put}
 use Rattle.writer.specs.Steps.{Adds, came, record_stops, record_crowded, records_at}
 use Rattle.writer.proofs.StepLaws.{came_put}
 use Rattle.writer.proofs.PutLaws.{ended, crowded_cons}
@@ -87,28 +83,28 @@ module _ (form : Form) (g : Bool) (s : List ℕ) (i e : ℕ) (h : i ≤ length s
           let z = (came_put (record_stops form g this) (record_crowded form g this) (o + length (with_cr_lf (lined (field_for form g this)))) m (sym k ∙ a.answers)).2 in
           omega (arith, z, crlf_size (lined (field_for form g this)))
 
-      by_test : (p : ℕ) (c : Bool) → lies_in p o m ≡ c → holder_in p o (starts_of i (records_at s i)) (spread form g (records_at s i)) ≡ pick c (holder.Record i) (holder_in p m (starts_of (e + 1) behind) (spread form g behind))
+      by_test : (p : ℕ) (c : Bool) → lies_in p o m ≡ c → holder_in p o (starts_of i (records_at s i)) (spread form g (records_at s i)) ≡ pick c (Some i) (holder_in p m (starts_of (e + 1) behind) (spread form g behind))
       unfolding holder_in spread
       by_test p c t =
           ap (λ (rs : List Record). holder_in p o (starts_of i rs) (spread form g rs)) list
-          ∙ ap₂ (λ (x y : ℕ). pick (lies_in p o x) (holder.Record i) (holder_in p x (starts_of y behind) (spread form g behind))) (sym next_is) (next_at s i e h q)
-          ∙ ap (λ (x : Bool). pick x (holder.Record i) (holder_in p m (starts_of (e + 1) behind) (spread form g behind))) t
+          ∙ ap₂ (λ (x y : ℕ). pick (lies_in p o x) (Some i) (holder_in p x (starts_of y behind) (spread form g behind))) (sym next_is) (next_at s i e h q)
+          ∙ ap (λ (x : Bool). pick x (Some i) (holder_in p m (starts_of (e + 1) behind) (spread form g behind))) t
 
-      pub holder_hit : (p : ℕ) → lies_in p o m ≡ true → holder.Record i ≡ holder_in p o (starts_of i (records_at s i)) (spread form g (records_at s i))
+      pub holder_hit : (p : ℕ) → lies_in p o m ≡ true → Some i ≡ holder_in p o (starts_of i (records_at s i)) (spread form g (records_at s i))
       holder_hit p t = sym (by_test p true t)
 
       pub holder_miss : (p : ℕ) → lies_in p o m ≡ false → holder_in p o (starts_of i (records_at s i)) (spread form g (records_at s i)) ≡ holder_in p m (starts_of (e + 1) behind) (spread form g behind)
       holder_miss p t = by_test p false t
 
 -- no record is left
-pub holder_end : (form : Form) (g : Bool) (s : List ℕ) (i p o : ℕ) → i ≤ length s → length s ≤ i → holder_in p o (starts_of i (records_at s i)) (spread form g (records_at s i)) ≡ holder.Nothing
+pub holder_end : (form : Form) (g : Bool) (s : List ℕ) (i p o : ℕ) → i ≤ length s → length s ≤ i → holder_in p o (starts_of i (records_at s i)) (spread form g (records_at s i)) ≡ None
 unfolding holder_in spread
 holder_end form g s i p o h k =
     let z : i ≡ length s = omega arith in
     ap (λ (rs : List Record). holder_in p o (starts_of i rs) (spread form g rs)) (ap (records_at s) z ∙ front_end s)
 
 -- ---- the whole sheet: one that is refused has no holder
-pub holder_refused : (s : List ℕ) (p : ℕ) {n k : ℕ} → first (sheet_rules s) ≡ Broken n k → holder.Nothing ≡ holder_of s p
+pub holder_refused : (s : List ℕ) (p : ℕ) {n k : ℕ} → first (sheet_rules s) ≡ Broken n k → None ≡ holder_of s p
 unfolding holder_of
 holder_refused s p e = sym (ap (λ (v : Verdict). unless_refused v (holder_in p (length opening) (behind_first (sheet_form s) (sheet_sign s) (records s)) (fields_of s))) e)
 
@@ -118,7 +114,7 @@ plain_sources a i [] = refl
 plain_sources a i (r ∷ rs) = ap (λ (is : List ℕ). i ∷ is) (plain_sources a (next_record i r) rs)
 
 -- one that is not is gone over from its second record on
-module _ (s : List ℕ) {form : Form} {g : Bool} {c : Cutting} (b : Told s form g c) where
+module _ (s : List ℕ) {form : Form} {g : Bool} {c : Option Cutting} (b : Told s form g c) where
   pub built_within : length s ≤ limit
   built_within = within_limit limit s (sheet_rules_lem s (first_clean (sheet_rules s) b.clean)).size
 
@@ -155,7 +151,7 @@ module _ (s : List ℕ) {form : Form} {g : Bool} {c : Cutting} (b : Told s form 
       a.fills (omega arith) ∙ sym (over_sets (message (spread form g (run_on form g (records_at s 7)))) out (omega arith)) ∙ ap (λ (t : List ℕ). over t out) message_by
 
   -- nothing is cut
-  module _ (e : c ≡ Nowhere) where
+  module _ (e : c ≡ None) where
     kept : run_on form g (records_at s 7) ≡ records_at s 7
     kept = nowhere_kept form g (records_at s 7) (sym ours_cut ∙ e)
 
@@ -187,7 +183,7 @@ module _ (s : List ℕ) {form : Form} {g : Bool} {c : Cutting} (b : Told s form 
     pub built_lines : bad_sheet_line Mt103 g 7 (pieces_at 10 s 7) ≡ Fine
     built_lines = lines_103 s fine built_within b.type b.sign built_texts is_103
 
-    pub holder_run : (p : ℕ) {x : Holder} → x ≡ holder_in p 5 (sources new start 7 (records_at s 7)) (spread Mt103 g (run_as new (one_in (take (place - start) (drop start s))) (take (end - place) (drop place s)) (records_at s 7))) → x ≡ holder_of s p
+    pub holder_run : (p : ℕ) {x : Option ℕ} → x ≡ holder_in p 5 (sources new start 7 (records_at s 7)) (spread Mt103 g (run_as new (one_in (take (place - start) (drop start s))) (take (end - place) (drop place s)) (records_at s 7))) → x ≡ holder_of s p
     holder_run p q =
         let rs : List Record = records_at s 7 in
         let k = built_cut in

@@ -5,6 +5,7 @@ use mathlib.Core.Bool.{Bool, true, false}
 use mathlib.Core.List.{List, [], ◌∷◌, ◌++◌, append_assoc}
 use native.Mathlib.Omega.{arith}
 use lib.ListN.{length, take, drop}
+use Rattle.writer.specs.Comes.{Step, Put}
 use Rattle.base.specs.Choice.{pick}
 use Rattle.base.specs.Bytes.{empty, count_up_to}
 use Rattle.base.specs.Quoted.{bytes}
@@ -24,8 +25,6 @@ use Rattle.details.specs.Front.{rpp_line, note_field}
 use Rattle.writer.specs.Spread.{coded, cast_parts, details_lines, rpp_lines, note_lines}
 use Rattle.writer.specs.Sheet.{stopped_at, unsaid, crowded_details, crowded_note}
 use Rattle.writer.specs.Steps.{Adds, AddsDetails}
-use Rattle.writer.specs.declared.Step.{Step}
-use Rattle.writer.specs.declared.Step.TheVariants.{Put}
 use Rattle.writer.proofs.StepLaws.{adds_same, adds_by, adds_front, adds_then, adds_cut}
 use Rattle.writer.proofs.PurposeLaws.{some_within}
 use Rattle.writer.proofs.PartLaws.{plain_line}

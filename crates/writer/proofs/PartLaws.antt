@@ -5,12 +5,12 @@ use mathlib.Core.Bool.{Bool, true, false, not, ◌&&◌}
 use mathlib.Core.List.{List, [], ◌∷◌, ◌++◌, map, append_assoc}
 use native.Mathlib.Omega.{arith}
 use lib.ListN.{length, take, drop}
+use Rattle.writer.specs.Comes.{Step, Put}
 use Rattle.base.specs.Choice.{pick}
 use Rattle.base.specs.Bytes.{begins, count_up_to}
 use Rattle.base.specs.Rules.{then}
 use Rattle.base.specs.Calls.{Answer, said, stuck, text_of}
-use Rattle.base.specs.declared.Verdict.{Verdict}
-use Rattle.base.specs.declared.Verdict.TheVariants.{Fine}
+use Rattle.base.specs.Verdicts.{Verdict, Fine}
 use Rattle.base.proofs.RuleLaws.{fine_broken}
 use Rattle.alphabets.specs.Bank.{plainly}
 use Rattle.alphabets.specs.Best.{writing}
@@ -27,8 +27,6 @@ use Rattle.records.proofs.PieceLaws.{pieces_at_lem, past_end, end_within, piece_
 use Rattle.writer.specs.Spread.{said_part, line_for}
 use Rattle.writer.specs.Sheet.{stopped_at, unsaid}
 use Rattle.writer.specs.Steps.{Adds}
-use Rattle.writer.specs.declared.Step.{Step}
-use Rattle.writer.specs.declared.Step.TheVariants.{Put}
 use Rattle.writer.proofs.StepLaws.{adds_then, adds_none, adds_cut, adds_by, adds_same, Onward}
 
 -- ---- the parts as they are cast

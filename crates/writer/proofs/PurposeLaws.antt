@@ -10,12 +10,12 @@ use native.Mathlib.Nat.{zero-add}
 use lib.ListN.{length, take, drop, length-append, take-append-drop}
 use lib.Seq.{take-append_seam, length-take-le}
 use borrow.Author.Tests.{eqb-true}
+use Rattle.writer.specs.Comes.{Step, Put, Unfit}
 use Rattle.base.specs.Choice.{all}
 use Rattle.base.specs.Bytes.{digit, xset, count_up_to}
 use Rattle.base.specs.Rules.{then}
 use Rattle.base.specs.Calls.{Answer, said, text_of, over, placed, Puts}
-use Rattle.base.specs.declared.Verdict.{Verdict}
-use Rattle.base.specs.declared.Verdict.TheVariants.{Fine}
+use Rattle.base.specs.Verdicts.{Verdict, Fine}
 use Rattle.base.proofs.Bools.{left, right, all_imp}
 use Rattle.base.proofs.ByteLaws.{digit_set}
 use Rattle.base.proofs.RuleLaws.{then_fine}
@@ -35,17 +35,13 @@ use Rattle.details.specs.Layouts.{Layout, layout, divided, DivisionIn, later_byt
 use Rattle.details.specs.Layouts as layouts
 use Rattle.details.specs.declared.DetailsField.{DetailsField}
 use Rattle.details.specs.declared.DetailsField.TheVariants.{In70, In72, BehindRpp}
-use Rattle.details.specs.declared.Size.{Size}
-use Rattle.details.specs.declared.Size.TheVariants as size
-use Rattle.details.proofs.LayoutLaws.{bytes_not}
+use Rattle.std.specs.Prelude.{Option, Some, None}
 use Rattle.details.proofs.RoomLaws.{too_long, room_most}
 use Rattle.details.proofs.DivisionTheorems.{Fitted, fitted, laid_lines_lem}
 use Rattle.details.specs.Front.{code}
 use Rattle.runon.specs.Run.{bank_of, fits_in}
 use Rattle.writer.specs.Spread.{coded, laid_lines}
 use Rattle.writer.specs.Sheet.{stopped_at, unsaid}
-use Rattle.writer.specs.declared.Step.{Step}
-use Rattle.writer.specs.declared.Step.TheVariants.{Unfit, Put}
 use Rattle.writer.specs.Steps.{Adds, AddsLaid, AddsDetails}
 use Rattle.writer.proofs.StepLaws.{came_put, adds_by, adds_unfit, adds_put, adds_stop}
 
@@ -82,7 +78,7 @@ field_laid In72 d = omega (arith, division_laid (layout In72) d)
 field_laid BehindRpp d = omega (arith, division_laid (layout BehindRpp) d)
 
 -- ---- lines and the CR LF behind the last
-module _ (p : DetailsField) (least : ℕ) (text : List ℕ) (n : ℕ) (e : size.Bytes n ≡ size_for p least text) where
+module _ (p : DetailsField) (least : ℕ) (text : List ℕ) (n : ℕ) (e : Some n ≡ size_for p least text) where
   fit : Fitted p least text n
   fit = fitted p least text n (sym e)
 
@@ -103,21 +99,21 @@ module _ (p : DetailsField) (least : ℕ) (text : List ℕ) (n : ℕ) (e : size.
   pub lines_few : length (with_cr_lf (lines_for p least text)) ≤ 250
   lines_few = omega (arith, laid_few, fit.long, ap length laid_whole, length-append (laid_for p least text) (13 ∷ 10 ∷ []))
 
-  pub lines_put : {out mid after : List ℕ} {at r : ℕ} → Lays p least text out at r mid → after ≡ placed mid (at + n) (13 ∷ 10 ∷ []) → Adds Fine (is_unfit (size_for p least text)) (with_cr_lf (lines_for p least text)) out at (Put (at + n + 2)) after
+  pub lines_put : {out mid after : List ℕ} {at : ℕ} {r : Option ℕ} → Lays p least text out at r mid → after ≡ placed mid (at + n) (13 ∷ 10 ∷ []) → Adds Fine (is_unfit (size_for p least text)) (with_cr_lf (lines_for p least text)) out at (Put (at + n + 2)) after
   lines_put {at = at} l f =
       adds_put refl (sym (ap is_unfit e))
       (puts_by laid_whole
       (puts_on (laid_for p least text) (13 ∷ 10 ∷ []) (puts_put {u = laid_for p least text} (ap (λ (k : ℕ). at + k) fit.long) l.leaves) (puts_put {u = 13 ∷ 10 ∷ []} refl f)))
 
-pub unfit_lines : (p : DetailsField) (least : ℕ) (text : List ℕ) → size_for p least text ≡ size.Unfit → lines_for p least text ≡ []
+pub unfit_lines : (p : DetailsField) (least : ℕ) (text : List ℕ) → size_for p least text ≡ None → lines_for p least text ≡ []
 unfolding size_for lines_for
 unfit_lines p least text e = go (divided (layout p) least text) e
   where
-    go : (d : Fit (List (List ℕ))) → layouts.fit_size (layout p) d ≡ size.Unfit → layouts.marked (layout p) (fit_lines d) ≡ []
-    go (fits ls) e = absurd (bytes_not e)
+    go : (d : Fit (List (List ℕ))) → layouts.fit_size (layout p) d ≡ None → layouts.marked (layout p) (fit_lines d) ≡ []
+    go (fits ls) e = cc
     go unfit e = refl
 
-pub lines_unfit : (p : DetailsField) (least : ℕ) (text out : List ℕ) (at : ℕ) → size.Unfit ≡ size_for p least text → Adds Fine (is_unfit (size_for p least text)) (with_cr_lf (lines_for p least text)) out at Unfit out
+pub lines_unfit : (p : DetailsField) (least : ℕ) (text out : List ℕ) (at : ℕ) → None ≡ size_for p least text → Adds Fine (is_unfit (size_for p least text)) (with_cr_lf (lines_for p least text)) out at Unfit out
 lines_unfit p least text out at e = adds_unfit refl (sym (ap is_unfit e))
 
 -- ---- a text behind its front, in a room of their own
@@ -154,7 +150,7 @@ module _ (s : Bool) (p : DetailsField) (o : ℕ) (text : List ℕ) {line last : 
     whole_is m = put_front whole (puts_on front (bank_of s text) front_put (record { answers = known.2; fills = a.fills known.0 refl })) m
 
     pub laid_over : (out : List ℕ) (at : ℕ) → 250 < n → AddsLaid s p o front text out at Unfit out
-    laid_over out at m = adds_unfit known.0 (ap (λ (z : Size). not (not (is_unfit z))) (too_long p (length front) whole (omega (arith, whole_long, room_most p))))
+    laid_over out at m = adds_unfit known.0 (ap (λ (z : Option ℕ). not (not (is_unfit z))) (too_long p (length front) whole (omega (arith, whole_long, room_most p))))
 
     pub laid_put : {out after : List ℕ} {at : ℕ} {r : Step} → n ≤ length line
         → Adds Fine (is_unfit (size_for p k (take n last))) (with_cr_lf (lines_for p k (take n last))) out at r after → AddsLaid s p o front text out at r after

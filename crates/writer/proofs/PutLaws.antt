@@ -7,6 +7,8 @@ use native.Mathlib.Omega.{arith}
 use native.Mathlib.Decide.{dec_lt}
 use types.Run.{OneOf}
 use denote.Enum.Declared.{tag_of}
+use Rattle.writer.specs.Comes.{Step, Stuck}
+use Rattle.std.specs.Prelude.{Err}
 use Rattle.types.specs.declared.Form.{Form}
 use Rattle.roles.specs.contracts.Shape.{the_type}
 use Rattle.roles.proofs.PartLaws.{each_lined}
@@ -18,8 +20,7 @@ use Rattle.base.specs.Choice.{pick}
 use Rattle.base.specs.Bytes.{begins, empty, count_up_to}
 use Rattle.base.specs.Rules.{then}
 use Rattle.base.specs.Calls.{Answer, said, stuck, Puts}
-use Rattle.base.specs.declared.Verdict.{Verdict}
-use Rattle.base.specs.declared.Verdict.TheVariants.{Fine, Broken}
+use Rattle.base.specs.Verdicts.{Verdict, Fine, Broken}
 use Rattle.base.proofs.Bools.{left, right, isnt}
 use Rattle.base.proofs.RuleLaws.{fine_broken, then_fine}
 use Rattle.alphabets.specs.Bank.{plainly}
@@ -48,15 +49,13 @@ use Rattle.details.specs.Layouts.{layout, lines_for, divided, marked, size_for, 
 use Rattle.details.specs.Layouts as layouts
 use Rattle.details.specs.declared.DetailsField.{DetailsField}
 use Rattle.details.specs.declared.DetailsField.TheVariants.{In70}
-use Rattle.details.specs.declared.Size.{Size}
-use Rattle.details.specs.declared.Size.TheVariants as size
+use Rattle.std.specs.declared.option.Option.{Option}
+use Rattle.std.specs.declared.option.Option.TheVariants as option
 use Rattle.details.proofs.DivisionTheorems.{fitted}
 use Rattle.details.specs.Front.{code, rpp_line, note_field}
 use Rattle.runon.specs.Run.{bank_of, fits_in}
 use Rattle.writer.specs.Spread.{said_part, cast_parts, line_for, laid_lines, details_lines, rpp_lines, note_lines, content_lines, field_for, spread}
 use Rattle.writer.specs.Sheet.{stopped_at, unsaid, rule_15, crowded_details, crowded_note, crowded, some_crowded}
-use Rattle.writer.specs.declared.Step.{Step}
-use Rattle.writer.specs.declared.Step.TheVariants.{Stuck}
 use Rattle.roles.specs.Parts.{cast_by, first_role}
 use Rattle.roles.specs.declared.Role.{Role}
 use Rattle.writer.specs.Steps.{Adds, AddsDetails, record_stops, record_crowded, records_at}
@@ -116,36 +115,36 @@ unfolding sound
 sound_note s ps e g = sound_as s ps Note202 e g
 
 -- ---- a right record has a line
-pub record Some (ls : List (List ℕ)) : Type 0 where
+pub record HasLine (ls : List (List ℕ)) : Type 0 where
   pub one : List ℕ
   pub more : List (List ℕ)
   pub is : ls ≡ one ∷ more
 
-pub some_behind : (ks ls : List (List ℕ)) → Some ls → Some (ks ++ ls)
+pub some_behind : (ks ls : List (List ℕ)) → HasLine ls → HasLine (ks ++ ls)
 some_behind [] ls h = h
 some_behind (k ∷ ks) ls h = record { one = k; more = ks ++ ls; is = refl }
 
-some_details : (p : DetailsField) (least : ℕ) (text : List ℕ) → is_unfit (size_for p least text) ≡ false → Some (lines_for p least text)
+some_details : (p : DetailsField) (least : ℕ) (text : List ℕ) → is_unfit (size_for p least text) ≡ false → HasLine (lines_for p least text)
 unfolding lines_for
 some_details p least text e = go (size_for p least text) refl e
   where
-    by : {ok : ℕ → Bool} {ws : List ℕ} {ls : List (List ℕ)} → Division ok least text ws ls → Some (marked (layout p) ls)
+    by : {ok : ℕ → Bool} {ws : List ℕ} {ls : List (List ℕ)} → Division ok least text ws ls → HasLine (marked (layout p) ls)
     by (lines {l = l} {ls = ls} a b h m e) = record { one = (layout p).mark ++ l; more = map (λ (k : List ℕ). (layout p).next ++ k) ls; is = refl }
 
-    go : (z : Size) → size_for p least text ≡ z → is_unfit z ≡ false → Some (marked (layout p) (layouts.fit_lines (divided (layout p) least text)))
-    go size.Unfit f g = absurd (true≢false g)
-    go (size.Bytes n) f g = let w = fitted p least text n f in subst (λ (a : Fit (List (List ℕ))). Some (marked (layout p) (layouts.fit_lines a))) (sym w.is) (by w.division)
+    go : (z : Option ℕ) → size_for p least text ≡ z → is_unfit z ≡ false → HasLine (marked (layout p) (layouts.fit_lines (divided (layout p) least text)))
+    go option.None f g = absurd (true≢false g)
+    go (option.Some n) f g = let w = fitted p least text n f in subst (λ (a : Fit (List (List ℕ))). HasLine (marked (layout p) (layouts.fit_lines a))) (sym w.is) (by w.division)
 
-pub some_laid : (s : Bool) (p : DetailsField) (front text : List ℕ) → not (fits_in s p front text) ≡ false → Some (laid_lines s p front text)
+pub some_laid : (s : Bool) (p : DetailsField) (front text : List ℕ) → not (fits_in s p front text) ≡ false → HasLine (laid_lines s p front text)
 some_laid s p front text c = some_details p (length front) (front ++ bank_of s text) (sym (twice_not (is_unfit (size_for p (length front) (front ++ bank_of s text)))) ∙ c)
 
-content_some : (s : Bool) (sh : Shape) (ps : List (List ℕ)) → RightParts s sh ps → crowded s sh ps ≡ false → Some (content_lines s sh ps)
+content_some : (s : Bool) (sh : Shape) (ps : List (List ℕ)) → RightParts s sh ps → crowded s sh ps ≡ false → HasLine (content_lines s sh ps)
 unfolding crowded content_lines cast
 content_some s _ _ (plain p ps e g) c = record { one = p; more = map (line_for s) (map copy ps); is = refl }
 content_some s _ _ (agent p ps e g) c = record { one = p; more = map (line_for s) (map name ps); is = refl }
 content_some s _ _ (payer p ps e g f) c = go (begins 47 p)
   where
-    go : (b : Bool) → Some (map (line_for s) (pick b (copy p ∷ taxed ps) (taxed (p ∷ ps))))
+    go : (b : Bool) → HasLine (map (line_for s) (pick b (copy p ∷ taxed ps) (taxed (p ∷ ps))))
     go true = record { one = p; more = map (line_for s) (taxed ps); is = refl }
     go false = record { one = line_for s (pick (looks_tax p) (copy p) (tax_name p)); more = map (line_for s) (map name ps); is = refl }
 content_some s _ _ (payee p ps e g f) c = record { one = line_for s (pick (begins 47 p) (copy p) (name p)); more = map (line_for s) (taxed ps); is = refl }
@@ -155,7 +154,7 @@ content_some s _ _ (note_202 rpp vo text e g) c =
     some_behind (rpp_lines rpp) (laid_lines s (note_field rpp) (code s vo) text) (some_laid s (note_field rpp) (code s vo) text c)
 
 -- the field's tag before its lines
-pub lined_some : (t : List ℕ) (ls : List (List ℕ)) → Some ls → (58 ∷ t ++ 58 ∷ []) ++ with_cr_lf ls ≡ with_cr_lf (lined (field t ls))
+pub lined_some : (t : List ℕ) (ls : List (List ℕ)) → HasLine ls → (58 ∷ t ++ 58 ∷ []) ++ with_cr_lf ls ≡ with_cr_lf (lined (field t ls))
 lined_some t ls h = subst (λ (ks : List (List ℕ)). (58 ∷ t ++ 58 ∷ []) ++ with_cr_lf ks ≡ with_cr_lf (lined (field t ks))) (sym h.is) (go h.one h.more)
   where
     go : (x : List ℕ) (xs : List (List ℕ)) → (58 ∷ t ++ 58 ∷ []) ++ (x ++ 13 ∷ 10 ∷ with_cr_lf xs) ≡ (58 ∷ t ++ 58 ∷ x) ++ 13 ∷ 10 ∷ with_cr_lf xs
@@ -201,7 +200,7 @@ module _ (form : Form) (s : Bool) (l : List ℕ) (t : ℕ) (q : t ≡ 0 + count_
 -- ---- records one behind another
 moved_then : (o : ℕ) (v w : Verdict) → moved_by o (then v w) ≡ then (moved_by o v) (moved_by o w)
 moved_then o Fine w = refl
-moved_then o (Broken n p) w = refl
+moved_then o (Err r) w = refl
 
 moved_stopped : (o k : ℕ) (c : Part) (s : Bool) → moved_by o (stopped_at k (said_part s c)) ≡ stopped_at (o + k) (said_part s c)
 moved_stopped o k c s = go (said_part s c)

@@ -6,8 +6,7 @@ use mathlib.Core.List.{List}
 use Rattle.base.specs.Examples.{AllHold}
 use Rattle.base.specs.Rules.{then, first, Clean}
 use Rattle.base.specs.Calls.{short}
-use Rattle.base.specs.declared.Verdict.{Verdict}
-use Rattle.base.specs.declared.Verdict.TheVariants.{Fine}
+use Rattle.base.specs.Verdicts.{Verdict, Fine}
 use Rattle.base.proofs.RuleLaws.{then_fine, then_clean, first_append, first_holds, first_clean, clean_first}
 use Rattle.records.specs.Rule19.{sheet_form}
 use Rattle.writer.specs.Sheet.{hand_rules}

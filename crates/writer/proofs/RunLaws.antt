@@ -3,19 +3,17 @@ use Prim.Native.Nat.{ℕ, ◌+◌, ◌-◌, ◌≤◌, ◌<◌}
 use mathlib.Core.Path.{◌≡◌, refl, sym, ap, ap₂, subst, ◌∙◌}
 use mathlib.Core.Bool.{Bool, true, false, not, false≢true, true≢false}
 use mathlib.Core.List.{List, [], ◌∷◌, ◌++◌, map, append-nil, append_assoc}
-use mathlib.Core.Logic.{⊎_elim}
 use native.Mathlib.Omega.{arith}
-use types.Run.{OneOf}
-use denote.Enum.Declared.{tag_of}
 use lib.Dec.{eqb}
 use lib.ListN.{length, take, drop, length-append}
 use borrow.Author.Tests.{eqb-true, eqb-false}
+use Rattle.writer.specs.Comes.{Step, Put, Stuck, Unfit}
+use Rattle.std.specs.Prelude.{Option, None, Some}
 use Rattle.base.specs.Choice.{pick}
 use Rattle.base.specs.Bytes.{digit, capital, same, empty, count_up_to}
 use Rattle.base.specs.Examples.{AllHold}
 use Rattle.base.specs.Calls.{said, placed, Puts}
-use Rattle.base.specs.declared.Verdict.{Verdict}
-use Rattle.base.specs.declared.Verdict.TheVariants.{Fine}
+use Rattle.base.specs.Verdicts.{Verdict, Fine}
 use Rattle.base.proofs.Bools.{left, isnt}
 use Rattle.base.proofs.Bools as bools
 use Rattle.base.proofs.ByteLaws.{same_is}
@@ -50,33 +48,30 @@ use Rattle.writer.specs.Sheet.{stopped_at, unsaid}
 use Rattle.writer.specs.Steps.{Adds, Within, AddsLaid, AddsDetails, record_stops, record_crowded, records_at}
 use Rattle.writer.specs.Holder.{lies_in, holder_in, sources}
 use Rattle.writer.specs.Runs.{otherwise, held_at, one_in, Halves, Here, comes_before, still_new, run_here, sources_here, FieldsPut, onward_by}
-use Rattle.writer.specs.declared.Step.{Step}
-use Rattle.writer.specs.declared.Step.TheVariants.{Stuck, Unfit, Put}
-use Rattle.writer.specs.declared.holder.Holder.{Holder}
-use Rattle.writer.specs.declared.holder.Holder.TheVariants as holder
 use Rattle.writer.specs.declared.runs.Running.{Running}
-use Rattle.writer.specs.contracts.Step.{the_type}
-use Rattle.writer.proofs.StepLaws.{adds_by, adds_front, adds_then, within_put}
+use Rattle.writer.specs.declared.Halt.{Halt}
+use Rattle.std.specs.Prelude.{Err}
+use Rattle.writer.proofs.StepLaws.{adds_by, adds_front, adds_then, within_put, not_put}
 use Rattle.writer.proofs.PurposeLaws.{some_within, sole_part}
 use Rattle.writer.proofs.NoteLaws.{rpp_behind}
-use Rattle.writer.proofs.PutLaws.{Some, some_laid, some_behind, lined_some, record_put, content_details}
+use Rattle.writer.proofs.PutLaws.{HasLine, some_laid, some_behind, lined_some, record_put, content_details}
 use Rattle.writer.proofs.CrowdLaws.{crowded_not}
 use Rattle.writer.proofs.SeenLaws.{is_tag, not_tag, tagged_as, list_at, same_70, end_70}
 
 -- ---- the record that holds a place
-module _ {held : Holder} {b : Bool} (p from to i : ℕ) (e : held ≡ holder.Nothing) (f : b ≡ lies_in p from to) where
-  by_held : (c : Bool) → b ≡ c → pick c (holder.Record i) holder.Nothing ≡ otherwise held (held_at p from to i)
-  by_held c g = ap (λ (x : Bool). pick x (holder.Record i) holder.Nothing) (sym g ∙ f) ∙ ap (λ (x : Holder). otherwise x (held_at p from to i)) (sym e)
+module _ {held : Option ℕ} {b : Bool} (p from to i : ℕ) (e : held ≡ None) (f : b ≡ lies_in p from to) where
+  by_held : (c : Bool) → b ≡ c → pick c (Some i) None ≡ otherwise held (held_at p from to i)
+  by_held c g = ap (λ (x : Bool). pick x (Some i) None) (sym g ∙ f) ∙ ap (λ (x : Option ℕ). otherwise x (held_at p from to i)) (sym e)
 
-  pub held_here : b ≡ true → holder.Record i ≡ otherwise held (held_at p from to i)
+  pub held_here : b ≡ true → Some i ≡ otherwise held (held_at p from to i)
   held_here g = by_held true g
 
-  pub held_not : b ≡ false → holder.Nothing ≡ otherwise held (held_at p from to i)
+  pub held_not : b ≡ false → None ≡ otherwise held (held_at p from to i)
   held_not g = by_held false g
 
-otherwise_on : (a b c : Holder) → otherwise (otherwise a b) c ≡ otherwise a (otherwise b c)
-otherwise_on (holder.Record i) b c = refl
-otherwise_on holder.Nothing b c = refl
+otherwise_on : (a b c : Option ℕ) → otherwise (otherwise a b) c ≡ otherwise a (otherwise b c)
+otherwise_on (Some i) b c = refl
+otherwise_on None b c = refl
 
 holder_append : (p o : ℕ) (is js : List ℕ) (fs gs : List Field) → length is ≡ length fs
     → holder_in p o (is ++ js) (fs ++ gs) ≡ otherwise (holder_in p o is fs) (holder_in p (o + length (with_cr_lf (lines_of fs))) js gs)
@@ -88,10 +83,10 @@ holder_append p o (i ∷ is) js (f ∷ fs) gs e =
     let n : ℕ = places.next_of o f in
     let z : n + length (with_cr_lf (lines_of fs)) ≡ o + length (with_cr_lf (lined f ++ lines_of fs))
     = omega (arith, crlf_size (lined f), ap length (crlf_append (lined f) (lines_of fs)), length-append (with_cr_lf (lined f)) (with_cr_lf (lines_of fs))) in
-    ap (λ (h : Holder). pick (lies_in p o n) (holder.Record i) h) (holder_append p n is js fs gs (omega arith) ∙ ap (λ (k : ℕ). otherwise (holder_in p n is fs) (holder_in p k js gs)) z)
+    ap (λ (h : Option ℕ). pick (lies_in p o n) (Some i) h) (holder_append p n is js fs gs (omega arith) ∙ ap (λ (k : ℕ). otherwise (holder_in p n is fs) (holder_in p k js gs)) z)
     ∙ go (lies_in p o n) (holder_in p n is fs) (holder_in p (o + length (with_cr_lf (lined f ++ lines_of fs))) js gs)
   where
-    go : (b : Bool) (h k : Holder) → pick b (holder.Record i) (otherwise h k) ≡ otherwise (pick b (holder.Record i) h) k
+    go : (b : Bool) (h k : Option ℕ) → pick b (Some i) (otherwise h k) ≡ otherwise (pick b (Some i) h) k
     go true h k = refl
     go false h k = refl
 
@@ -101,7 +96,7 @@ pub fields_then : (p : ℕ) (is js : List ℕ) (fs gs : List Field) {out mid aft
 fields_then p is js fs gs {a = a} {b = b} e x y =
     record {
       puts = puts_by (sym (ap with_cr_lf (lines_append fs) ∙ crlf_append (lines_of fs) (lines_of gs))) (puts_on (with_cr_lf (lines_of fs)) (with_cr_lf (lines_of gs)) x.puts y.puts);
-      held = y.held ∙ ap₂ (λ (h : Holder) (n : ℕ). otherwise h (holder_in p n js gs)) x.held x.puts.answers
+      held = y.held ∙ ap₂ (λ (h : Option ℕ) (n : ℕ). otherwise h (holder_in p n js gs)) x.held x.puts.answers
           ∙ otherwise_on a.holder (holder_in p a.at is fs) (holder_in p (a.at + length (with_cr_lf (lines_of fs))) js gs)
           ∙ ap (otherwise a.holder) (sym (holder_append p a.at is js fs gs e));
     }
@@ -110,9 +105,9 @@ fields_then p is js fs gs {a = a} {b = b} e x y =
     lines_append [] = refl
     lines_append (h ∷ hs) = ap (λ (x : List (List ℕ)). lined h ++ x) (lines_append hs) ∙ sym (append_assoc (lined h) (lines_of hs) (lines_of gs))
 
-otherwise_none : (h : Holder) → h ≡ otherwise h holder.Nothing
-otherwise_none (holder.Record i) = refl
-otherwise_none holder.Nothing = refl
+otherwise_none : (h : Option ℕ) → h ≡ otherwise h None
+otherwise_none (Some i) = refl
+otherwise_none None = refl
 
 -- none
 pub fields_none : (p : ℕ) {out : List ℕ} (a : Running) → FieldsPut [] [] p out a a out
@@ -120,13 +115,13 @@ unfolding holder_in
 fields_none p a = record { puts = puts_none; held = otherwise_none a.holder }
 
 -- one
-pub onward_none : (r : Running) (p : ℕ) (q : Step) (i : ℕ) (new : Bool) → OneOf (0 ∷ 1 ∷ []) (tag_of the_type q) → r ≡ onward_by r p q i new
-onward_none r p (Stuck k) i new h = refl
-onward_none r p Unfit i new h = refl
-onward_none r p (Put m) i new h = absurd (⊎_elim (λ z. omega arith) (λ z. omega arith) h)
+pub onward_none : (r : Running) (p : ℕ) (q : Step) (i : ℕ) (new : Bool) {h : Halt} → q ≡ Err h → r ≡ onward_by r p q i new
+onward_none r p (Stuck k) i new e = refl
+onward_none r p Unfit i new e = refl
+onward_none r p (Put m) i new e = absurd (not_put e m refl)
 
-pub onward_some : (r : Running) (p : ℕ) {q : Step} (i : ℕ) (new : Bool) {m : ℕ} {h : Holder} → q ≡ Put m → h ≡ otherwise r.holder (held_at p r.at m i) → record { new = new; at = m; holder = h } ≡ onward_by r p q i new
-onward_some r p i new {m} e f = ap (λ (x : Holder). record { new = new; at = m; holder = x }) f ∙ sym (ap (λ (x : Step). onward_by r p x i new) e)
+pub onward_some : (r : Running) (p : ℕ) {q : Step} (i : ℕ) (new : Bool) {m : ℕ} {h : Option ℕ} → q ≡ Put m → h ≡ otherwise r.holder (held_at p r.at m i) → record { new = new; at = m; holder = h } ≡ onward_by r p q i new
+onward_some r p i new {m} e f = ap (λ (x : Option ℕ). record { new = new; at = m; holder = x }) f ∙ sym (ap (λ (x : Step). onward_by r p x i new) e)
 
 pub onward_put : (p i : ℕ) (new : Bool) (f : Field) (a : Running) {b : Running} {out after : List ℕ} {q : Step} → Adds Fine false (with_cr_lf (lined f)) out a.at q after → b ≡ onward_by a p q i new
     → FieldsPut (f ∷ []) (i ∷ []) p out a b after × (b.new ≡ new) × ((k n : ℕ) → Within q k n → b.at ≤ n)
@@ -149,7 +144,7 @@ onward_put p i new f a {b} {out} {after} {q} d e =
 pub adds_clean : {v : Verdict} {b : Bool} {t u out after : List ℕ} {at : ℕ} {r : Step} → v ≡ Fine → b ≡ false → t ≡ u → Adds v b t out at r after → Adds Fine false u out at r after
 adds_clean {v} {b} {t} {u} {out} {after} {at} {r} e f g a = adds_by e g (subst (λ (c : Bool). Adds v c t out at r after) f a)
 
-tagged_put : (t : List ℕ) (ls : List (List ℕ)) {out mid after : List ℕ} {at n : ℕ} {r : Step} → Some ls → Puts (58 ∷ t ++ 58 ∷ []) out at n mid → Adds Fine false (with_cr_lf ls) mid n r after
+tagged_put : (t : List ℕ) (ls : List (List ℕ)) {out mid after : List ℕ} {at n : ℕ} {r : Step} → HasLine ls → Puts (58 ∷ t ++ 58 ∷ []) out at n mid → Adds Fine false (with_cr_lf ls) mid n r after
     → Adds Fine false (with_cr_lf (lined (field t ls))) out at r after
 tagged_put t ls {out} {after = after} {at = at} {r = r} h p a = adds_by refl (lined_some t ls h) (adds_front (58 ∷ t ++ 58 ∷ []) (with_cr_lf ls) p a)
 
@@ -163,7 +158,7 @@ module _ (s : Bool) (two : List ℕ) (spelt : writing s two ≡ said (bank_of s 
   rest_put : (p : DetailsField) {out after : List ℕ} {at : ℕ} {r : Step} → fits_in s p [] two ≡ true → AddsLaid s p 0 [] two out at r after → Adds Fine false (with_cr_lf (laid_lines s p [] two)) out at r after
   rest_put p f a = adds_clean (ap (stopped_at 0) spelt) (ap not f) refl a
 
-  rest_some : (p : DetailsField) → fits_in s p [] two ≡ true → Some (laid_lines s p [] two)
+  rest_some : (p : DetailsField) → fits_in s p [] two ≡ true → HasLine (laid_lines s p [] two)
   rest_some p f = some_laid s p [] two (ap not f)
 
   -- a new one
@@ -393,7 +388,7 @@ left_end g s i one two start p a c {now = now} {mid = mid} h k f d =
     f c mid (subst (λ (rs : List Record). FieldsPut (spread Mt103 g (run_as a.new one two rs)) (sources a.new start i rs) p now a c mid) (sym e) d)
 
 -- the opening before and the closing behind
-pub run_whole : (fs : List Field) {is out now mid after : List ℕ} {p : ℕ} {new : Bool} (c : Running) → now ≡ placed out 0 opening → FieldsPut fs is p now (record { new = new; at = 5; holder = holder.Nothing }) c mid → after ≡ placed mid c.at closing
+pub run_whole : (fs : List Field) {is out now mid after : List ℕ} {p : ℕ} {new : Bool} (c : Running) → now ≡ placed out 0 opening → FieldsPut fs is p now (record { new = new; at = 5; holder = None }) c mid → after ≡ placed mid c.at closing
     → Puts (message fs) out 0 (c.at + 2) after
 unfolding message
 run_whole fs c e f q = puts_on opening (with_cr_lf (lines_of fs) ++ closing) (puts_put {u = opening} refl e) (puts_on (with_cr_lf (lines_of fs)) closing f.puts (puts_put {u = closing} refl q))

@@ -11,9 +11,11 @@ use denote.Enum.Declared.{tag_of}
 use lib.Dec.{eqb, leb}
 use lib.ListN.{length, take, drop, length-take, length-drop}
 use borrow.Author.Tests.{eq-eqb, ne_eqb, le-leb, lt-leb}
+use Rattle.writer.specs.Comes.{At}
+use Rattle.std.specs.Prelude.{None}
 use Rattle.base.specs.Choice.{pick, all}
 use Rattle.base.specs.Bytes.{digit, same, count_up_to}
-use Rattle.base.specs.declared.Verdict.TheVariants.{Fine, Broken}
+use Rattle.base.specs.Verdicts.{Fine, Broken}
 use Rattle.base.specs.Calls.{Puts}
 use Rattle.base.proofs.Bools.{left, right, both}
 use Rattle.base.proofs.ByteLaws.{same_is, same_refl}
@@ -52,7 +54,6 @@ use Rattle.writer.specs.Sheet.{some_crowded}
 use Rattle.writer.specs.Steps.{records_at}
 use Rattle.writer.specs.Holder.{start_70, is_cut, has_new}
 use Rattle.writer.specs.Runs.{none_seen, seeing, seen_from, note_for, cut_places, cut_for, cut_in}
-use Rattle.writer.specs.declared.Cutting.TheVariants.{Nowhere, At}
 use Rattle.writer.specs.declared.cuts.Seen.{Seen}
 use Rattle.writer.proofs.PutLaws.{ended, good_here, good_on}
 use Rattle.writer.proofs.PurposeLaws.{Detailed, detailed_at, text_long, put_front}
@@ -272,7 +273,7 @@ cut_most g front note text k e = go (subst (Comes g front note text) e (comes g 
     go (cut j n w) = lawful_long g front note text (take k text) (drop k text) w.lawful
 
 -- ---- the cut
-not_cut_there : (r : Run) (a n : ℕ) (new : Bool) → OneOf (0 ∷ 1 ∷ 3 ∷ []) (tag_of the_type r) → Nowhere ≡ cut_places r a n new
+not_cut_there : (r : Run) (a n : ℕ) (new : Bool) → OneOf (0 ∷ 1 ∷ 3 ∷ []) (tag_of the_type r) → None ≡ cut_places r a n new
 not_cut_there (run.Stuck k) a n new h = refl
 not_cut_there run.Whole a n new h = refl
 not_cut_there run.Unfit a n new h = refl
@@ -296,14 +297,14 @@ module _ (s : List ℕ) (g : Bool) (h : 7 ≤ length s) (b : bad_sheet_line Mt10
   known : Count none_seen (how_many tag_70 ours) (how_many tag_72 ours) (start_70 7 ours) z
   known = subst (Count none_seen (how_many tag_70 ours) (how_many tag_72 ours) (start_70 7 ours)) (sym q) (counted none_seen 7 ours)
 
-  stays : may_run ours ≡ false → Nowhere ≡ cut_for g ours
+  stays : may_run ours ≡ false → None ≡ cut_for g ours
   unfolding cut_for run_of
   stays e = rw e refl
 
-  pub not_one : (z.details ≡ 1 → ⊥) → Nowhere ≡ cut_for g ours
+  pub not_one : (z.details ≡ 1 → ⊥) → None ≡ cut_for g ours
   not_one n = let k = known in stays (ap (λ (c : Bool). c && leb (how_many tag_72 ours) 1) (ne_eqb (how_many tag_70 ours) 1 (λ e. n (omega (arith, k)))))
 
-  pub too_many : z.details ≡ 1 → 1 < z.notes → Nowhere ≡ cut_for g ours
+  pub too_many : z.details ≡ 1 → 1 < z.notes → None ≡ cut_for g ours
   too_many e n = let k = known in stays (ap₂ (λ (c d : Bool). c && d) (eq-eqb (how_many tag_70 ours) 1 (omega (arith, k))) (lt-leb (how_many tag_72 ours) 1 (omega (arith, k))))
 
   module _ (one : z.details ≡ 1) (few : z.notes ≤ 1) where
@@ -345,11 +346,11 @@ module _ (s : List ℕ) (g : Bool) (h : 7 ≤ length s) (b : bad_sheet_line Mt10
           omega (arith, w.1.inside)
 
       -- a text of more bytes than 21 takes is not cut
-      pub too_long : z.start + 9 + most < e → Nowhere ≡ cut_for g ours
+      pub too_long : z.start + 9 + most < e → None ≡ cut_for g ours
       unfolding cut_for
       too_long l = go (run_of g ours) run_is
         where
-          go : (r : Run) → r ≡ run_for g (front_in g ours) (note_for (eqb (how_many tag_72 ours) 0)) (text_in ours) → Nowhere ≡ cut_places r (start_70 7 ours) (length (text_in ours)) (eqb (how_many tag_72 ours) 0)
+          go : (r : Run) → r ≡ run_for g (front_in g ours) (note_for (eqb (how_many tag_72 ours) 0)) (text_in ours) → None ≡ cut_places r (start_70 7 ours) (length (text_in ours)) (eqb (how_many tag_72 ours) 0)
           go (run.Stuck k) d = refl
           go run.Whole d = refl
           go run.Unfit d = refl
@@ -359,7 +360,7 @@ module _ (s : List ℕ) (g : Bool) (h : 7 ≤ length s) (b : bad_sheet_line Mt10
         came : r ≡ run_of g ours
         came = d ∙ ap₂ (λ (ps : List (List ℕ)) (n : Bool). run_for g (code g (first_line ps)) (note_for n) (second_part ps)) (ap parts_in the_70.is) new_is ∙ sym run_is
 
-        pub none_there : OneOf (0 ∷ 1 ∷ 3 ∷ []) (tag_of the_type r) → Nowhere ≡ cut_for g ours
+        pub none_there : OneOf (0 ∷ 1 ∷ 3 ∷ []) (tag_of the_type r) → None ≡ cut_for g ours
         unfolding cut_for
         none_there k = not_cut_there r (start_70 7 ours) (length (text_in ours)) (eqb (how_many tag_72 ours) 0) k ∙ ap (λ (x : Run). cut_places x (start_70 7 ours) (length (text_in ours)) (eqb (how_many tag_72 ours) 0)) came
 
@@ -377,45 +378,45 @@ module _ (s : List ℕ) (g : Bool) (h : 7 ≤ length s) (b : bad_sheet_line Mt10
             omega (arith, i, ends_at (omega (arith, f)))
 
 -- ---- where nothing is cut
-at_not : {a b c : ℕ} {new : Bool} → At a b c new ≡ Nowhere → ⊥
+at_not : {a b c : ℕ} {new : Bool} → At a b c new ≡ None → ⊥
 at_not e = let z : ◌≡◌ {A = ℕ} 0 1 = cc in omega arith
 
 -- the records stay as they are
-by_places : (r : Run) (a n : ℕ) (new : Bool) → cut_places r a n new ≡ Nowhere → is_cut r ≡ false
+by_places : (r : Run) (a n : ℕ) (new : Bool) → cut_places r a n new ≡ None → is_cut r ≡ false
 by_places (run.Cut k) a n new e = absurd (at_not e)
 by_places (run.Stuck k) a n new e = refl
 by_places run.Whole a n new e = refl
 by_places run.Unfit a n new e = refl
 
-places_by : (r : Run) (a n : ℕ) (new : Bool) → is_cut r ≡ false → cut_places r a n new ≡ Nowhere
+places_by : (r : Run) (a n : ℕ) (new : Bool) → is_cut r ≡ false → cut_places r a n new ≡ None
 places_by (run.Cut k) a n new e = absurd (false≢true (sym e))
 places_by (run.Stuck k) a n new e = refl
 places_by run.Whole a n new e = refl
 places_by run.Unfit a n new e = refl
 
-pub uncut : (g : Bool) (rs : List Record) → cut_for g rs ≡ Nowhere → is_cut (run_of g rs) ≡ false
+pub uncut : (g : Bool) (rs : List Record) → cut_for g rs ≡ None → is_cut (run_of g rs) ≡ false
 unfolding cut_for
 uncut g rs e = by_places (run_of g rs) (start_70 7 rs) (length (text_in rs)) (eqb (how_many tag_72 rs) 0) e
 
-pub nowhere_kept : (form : Form) (g : Bool) (rs : List Record) → cut_in form g rs ≡ Nowhere → run_on form g rs ≡ rs
+pub nowhere_kept : (form : Form) (g : Bool) (rs : List Record) → cut_in form g rs ≡ None → run_on form g rs ≡ rs
 unfolding run_on
 nowhere_kept Mt103 g rs e = not_cut (run_of g rs) rs (uncut g rs e)
 nowhere_kept Mt202 g rs e = refl
 nowhere_kept Other g rs e = refl
 
-pub nowhere_new : (form : Form) (g : Bool) (rs : List Record) → cut_in form g rs ≡ Nowhere → has_new form g rs ≡ false
+pub nowhere_new : (form : Form) (g : Bool) (rs : List Record) → cut_in form g rs ≡ None → has_new form g rs ≡ false
 nowhere_new Mt103 g rs e = ap (λ (b : Bool). b && eqb (how_many tag_72 rs) 0) (uncut g rs e)
 nowhere_new Mt202 g rs e = refl
 nowhere_new Other g rs e = refl
 
 -- nor is it where no record of the sheet is crowded, nor in another form
-pub bare_nowhere : (form : Form) (g : Bool) (rs : List Record) → some_crowded form g rs ≡ false → cut_in form g rs ≡ Nowhere
+pub bare_nowhere : (form : Form) (g : Bool) (rs : List Record) → some_crowded form g rs ≡ false → cut_in form g rs ≡ None
 unfolding cut_for
 bare_nowhere Mt103 g rs e = places_by (run_of g rs) (start_70 7 rs) (length (text_in rs)) (eqb (how_many tag_72 rs) 0) (bare_stays g rs e)
 bare_nowhere Mt202 g rs e = refl
 bare_nowhere Other g rs e = refl
 
-pub other_nowhere : (form : Form) (g : Bool) (rs : List Record) → OneOf (0 ∷ 2 ∷ []) (tag_of forms.the_type form) → cut_in form g rs ≡ Nowhere
+pub other_nowhere : (form : Form) (g : Bool) (rs : List Record) → OneOf (0 ∷ 2 ∷ []) (tag_of forms.the_type form) → cut_in form g rs ≡ None
 other_nowhere Mt202 g rs h = refl
 other_nowhere Other g rs h = refl
 other_nowhere Mt103 g rs h = absurd (⊎_elim (λ z. omega arith) (λ z. omega arith) h)

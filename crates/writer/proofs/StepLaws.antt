@@ -4,19 +4,15 @@ use mathlib.Core.Path.{◌≡◌, refl, sym, ap, ap₂, subst, ◌∙◌}
 use mathlib.Core.Bool.{Bool, true, false, not, ◌||◌, true≢false, false≢true}
 use mathlib.Core.List.{List, [], ◌∷◌, ◌++◌}
 use native.Mathlib.Omega.{arith}
-use types.Run.{OneOf}
-use denote.Enum.Declared.{tag_of}
-use mathlib.Core.Logic.{⊎_elim}
 use lib.ListN.{length, length-append}
+use Rattle.writer.specs.Comes.{Step, Put, Stuck, Unfit}
+use Rattle.std.specs.Prelude.{Err}
 use Rattle.base.specs.Rules.{then}
 use Rattle.base.specs.Calls.{placed, Puts}
-use Rattle.base.specs.declared.Verdict.{Verdict}
-use Rattle.base.specs.declared.Verdict.TheVariants.{Fine, Broken}
+use Rattle.base.specs.Verdicts.{Verdict, Fine, Broken}
 use Rattle.base.proofs.RuleLaws.{fine_broken, then_fine}
 use Rattle.base.proofs.Room.{puts_put, puts_on, puts_none}
-use Rattle.writer.specs.declared.Step.{Step}
-use Rattle.writer.specs.declared.Step.TheVariants.{Stuck, Unfit, Put}
-use Rattle.writer.specs.contracts.Step.{the_type}
+use Rattle.writer.specs.declared.Halt.{Halt}
 use Rattle.writer.specs.Steps.{came, Adds, Within, stuck_in, unfit_in, put_in}
 
 -- ---- three parts one behind another
@@ -36,22 +32,22 @@ unfit_stuck e = let z : ◌≡◌ {A = ℕ} 0 1 = cc in omega arith
 pub came_put : (v : Verdict) (b : Bool) (k n : ℕ) → Put n ≡ came v b k → (v ≡ Fine) × (b ≡ false) × (n ≡ k)
 came_put Fine false k n e = (refl, refl, cc)
 came_put Fine true k n e = absurd (put_unfit e)
-came_put (Broken j p) b k n e = absurd (put_stuck e)
+came_put (Err r) b k n e = absurd (put_stuck e)
 
 pub came_unfit : (v : Verdict) (b : Bool) (k : ℕ) → Unfit ≡ came v b k → (v ≡ Fine) × (b ≡ true)
 came_unfit Fine true k e = (refl, refl)
 came_unfit Fine false k e = absurd (put_unfit (sym e))
-came_unfit (Broken j p) b k e = absurd (unfit_stuck e)
+came_unfit (Err r) b k e = absurd (unfit_stuck e)
 
 pub came_stuck : (v : Verdict) (b : Bool) (k p : ℕ) → Stuck p ≡ came v b k → (j : ℕ) × (v ≡ Broken j p)
 came_stuck Fine true k p e = absurd (unfit_stuck (sym e))
 came_stuck Fine false k p e = absurd (put_stuck (sym e))
-came_stuck (Broken j q) b k p e = let z : p ≡ q = cc in (j, ap (Broken j) (sym z))
+came_stuck (Err r) b k p e = let z : p ≡ r.place = cc in (r.number, ap (Broken r.number) (sym z))
 
 -- details are crowded: the place is not looked at
 came_crowd : (v : Verdict) (k n : ℕ) → came v true k ≡ came v true n
 came_crowd Fine k n = refl
-came_crowd (Broken j p) k n = refl
+came_crowd (Err r) k n = refl
 
 pub adds_by : {v w : Verdict} {b : Bool} {t u out after : List ℕ} {at : ℕ} {r : Step} → v ≡ w → t ≡ u → Adds v b t out at r after → Adds w b u out at r after
 adds_by {v} {w} {b} {t} {u} {out} {after} {at} {r} e f a = subst (λ (l : List ℕ). Adds w b l out at r after) f (subst (λ (x : Verdict). Adds x b t out at r after) e a)
@@ -63,13 +59,13 @@ Onward v b t out at w c u now n = (r : Step) (after : List ℕ) → Adds w c u n
 -- ---- the bytes matter only where no rule stops them
 pub adds_same : (v : Verdict) {b : Bool} {t u out after : List ℕ} {at : ℕ} {r : Step} → (v ≡ Fine → t ≡ u) → Adds v b t out at r after → Adds v b u out at r after
 adds_same Fine {b} {out = out} {after = after} {at = at} {r = r} h a = subst (λ (l : List ℕ). Adds Fine b l out at r after) (h refl) a
-adds_same (Broken j p) h a = record { answers = a.answers; fills = λ e. absurd (fine_broken j p (sym e)) }
+adds_same (Err r) h a = record { answers = a.answers; fills = λ e. absurd (fine_broken r.number r.place (sym e)) }
 
 -- nor where details are crowded
 pub adds_alike : (v : Verdict) (b : Bool) {t u out after : List ℕ} {at : ℕ} {r : Step} → (v ≡ Fine → b ≡ false → t ≡ u) → Adds v b t out at r after → Adds v b u out at r after
 adds_alike Fine false {out = out} {after = after} {at = at} {r = r} h a = subst (λ (l : List ℕ). Adds Fine false l out at r after) (h refl refl) a
 adds_alike Fine true h a = record { answers = a.answers; fills = λ e f. absurd (true≢false f) }
-adds_alike (Broken j p) b h a = record { answers = a.answers; fills = λ e. absurd (fine_broken j p (sym e)) }
+adds_alike (Err r) b h a = record { answers = a.answers; fills = λ e. absurd (fine_broken r.number r.place (sym e)) }
 
 pub adds_stuck : {v : Verdict} {b : Bool} {t out after : List ℕ} {at j p : ℕ} → v ≡ Broken j p → Adds v b t out at (Stuck p) after
 adds_stuck {b = b} {t = t} {at = at} {j = j} {p = p} e = record { answers = ap (λ (w : Verdict). came w b (at + length t)) (sym e); fills = λ f. absurd (fine_broken j p (sym f ∙ e)) }
@@ -101,7 +97,7 @@ adds_then v w {b} {c} t u {out = out} {after = after} {at = at} {n = n} {r = r} 
 -- ---- places that count from o on
 abbrev pub moved_by : ℕ → Verdict → Verdict
 moved_by o Fine = Fine
-moved_by o (Broken n p) = Broken n (o + p)
+moved_by o (Err r) = Broken r.number (o + r.place)
 
 -- the same from its own place on, with a rule behind and without
 pub adds_cut : (v w : Verdict) (t : List ℕ) {u out now mid after : List ℕ} {c : Bool} {at n : ℕ} (r : Step) → ((m : ℕ) → r ≡ Put m → ⊥) → Adds v false t now n r mid → Adds (then v w) c u out at r after
@@ -142,10 +138,11 @@ pub within_stuck : {r : Step} {k p n : ℕ} → r ≡ Stuck p → Within r k n �
 within_stuck {k = k} {n = n} e w = stuck_in_lem (subst (λ (x : Step). Within x k n) e w)
 
 -- by the tags that `let .. else` tells
-pub not_put : (r : Step) → OneOf (0 ∷ 1 ∷ []) (tag_of the_type r) → (m : ℕ) → r ≡ Put m → ⊥
-not_put (Stuck p) h m e = put_stuck (sym e)
-not_put Unfit h m e = put_unfit (sym e)
-not_put (Put n) h m e = ⊎_elim (λ z. omega arith) (λ z. omega arith) h
+pub halted : {r : Step} {h k : Halt} → r ≡ Err h → h ≡ k → r ≡ Err k
+halted e f = e ∙ ap (λ (x : Halt). Err x) f
+
+pub not_put : {r : Step} {h : Halt} → r ≡ Err h → (m : ℕ) → r ≡ Put m → ⊥
+not_put e m f = let z : ◌≡◌ {A = ℕ} 0 1 = cc in omega arith
 
 -- one that was not put tells nothing of the room
 pub within_any : {r : Step} {k n : ℕ} (m : ℕ) → ((j : ℕ) → r ≡ Put j → ⊥) → Within r k n → Within r k m

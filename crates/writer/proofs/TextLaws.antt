@@ -5,14 +5,14 @@ use mathlib.Core.Bool.{Bool, false}
 use mathlib.Core.List.{List}
 use native.Mathlib.Omega.{arith}
 use lib.ListN.{length}
+use Rattle.writer.specs.Comes.{Put, Stuck}
 use Rattle.base.specs.Calls.{text_of, placed}
 use Rattle.base.proofs.Room.{puts_put}
 use Rattle.alphabets.specs.Best.{writing}
 use Rattle.alphabets.specs.Parts.{extent, written}
-use Rattle.alphabets.specs.declared.parts.Extent.TheVariants.{Takes, Halts, Long}
+use Rattle.alphabets.specs.Extent.{Takes, Halts, Long}
 use Rattle.alphabets.proofs.SizeLaws.{twice_at_most}
 use Rattle.alphabets.proofs.PartTheorems.{size_takes, size_halts, size_long}
-use Rattle.writer.specs.declared.Step.TheVariants.{Stuck, Put}
 use Rattle.writer.specs.Sheet.{stopped_at}
 use Rattle.writer.specs.Steps.{Adds}
 use Rattle.writer.proofs.StepLaws.{adds_stuck, adds_put}

@@ -1,10 +1,9 @@
 -- Which record of a sheet was written as the field that holds a byte of its message; of a 72 that no record was written as, the record of 70, whose
 -- text runs on there (S1, S2, B9, O2). Assumes nothing.
-use Rattle.std.specs.Prelude.{ℕ, Bool, true, false, ◌&&◌, List, [], ◌∷◌, leb, ltb, eqb, length}
+use Rattle.std.specs.Prelude.{ℕ, Bool, true, false, ◌&&◌, List, [], ◌∷◌, leb, ltb, eqb, length, Err, Option, None, Some}
 use Rattle.base.specs.Choice.{pick}
 use Rattle.base.specs.Rules.{first}
-use Rattle.base.specs.declared.Verdict.{Verdict}
-use Rattle.base.specs.declared.Verdict.TheVariants.{Fine, Broken}
+use Rattle.base.specs.Verdicts.{Verdict, Fine}
 use Rattle.fields.specs.Field.{Field, opening}
 use Rattle.fields.specs.Places as fields
 use Rattle.types.specs.declared.Form.{Form}
@@ -16,8 +15,6 @@ use Rattle.runon.specs.RunOn.{tag_70, tag_72, tag_77B, tagged, how_many, run_of}
 use Rattle.runon.specs.declared.Run.{Run}
 use Rattle.runon.specs.declared.Run.TheVariants as run
 use Rattle.writer.specs.Sheet.{fields_of, sheet_rules}
-use Rattle.writer.specs.declared.holder.Holder.{Holder}
-use Rattle.writer.specs.declared.holder.Holder.TheVariants as holder
 
 -- a place in what goes from one place up to another
 unfoldable pub lies_in : ℕ → ℕ → ℕ → Bool
@@ -25,10 +22,10 @@ lies_in p from to = leb from p && ltb p to
 
 -- the places of the records that fields were made of, and the fields, the first colon at o: the one whose field holds the byte at p, up to the
 -- next colon or the - of -}
-unfoldable pub holder_in : ℕ → ℕ → List ℕ → List Field → Holder
-holder_in p o [] fs = holder.Nothing
-holder_in p o (i ∷ is) [] = holder.Nothing
-holder_in p o (i ∷ is) (f ∷ fs) = pick (lies_in p o (fields.next_of o f)) (holder.Record i) (holder_in p (fields.next_of o f) is fs)
+unfoldable pub holder_in : ℕ → ℕ → List ℕ → List Field → Option ℕ
+holder_in p o [] fs = None
+holder_in p o (i ∷ is) [] = None
+holder_in p o (i ∷ is) (f ∷ fs) = pick (lies_in p o (fields.next_of o f)) (Some i) (holder_in p (fields.next_of o f) is fs)
 
 -- where records start, the first at i: each its own field's; `new`: a 72 is still to come, as they run on, and is made of the record at a
 abbrev pub sources : Bool → ℕ → ℕ → List Record → List ℕ
@@ -58,9 +55,9 @@ behind_first form s [] = []
 behind_first form s (r ∷ rs) = sources (has_new form s rs) (start_70 (next_record 0 r) rs) (next_record 0 r) rs
 
 -- a sheet that is refused has no message
-abbrev pub unless_refused : Verdict → Holder → Holder
+abbrev pub unless_refused : Verdict → Option ℕ → Option ℕ
 unless_refused Fine h = h
-unless_refused (Broken n p) h = holder.Nothing
+unless_refused (Err r) h = None
 
-unfoldable pub holder_of : List ℕ → ℕ → Holder
+unfoldable pub holder_of : List ℕ → ℕ → Option ℕ
 holder_of s p = unless_refused (first (sheet_rules s)) (holder_in p (length opening) (behind_first (sheet_form s) (sheet_sign s) (records s)) (fields_of s))

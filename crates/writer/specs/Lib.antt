@@ -1,3 +1,4 @@
+pub mod Comes
 pub mod Spread
 pub mod Sheet
 pub mod Steps

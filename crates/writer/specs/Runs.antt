@@ -1,14 +1,16 @@
 -- Only the code's way needs this. What the functions say to each other that find the cut of details that run on, and that put the message with both
 -- halves (S2, B6-B9). Assumes nothing.
-use Rattle.std.specs.Prelude.{ℕ, ◌+◌, ◌-◌, ◌≤◌, ◌<◌, ◌≡◌, Bool, true, false, ◌&&◌, eqb, length, take, drop}
+use Rattle.writer.specs.declared.NewMessage.{NewMessage}
+use Rattle.base.specs.declared.Refusal.{Refusal}
+use Rattle.writer.specs.Comes.{Step, Put, Stuck, Unfit, At, Whole}
+use Rattle.std.specs.Prelude.{ℕ, ◌+◌, ◌-◌, ◌≤◌, ◌<◌, ◌≡◌, Bool, true, false, ◌&&◌, eqb, length, take, drop, Err, Option, None, Some, Result}
 use mathlib.Core.List.{List, [], ◌∷◌, tail}
 use Rattle.base.specs.Choice.{pick}
 use Rattle.base.specs.Quoted.{ascii, bytes}
 use Rattle.base.specs.Bytes.{count_up_to}
 use Rattle.base.specs.Calls.{said, Puts}
 use Rattle.base.specs.Rules.{first}
-use Rattle.base.specs.declared.Verdict.{Verdict}
-use Rattle.base.specs.declared.Verdict.TheVariants.{Fine, Broken}
+use Rattle.base.specs.Verdicts.{Verdict, Fine}
 use Rattle.alphabets.specs.Best.{writing}
 use Rattle.fields.specs.Field.{Field, with_cr_lf, lines_of}
 use Rattle.fields.specs.Frame.{limit}
@@ -27,16 +29,9 @@ use Rattle.runon.specs.declared.Run.TheVariants as run
 use Rattle.writer.specs.Steps.{record_stops, record_crowded}
 use Rattle.writer.specs.Holder.{lies_in, holder_in, start_70}
 use Rattle.writer.specs.declared.Cutting.{Cutting}
-use Rattle.writer.specs.declared.Cutting.TheVariants.{Nowhere, At}
 use Rattle.writer.specs.Sheet.{message_for, sheet_rules}
-use Rattle.writer.specs.declared.Build.{Build}
-use Rattle.writer.specs.declared.Build.TheVariants.{Stopped, Whole}
-use Rattle.writer.specs.declared.Step.{Step}
-use Rattle.writer.specs.declared.Step.TheVariants.{Stuck, Unfit, Put}
 use Rattle.writer.specs.declared.cuts.Seen.{Seen}
 use Rattle.writer.specs.declared.runs.Running.{Running}
-use Rattle.writer.specs.declared.holder.Holder.{Holder}
-use Rattle.writer.specs.declared.holder.Holder.TheVariants as holder
 
 -- ---- the records of 70 and of 72
 abbrev pub none_seen : Seen
@@ -65,28 +60,28 @@ abbrev pub note_for : Bool → DetailsField
 note_for new = pick new In72 BehindRpp
 
 -- the record of 70 starts at a, and its text has n bytes; `new`: a 72 is to come
-abbrev pub cut_places : Run → ℕ → ℕ → Bool → Cutting
+abbrev pub cut_places : Run → ℕ → ℕ → Bool → Option Cutting
 cut_places (run.Cut k) a n new = At a (a + before_text + k) (a + before_text + n) new
-cut_places (run.Stuck k) a n new = Nowhere
-cut_places run.Whole a n new = Nowhere
-cut_places run.Unfit a n new = Nowhere
+cut_places (run.Stuck k) a n new = None
+cut_places run.Whole a n new = None
+cut_places run.Unfit a n new = None
 
 -- the records behind the first, which has six bytes and an LF
-unfoldable pub cut_for : Bool → List Record → Cutting
+unfoldable pub cut_for : Bool → List Record → Option Cutting
 cut_for s rs = cut_places (run_of s rs) (start_70 7 rs) (length (text_in rs)) (eqb (how_many tag_72 rs) 0)
 
-abbrev pub cut_in : Form → Bool → List Record → Cutting
+abbrev pub cut_in : Form → Bool → List Record → Option Cutting
 cut_in Mt103 s rs = cut_for s rs
-cut_in Mt202 s rs = Nowhere
-cut_in Other s rs = Nowhere
+cut_in Mt202 s rs = None
+cut_in Other s rs = None
 
 -- ---- which record holds a place
-abbrev pub otherwise : Holder → Holder → Holder
-otherwise (holder.Record i) h = holder.Record i
-otherwise holder.Nothing h = h
+abbrev pub otherwise : Option ℕ → Option ℕ → Option ℕ
+otherwise (Some i) h = Some i
+otherwise None h = h
 
-abbrev pub held_at : ℕ → ℕ → ℕ → ℕ → Holder
-held_at p from to i = pick (lies_in p from to) (holder.Record i) holder.Nothing
+abbrev pub held_at : ℕ → ℕ → ℕ → ℕ → Option ℕ
+held_at p from to i = pick (lies_in p from to) (Some i) None
 
 -- ---- the record of a sheet from i up to its LF at e
 abbrev pub EndsAt : List ℕ → ℕ → ℕ → Type 0
@@ -141,19 +136,19 @@ onward_by r p Unfit i new = r
 
 -- ---- the sheet built: a refusal of the sheet; or its type, its sign, the cut of its details and the size of its message, which then stands at the
 -- front of room that has as much
-abbrev pub built_by : Verdict → Form → Bool → Cutting → ℕ → Build
-built_by (Broken n p) form s c k = Stopped n p
+abbrev pub built_by : Verdict → Form → Bool → Option Cutting → ℕ → Result NewMessage Refusal
+built_by (Err r) form s c k = Err r
 built_by Fine form s c k = Whole form s c k
 
-abbrev pub sheet_cut : List ℕ → Cutting
+abbrev pub sheet_cut : List ℕ → Option Cutting
 sheet_cut s = cut_in (sheet_form s) (sheet_sign s) (tail (records s))
 
-pub record Builds (s out : List ℕ) (r : Build) (after : List ℕ) : Type 0 where
+pub record Builds (s out : List ℕ) (r : Result NewMessage Refusal) (after : List ℕ) : Type 0 where
   pub answers : r ≡ built_by (first (sheet_rules s)) (sheet_form s) (sheet_sign s) (sheet_cut s) (length (message_for s))
   pub fills : first (sheet_rules s) ≡ Fine → length (message_for s) ≤ length out → take (length (message_for s)) after ≡ message_for s
 
 -- what was told of a sheet that no rule refuses
-pub record Told (s : List ℕ) (form : Form) (g : Bool) (c : Cutting) : Type 0 where
+pub record Told (s : List ℕ) (form : Form) (g : Bool) (c : Option Cutting) : Type 0 where
   pub clean : first (sheet_rules s) ≡ Fine
   pub type : form ≡ sheet_form s
   pub sign : g ≡ sheet_sign s

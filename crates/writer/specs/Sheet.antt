@@ -1,12 +1,10 @@
 -- What a sheet is written as: 15, 16, the message, then 17 and the message's own refusal (N15-N17, O2, B6-B9, D2d, D3e). Assumes nothing.
-use Rattle.std.specs.Prelude.{ℕ, ◌+◌, ◌≡◌, Bool, false, not, ◌||◌, length}
+use Rattle.std.specs.Prelude.{ℕ, ◌+◌, ◌≡◌, Bool, false, not, ◌||◌, length, Err}
 use mathlib.Core.List.{List, [], ◌∷◌, ◌++◌, tail}
 use Rattle.base.specs.Choice.{pick}
 use Rattle.base.specs.Rules.{then}
 use Rattle.base.specs.Calls.{Answer, said, stuck, long, short, Gives}
-use Rattle.base.specs.declared.Verdict.{Verdict}
-use Rattle.base.specs.declared.Verdict.TheVariants.{Fine, Broken}
-use Rattle.base.specs.declared.Outcome.{Outcome}
+use Rattle.base.specs.Verdicts.{Verdict, Fine, Broken, Outcome}
 use Rattle.fields.specs.Field.{Field, field, message}
 use Rattle.fields.specs.Frame.{limit}
 use Rattle.types.specs.declared.Form.{Form}
@@ -94,7 +92,7 @@ pub record EachSheetRule (P : Verdict → Type 0) (s : List ℕ) : Type 0 where
 -- ---- a message handed over: 17, then its own refusal, which has place 0, since nobody has seen the message
 abbrev pub at_start : Verdict → Verdict
 at_start Fine = Fine
-at_start (Broken n p) = Broken n 0
+at_start (Err r) = Broken r.number 0
 
 abbrev pub hand_rules : Form → List ℕ → List ℕ → List Verdict
 hand_rules form m out = short m out ∷ at_start (verdict_of form m) ∷ []

@@ -1,11 +1,10 @@
 -- What the functions say that put a sheet's message into room (S6, S7, N15-N17). Assumes nothing.
-use Rattle.std.specs.Prelude.{ℕ, ◌+◌, ◌≤◌, ◌≡◌, Bool, true, false, not, List, map, length}
+use Rattle.writer.specs.Comes.{Step, Put, Stuck, Unfit}
+use Rattle.std.specs.Prelude.{ℕ, ◌+◌, ◌≤◌, ◌≡◌, Bool, true, false, not, List, map, length, Err}
 use lib.Seq.{sets}
 use Rattle.types.specs.declared.Form.{Form}
 use Rattle.base.specs.Calls.{Gives}
-use Rattle.base.specs.declared.Verdict.{Verdict}
-use Rattle.base.specs.declared.Verdict.TheVariants.{Fine, Broken}
-use Rattle.base.specs.declared.Outcome.{Outcome}
+use Rattle.base.specs.Verdicts.{Verdict, Fine, Outcome}
 use Rattle.fields.specs.Field.{field, with_cr_lf}
 use Rattle.alphabets.specs.Best.{writing}
 use Rattle.roles.specs.Role.{shape_of}
@@ -15,13 +14,11 @@ use Rattle.details.specs.declared.DetailsField.{DetailsField}
 use Rattle.runon.specs.Run.{fits_in}
 use Rattle.writer.specs.Spread.{coded, cast_parts, laid_lines, details_lines}
 use Rattle.writer.specs.Sheet.{stopped_at, unsaid, crowded_details, crowded, hand_rules}
-use Rattle.writer.specs.declared.Step.{Step}
-use Rattle.writer.specs.declared.Step.TheVariants.{Stuck, Unfit, Put}
 use Rattle.base.specs.Quoted.{ascii}
 
 -- ---- a step: t is put into the room from `at` on, as far as it is there, unless a rule stops it or details are crowded
 abbrev pub came : Verdict → Bool → ℕ → Step
-came (Broken k p) b n = Stuck p
+came (Err r) b n = Stuck r.place
 came Fine true n = Unfit
 came Fine false n = Put n
 

@@ -1,7 +1,7 @@
 // Records as fields, and the whole message.
 ghost use Rattle.std.specs.Prelude.{◌≡◌, true, [], ◌∷◌, ◌++◌, ◌+◌, ◌*◌, ◌-◌, ◌≤◌, length};
 ghost use Rattle.base.specs.Calls.{over, Puts};
-ghost use Rattle.base.specs.declared.Verdict.TheVariants.{Fine};
+ghost use Rattle.base.specs.Verdicts.{Fine};
 ghost use Rattle.fields.specs.Field.{with_cr_lf, lined, lines_of, message};
 ghost use Rattle.records.specs.Record.{record_of};
 ghost use Rattle.records.specs.Found.{pieces_at, bad_sheet_line};
@@ -16,8 +16,8 @@ use super::notes::{put_note, put_rpp};
 use super::parts::put_parts;
 use super::purposes::put_purpose;
 use super::runs::put_run;
-use super::{Build, Cutting, Step};
-use base::Verdict;
+use super::{Cutting, Halt, NewMessage, Step};
+use base::Refusal;
 use base::bytes::put;
 use base::marks::mark_at;
 use details::DetailsField;
@@ -85,16 +85,16 @@ pub(crate) fn put_records(
     while i < s.len() {
         let e = mark_at(b'\n', s, i);
         match put_record(form, sign, &s[i..e], out, n) {
-            Step::Stuck(k) => return Step::Stuck(i + k),
-            Step::Unfit => fit = false,
-            Step::Put(m) => n = m,
+            Ok(m) => n = m,
+            Err(Halt::Unfit) => fit = false,
+            Err(Halt::Stuck(k)) => return Err(Halt::Stuck(i + k)),
         }
         i = e + 1;
     }
     if !fit {
-        return Step::Unfit;
+        return Err(Halt::Unfit);
     }
-    Step::Put(n)
+    Ok(n)
 }
 
 // The message of a sheet that 19 lets pass: the records behind the first, which has six bytes.
@@ -103,109 +103,97 @@ fn put_message(s: &[u8], form: Form, sign: bool, out: &mut [u8]) -> Step
     ensures { Adds (rule_15 form sign 7 (records_at s.now 7)) (some_crowded form sign (records_at s.now 7)) (message (spread form sign (records_at s.now 7))) out.old 0 result out.new }
 {
     put(out, 0, b"{4:\r\n");
-    let r = put_records(s, 7, form, sign, out, 5);
-    let Step::Put(n) = r else {
-        return r;
-    };
+    let n = put_records(s, 7, form, sign, out, 5)?;
     put(out, n, b"-}");
-    Step::Put(n + 2)
+    Ok(n + 2)
 }
 
 // The message of a sheet whose details don't fit their lines: they may run on.
-fn build_on(sheet: &[u8], form: Form, sign: bool, out: &mut [u8]) -> Build
+fn build_on(sheet: &[u8], form: Form, sign: bool, out: &mut [u8]) -> Result<NewMessage, Refusal>
     requires sheet_len_bound { (length sheet.now ≤ 10000) × (form ≡ sheet_form sheet.now) × (sign ≡ sheet_sign sheet.now) × (verdict_19_and_18 sheet.now ≡ Fine) }
     requires sheet_value { (rule_15 form sign 7 (records_at sheet.now 7) ≡ Fine) × (some_crowded form sign (records_at sheet.now 7) ≡ true) }
     ensures { Builds sheet.now out.old result out.new }
 {
-    let stopped = Build::Stopped {
+    let stopped = Err(Refusal {
         number: 16,
         place: 0,
-    };
+    });
     let Form::Mt103 = form else {
         return stopped;
     };
-    let cutting = find_cut(sheet, sign);
-    let Cutting::At {
-        start,
-        cut,
-        end,
-        new,
-    } = cutting
-    else {
+    let Some(cutting) = find_cut(sheet, sign) else {
         return stopped;
     };
     let run = put_run(
         sheet,
         sign,
-        &sheet[start..cut],
-        &sheet[cut..end],
-        start,
-        new,
+        &sheet[cutting.start..cutting.cut],
+        &sheet[cutting.cut..cutting.end],
+        cutting.start,
+        cutting.new,
         0,
         out,
     );
-    Build::Whole {
+    Ok(NewMessage {
         form,
         sign,
-        cutting,
+        cutting: Some(cutting),
         size: run.at,
-    }
+    })
 }
 
 // A sheet judged, and its message built in the room, as far as that goes.
-pub(crate) fn build(sheet: &[u8], out: &mut [u8]) -> Build
+pub(crate) fn build(sheet: &[u8], out: &mut [u8]) -> Result<NewMessage, Refusal>
     ensures { Builds sheet.now out.old result out.new }
 {
     if sheet.len() > ROOM {
-        return Build::Stopped {
+        return Err(Refusal {
             number: 1,
             place: ROOM,
-        };
+        });
     }
     let j = judge_sheet(sheet);
-    let verdict = j.verdict;
     let form = j.form;
     let sign = j.sign;
-    if let Verdict::Broken { number, place } = verdict {
-        return Build::Stopped { number, place };
-    }
+    j.verdict?;
     match put_message(sheet, form, sign, out) {
-        Step::Stuck(k) => Build::Stopped {
-            number: 15,
-            place: k,
-        },
-        Step::Unfit => build_on(sheet, form, sign, out),
-        Step::Put(n) => Build::Whole {
+        Ok(n) => Ok(NewMessage {
             form,
             sign,
-            cutting: Cutting::Nowhere,
+            cutting: None,
             size: n,
-        },
+        }),
+        Err(Halt::Unfit) => build_on(sheet, form, sign, out),
+        Err(Halt::Stuck(k)) => Err(Refusal {
+            number: 15,
+            place: k,
+        }),
     }
 }
 
 // The message of a sheet that no rule refuses, put into room that has enough.
-pub(crate) fn put_built(sheet: &[u8], form: Form, sign: bool, cutting: Cutting, out: &mut [u8])
+pub(crate) fn put_built(
+    sheet: &[u8],
+    form: Form,
+    sign: bool,
+    cutting: Option<Cutting>,
+    out: &mut [u8],
+)
     requires { Told sheet.now form sign cutting × (length (message_for sheet.now) ≤ length out.old) }
     ensures { out.new ≡ over (message_for sheet.now) out.old }
 {
     match cutting {
-        Cutting::Nowhere => {
-            put_message(sheet, form, sign, out);
+        None => {
+            let _ = put_message(sheet, form, sign, out);
         }
-        Cutting::At {
-            start,
-            cut,
-            end,
-            new,
-        } => {
+        Some(c) => {
             put_run(
                 sheet,
                 sign,
-                &sheet[start..cut],
-                &sheet[cut..end],
-                start,
-                new,
+                &sheet[c.start..c.cut],
+                &sheet[c.cut..c.end],
+                c.start,
+                c.new,
                 0,
                 out,
             );

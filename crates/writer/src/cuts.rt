@@ -1,6 +1,6 @@
 // Where the details of a 103 are cut that run on: the one record of 70, and what its text comes to.
 ghost use Rattle.std.specs.Prelude.{◌≡◌, true, ◌≤◌, length};
-ghost use Rattle.base.specs.declared.Verdict.TheVariants.{Fine};
+ghost use Rattle.base.specs.Verdicts.{Fine};
 ghost use Rattle.fields.specs.Field.{tag_of};
 ghost use Rattle.types.specs.declared.Form.TheVariants.{Mt103};
 ghost use Rattle.types.specs.Sign.{first_line};
@@ -110,30 +110,30 @@ fn run_of(sign: bool, l: &[u8], new: bool) -> Run
 
 // The cut of a sheet that 19 lets pass. Nothing runs on unless there is one 70 and at most one 72. A text of more bytes than both fields take is not
 // looked at, since no bank text is shorter than its text.
-pub(crate) fn find_cut(s: &[u8], sign: bool) -> Cutting
+pub(crate) fn find_cut(s: &[u8], sign: bool) -> Option<Cutting>
     requires { (length s.now ≤ 10000) × (7 ≤ length s.now) × (bad_sheet_line Mt103 sign 7 (pieces_at 10 s.now 7) ≡ Fine) }
     ensures { result ≡ cut_for sign (records_at s.now 7) }
 {
     let seen = see_all(s);
     if seen.details != 1 {
-        return Cutting::Nowhere;
+        return None;
     }
     if 1 < seen.notes {
-        return Cutting::Nowhere;
+        return None;
     }
     let start = seen.start;
     let new = seen.notes == 0;
     let e = mark_at(b'\n', s, start);
     if start + TEXT + MOST < e {
-        return Cutting::Nowhere;
+        return None;
     }
     let Run::Cut(k) = run_of(sign, &s[start..e], new) else {
-        return Cutting::Nowhere;
+        return None;
     };
-    Cutting::At {
+    Some(Cutting {
         start,
         cut: start + TEXT + k,
         end: e,
         new,
-    }
+    })
 }

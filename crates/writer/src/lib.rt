@@ -14,38 +14,30 @@ mod runs;
 mod texts;
 pub mod to_message;
 
-// What putting something into the room comes to: a byte of the sheet can't be written, details don't fit their lines, or the place behind.
-// The place counts on where the room has ended.
+// What putting something into the room comes to: the place behind, which counts on where the room has ended, or what stops it.
+pub(crate) type Step = Result<usize, Halt>;
+
+// A byte of the sheet can't be written, or details don't fit their lines.
 #[derive(Clone, Copy)]
-pub(crate) enum Step {
+pub(crate) enum Halt {
     Stuck(usize),
     Unfit,
-    Put(usize),
 }
 
-// Where the text of 70 is cut, by places of the sheet, and whether a new 72 is to come for its rest; or it is not cut.
+// Where the text of 70 is cut, by places of the sheet, and whether a new 72 is to come for its rest.
 #[derive(Clone, Copy)]
-pub(crate) enum Cutting {
-    Nowhere,
-    At {
-        start: usize,
-        cut: usize,
-        end: usize,
-        new: bool,
-    },
+pub(crate) struct Cutting {
+    pub(crate) start: usize,
+    pub(crate) cut: usize,
+    pub(crate) end: usize,
+    pub(crate) new: bool,
 }
 
-// What building a sheet's message comes to: a refusal of the sheet; or its type, its sign, the cut of its details and the size of its message.
+// A sheet's message as it is built: its type, its sign, the cut of its details where they run on, and its size.
 #[derive(Clone, Copy)]
-pub(crate) enum Build {
-    Stopped {
-        number: u32,
-        place: usize,
-    },
-    Whole {
-        form: Form,
-        sign: bool,
-        cutting: Cutting,
-        size: usize,
-    },
+pub(crate) struct NewMessage {
+    pub(crate) form: Form,
+    pub(crate) sign: bool,
+    pub(crate) cutting: Option<Cutting>,
+    pub(crate) size: usize,
 }

@@ -35,9 +35,6 @@ pub(crate) fn put_note(sign: bool, l: &[u8], i: usize, out: &mut [u8], at: usize
     if e == i {
         return put_purpose(sign, DetailsField::In72, l, e + 1, out, at);
     }
-    let r = put_rpp(l, i, e, out, at);
-    let Step::Put(n) = r else {
-        return r;
-    };
+    let n = put_rpp(l, i, e, out, at)?;
     put_purpose(sign, DetailsField::BehindRpp, l, e + 1, out, n)
 }

@@ -29,13 +29,9 @@ pub(crate) fn put_parts(
         let e = mark_at(b'\t', l, i);
         let p = &l[i..e];
         let spoken = is_spoken(sign, role, p);
-        let r = put_line(spoken, i, p, out, at);
-        let Step::Put(n) = r else {
-            return r;
-        };
+        at = put_line(spoken, i, p, out, at)?;
         role = next_role(role, p);
-        at = n;
         i = e + 1;
     }
-    Step::Put(at)
+    Ok(at)
 }

@@ -1,7 +1,7 @@
 // Details with their code.
 ghost use Rattle.std.specs.Prelude.{◌≡◌, true, [], ◌+◌, ◌≤◌, length, take};
 ghost use Rattle.base.specs.Calls.{Puts};
-ghost use Rattle.base.specs.declared.Verdict.TheVariants.{Fine};
+ghost use Rattle.base.specs.Verdicts.{Fine};
 ghost use Rattle.fields.specs.Field.{with_cr_lf};
 ghost use Rattle.records.specs.Found.{pieces_at};
 ghost use Rattle.records.specs.Rule19.{detailed};
@@ -9,10 +9,10 @@ ghost use Rattle.details.specs.Layouts.{size_for, lines_for, is_unfit};
 ghost use Rattle.details.specs.Front.{code};
 ghost use Rattle.writer.specs.Steps.{Adds, Within, near, AddsLaid, AddsDetails};
 
-use super::Step;
 use super::texts::put_text;
+use super::{Halt, Step};
 use base::bytes::put;
-use details::{DetailsField, Size, lay, size_of};
+use details::{DetailsField, lay, size_of};
 
 // No field has room for more bytes of details, its marks and line ends counted.
 const ROOM: usize = 250;
@@ -39,13 +39,12 @@ fn lay_lines(into: DetailsField, least: usize, text: &[u8], out: &mut [u8], at: 
     requires { at ≤ near }
     ensures { Adds Fine (is_unfit (size_for into least text.now)) (with_cr_lf (lines_for into least text.now)) out.old at result out.new × Within result 0 (at + 250) }
 {
-    let size = size_of(into, least, text);
-    let Size::Bytes(n) = size else {
-        return Step::Unfit;
+    let Some(n) = size_of(into, least, text) else {
+        return Err(Halt::Unfit);
     };
     lay(into, least, text, out, at);
     put(out, at + n, b"\r\n");
-    Step::Put(at + n + 2)
+    Ok(at + n + 2)
 }
 
 // A text behind its front, which stands at the start of the line, as the lines of its field; its first byte is at o.
@@ -62,12 +61,9 @@ fn put_laid(
     requires { (length text.now ≤ 10000) × (o ≤ near) × (at ≤ near) × (length line.old ≡ 250) × (front ≤ length line.old) }
     ensures { AddsLaid sign into o (take front line.old) text.now out.old at result out.new × Within result (o + length text.now) (at + 250) }
 {
-    let r = put_text(sign, o, text, line, front);
-    let Step::Put(n) = r else {
-        return r;
-    };
+    let n = put_text(sign, o, text, line, front)?;
     if ROOM < n {
-        return Step::Unfit;
+        return Err(Halt::Unfit);
     }
     lay_lines(into, front, &line[..n], out, at)
 }

@@ -3,7 +3,7 @@ ghost use Rattle.std.specs.Prelude.{◌≡◌, true, false, [], ◌∷◌, ◌+�
 ghost use Rattle.base.specs.Choice.{pick};
 ghost use Rattle.base.specs.Calls.{said, Puts};
 ghost use Rattle.base.specs.Examples.{AllHold};
-ghost use Rattle.base.specs.declared.Verdict.TheVariants.{Fine};
+ghost use Rattle.base.specs.Verdicts.{Fine};
 ghost use Rattle.alphabets.specs.Best.{writing};
 ghost use Rattle.fields.specs.Field.{with_cr_lf, lined, message};
 ghost use Rattle.types.specs.declared.Form.TheVariants.{Mt103};
@@ -21,7 +21,7 @@ ghost use Rattle.writer.specs.Runs.{EndsAt, record_in, one_in, otherwise, held_a
 use super::Step;
 use super::built::{put_records, put_tag};
 use super::cuts::{DIGITS, tag_of};
-use super::holder::{Holder, is_between};
+use super::holder::is_between;
 use super::notes::put_rpp;
 use super::purposes::{put_purpose, put_rest};
 use base::bytes::put;
@@ -38,27 +38,27 @@ const RPP: usize = 3;
 pub(crate) struct Running {
     pub(crate) new: bool,
     pub(crate) at: usize,
-    pub(crate) holder: Holder,
+    pub(crate) holder: Option<usize>,
 }
 
 // The record that was found, else the one that starts at `start`, where the place is in its field.
-fn held_by(held: Holder, place: usize, from: usize, to: usize, start: usize) -> Holder
+fn held_by(held: Option<usize>, place: usize, from: usize, to: usize, start: usize) -> Option<usize>
     ensures { result ≡ otherwise held (held_at place from to start) }
 {
-    let Holder::Nothing = held else {
+    let None = held else {
         return held;
     };
     if is_between(place, from, to) {
-        return Holder::Record(start);
+        return Some(start);
     }
-    Holder::Nothing
+    None
 }
 
 // A field more, made of the record that starts at `start`.
 fn onward(run: Running, place: usize, step: Step, start: usize, new: bool) -> Running
     ensures { result ≡ onward_by run place step start new }
 {
-    let Step::Put(m) = step else {
+    let Ok(m) = step else {
         return run;
     };
     let held = run.holder;
@@ -73,9 +73,7 @@ fn put_both(sign: bool, l: &[u8], rest: &[u8], out: &mut [u8], at: usize) -> Ste
     ensures { Adds Fine false (with_cr_lf (lined (field_for Mt103 sign (halved [] rest.now (record_of l.now))))) out.old at result out.new × Within result 10000 (at + 400 * (length l.now + 1)) }
 {
     let n = put_tag(b"72", out, at);
-    let Step::Put(m) = put_rpp(l, RPP, l.len(), out, n) else {
-        return Step::Unfit;
-    };
+    let m = put_rpp(l, RPP, l.len(), out, n)?;
     put_rest(sign, DetailsField::BehindRpp, rest, out, m)
 }
 
@@ -199,7 +197,7 @@ pub(crate) fn put_run(
     let mut run = Running {
         new,
         at: 5,
-        holder: Holder::Nothing,
+        holder: None,
     };
     let mut i = 7;
     while i < s.len() {

@@ -5,8 +5,8 @@ ghost use Rattle.alphabets.specs.Best.{writing};
 ghost use Rattle.writer.specs.Sheet.{stopped_at};
 ghost use Rattle.writer.specs.Steps.{Adds, Within, near};
 
-use super::Step;
-use alphabets::parts::Extent;
+use super::{Halt, Step};
+use alphabets::parts::Stop;
 use alphabets::put_written;
 use base::bytes::put;
 
@@ -16,10 +16,10 @@ pub(crate) fn put_text(sign: bool, o: usize, p: &[u8], out: &mut [u8], at: usize
     ensures { Adds (stopped_at o (writing sign p.now)) false (text_of (writing sign p.now)) out.old at result out.new × Within result (o + length p.now) (at + 4 * length p.now) }
 {
     match put_written(sign, p, out, at) {
-        Extent::Takes(n) => Step::Put(at + n),
-        Extent::Halts(k) => Step::Stuck(o + k),
+        Ok(n) => Ok(at + n),
+        Err(Stop::At(k)) => Err(Halt::Stuck(o + k)),
         // never: a text of a sheet has at most 10,000 bytes, as this function asks
-        Extent::Long => Step::Stuck(o),
+        Err(Stop::Long) => Err(Halt::Stuck(o)),
     }
 }
 
@@ -28,10 +28,7 @@ pub(crate) fn put_line(sign: bool, o: usize, p: &[u8], out: &mut [u8], at: usize
     requires { (length p.now ≤ 10000) × (o ≤ near) × (at ≤ near) }
     ensures { Adds (stopped_at o (writing sign p.now)) false (text_of (writing sign p.now) ++ 13 ∷ 10 ∷ []) out.old at result out.new × Within result (o + length p.now) (at + 4 * length p.now + 2) }
 {
-    let r = put_text(sign, o, p, out, at);
-    let Step::Put(n) = r else {
-        return r;
-    };
+    let n = put_text(sign, o, p, out, at)?;
     put(out, n, b"\r\n");
-    Step::Put(n + 2)
+    Ok(n + 2)
 }

@@ -3,10 +3,9 @@ ghost use Rattle.std.specs.Prelude.{◌≤◌, length};
 ghost use Rattle.writer.specs.Sheet.{MessageTo};
 ghost use Rattle.writer.specs.Steps.{Hands};
 
-use super::Build;
 use super::built::{ROOM, build};
 use base::bytes::put;
-use base::{Outcome, Verdict};
+use base::{Outcome, Refusal};
 use message::verdict::judge;
 use types::Form;
 
@@ -15,13 +14,11 @@ fn hand_over(form: Form, m: &[u8], out: &mut [u8]) -> Outcome
     requires { length m.now ≤ length out.old }
     ensures { Hands form m.now out.old result out.new }
 {
-    let f = judge(form, m);
-    let verdict = f.verdict;
-    if let Verdict::Broken { number, place } = verdict {
-        return Outcome::Refused { number, place: 0 };
+    if let Err(Refusal { number, place: _ }) = judge(form, m) {
+        return Err(Refusal { number, place: 0 });
     }
     put(out, 0, m);
-    Outcome::Done(m.len())
+    Ok(m.len())
 }
 
 // The message for a sheet. It is built in room of its own, so that what stops half way has written nothing.
@@ -29,27 +26,19 @@ pub fn to_message(sheet: &[u8], out: &mut [u8]) -> Outcome
     ensures { MessageTo sheet.now out.old result out.new }
 {
     let mut m = [0u8; ROOM];
-    match build(sheet, &mut m) {
-        Build::Stopped { number, place } => Outcome::Refused { number, place },
-        Build::Whole {
-            form,
-            sign: _,
-            cutting: _,
-            size,
-        } => {
-            if out.len() < size {
-                return Outcome::Refused {
-                    number: 17,
-                    place: size,
-                };
-            }
-            if ROOM < size {
-                return Outcome::Refused {
-                    number: 1,
-                    place: 0,
-                };
-            }
-            hand_over(form, &m[..size], out)
-        }
+    let built = build(sheet, &mut m)?;
+    let size = built.size;
+    if out.len() < size {
+        return Err(Refusal {
+            number: 17,
+            place: size,
+        });
     }
+    if ROOM < size {
+        return Err(Refusal {
+            number: 1,
+            place: 0,
+        });
+    }
+    hand_over(built.form, &m[..size], out)
 }

@@ -7,7 +7,7 @@ use mathlib.Core.List.{List, [], ◌∷◌, map, tail}
 use Rattle.base.specs.Choice.{pick, all}
 use Rattle.base.specs.Bytes.{begins, same, is_in, digit, capital, letter, marks, shared, xset}
 use Rattle.base.specs.Quoted.{bytes}
-use Rattle.base.specs.declared.Verdict.TheVariants.{Fine}
+use Rattle.base.specs.Verdicts.{Fine}
 use Rattle.base.proofs.Bools.{left, right, both, isnt, all_append}
 use Rattle.base.proofs.ByteLaws.{digit_set, capital_set, same_is}
 use Rattle.base.specs.Rules.{Clean}

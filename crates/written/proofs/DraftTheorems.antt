@@ -6,12 +6,10 @@ use mathlib.Core.List.{List}
 use mathlib.Core.Logic.{◌↔◌, inl, inr}
 use native.Mathlib.Omega.{arith}
 use lib.ListN.{length}
+use Rattle.std.specs.Prelude.{Err}
 use Rattle.base.specs.Rules.{then, first, Clean}
-use Rattle.base.specs.Calls.{short, outcome, over, room, Gives}
-use Rattle.base.specs.declared.Verdict.{Verdict}
-use Rattle.base.specs.declared.Verdict.TheVariants.{Fine, Broken}
-use Rattle.base.specs.declared.Outcome.{Outcome}
-use Rattle.base.specs.declared.Outcome.TheVariants.{Done, Refused}
+use Rattle.base.specs.Calls.{short, over, room, Gives}
+use Rattle.base.specs.Verdicts.{Verdict, Fine, Broken, Outcome, Done, Refused, answered}
 use Rattle.base.proofs.RuleLaws.{fine_broken, then_clean, first_clean, clean_first, first_last}
 use Rattle.base.proofs.CallLaws.{gives_one, accepted, refused, not_long, not_short, short_within}
 use Rattle.fields.specs.Frame.{limit}
@@ -40,7 +38,7 @@ module _ (s out : List ℕ) (r : Outcome) (after : List ℕ) (g : DraftTo s out 
   unfolding DraftTo
   clean_done c h =
       let f : first (draft_rules s out) ≡ Fine = first_last (sheet_rules s) (short (message_for s) out) ∙ ap (λ (v : Verdict). then v (short (message_for s) out)) (clean_first (sheet_rules s) c) ∙ not_short (message_for s) out h in
-      (g.answers ∙ ap (λ (v : Verdict). outcome v (length (message_for s))) f, g.leaves ∙ ap (λ (v : Verdict). room v (message_for s) out) f)
+      (g.answers ∙ ap (λ (v : Verdict). answered v (length (message_for s))) f, g.leaves ∙ ap (λ (v : Verdict). room v (message_for s) out) f)
 
   -- the message is given exactly if no rule of the sheet is broken and there is room for it, whatever its own rules say
   pub draft_done : (Clean (sheet_rules s) × (length (message_for s) ≤ length out)) ↔ ((r ≡ Done (length (message_for s))) × (after ≡ over (message_for s) out))
@@ -90,8 +88,8 @@ module _ (s out : List ℕ) (r : Outcome) (after : List ℕ) (g : DraftTo s out 
       where
         passed : (v : Verdict) → first (sheet_rules s) ≡ v → then v (then (short (message_for s) out) (own_rule s)) ≡ Broken n 0 → first (sheet_rules s) ≡ Fine
         passed Fine f e = f
-        passed (Broken j p) f e = absurd (other (f ∙ e))
+        passed (Err r) f e = absurd (other (f ∙ e))
 
         roomy : (v : Verdict) → short (message_for s) out ≡ v → then v (own_rule s) ≡ Broken n 0 → short (message_for s) out ≡ Fine
         roomy Fine f e = f
-        roomy (Broken j p) f e = absurd (not_own (short_broken s out n 0 (f ∙ e)).0 (omega arith))
+        roomy (Err r) f e = absurd (not_own (short_broken s out n 0 (f ∙ e)).0 (omega arith))

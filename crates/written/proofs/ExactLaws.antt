@@ -8,16 +8,16 @@ use mathlib.Core.Logic.{◌↔◌}
 use native.Mathlib.Omega.{arith}
 use lib.Dec.{eqb}
 use lib.ListN.{length, take, drop}
+use Rattle.std.specs.Prelude.{Err}
 use Rattle.types.specs.declared.Form.{Form}
 use Rattle.types.specs.declared.Form.TheVariants.{Mt103}
 use Rattle.base.specs.Choice.{pick, all}
 use Rattle.base.specs.Bytes.{xset}
 use Rattle.base.specs.Rules.{then}
 use Rattle.base.specs.Calls.{Answer, said, stuck, text_of}
-use Rattle.base.specs.declared.Verdict.{Verdict}
-use Rattle.base.specs.declared.Verdict.TheVariants.{Fine, Broken}
+use Rattle.base.specs.Verdicts.{Verdict, Fine, Broken}
 use Rattle.base.proofs.Bools.{left, right, both, isnt, or_right, all_behind}
-use Rattle.base.proofs.RuleLaws.{fine_broken}
+use Rattle.base.proofs.RuleLaws.{fine_broken, same_broken}
 use Rattle.base.proofs.CallLaws.{not_said}
 use Rattle.base.specs.Examples.{AllHold}
 use Rattle.alphabets.specs.Sentences.{FirstFails}
@@ -88,8 +88,8 @@ module _ (s : Bool) where
   part_broken : (o : ℕ) (x : Part) (xs : List Part) (n p : ℕ) (a : Answer) → said_part s x ≡ a → then (stopped_at o a) (unsaid s (o + length (line_of x) + 1) xs) ≡ Broken n p
       → (unsaid s (o + length (line_of x) + 1) xs ≡ Broken n p → (n ≡ 15) × StuckPart s (o + length (line_of x) + 1) xs p) → (n ≡ 15) × StuckPart s o (x ∷ xs) p
   part_broken o x xs n p (stuck k) q e ih =
-      let f : n ≡ 15 = cc in
-      let g : p ≡ o + k = cc in
+      let f : n ≡ 15 = sym (same_broken e).0 in
+      let g : p ≡ o + k = sym (same_broken e).1 in
       (f, record { before = []; this = x; behind = xs; list = refl; fine = tt; bad = stuck_unwritable x k q; at = k; first = (part_stuck x k).0 q; place = omega arith })
   part_broken o x xs n p (said t) q e ih =
       let h : (n ≡ 15) × StuckPart s (o + length (line_of x) + 1) xs p = ih e in
@@ -138,7 +138,7 @@ module _ (s : Bool) where
     record_broken : (o : ℕ) (t : List ℕ) (ps : List (List ℕ)) (rs : List Record) (n p : ℕ) (v : Verdict) → unsaid s (o + length t + 1) (cast_parts (shape_of form t) ps) ≡ v
         → then v (rule_15 form s (next_record o (field t ps)) rs) ≡ Broken n p
         → (rule_15 form s (next_record o (field t ps)) rs ≡ Broken n p → (n ≡ 15) × StuckAt form s (next_record o (field t ps)) rs p) → (n ≡ 15) × StuckAt form s o (field t ps ∷ rs) p
-    record_broken o t ps rs n p (Broken m q) u e ih =
+    record_broken o t ps rs n p (Err r) u e ih =
         let h = parts_broken (o + length t + 1) (cast_parts (shape_of form t) ps) n p (u ∙ e) in
         let z : o + length t + 1 ≡ o + 0 + length t + 1 = omega arith in (
           h.0,
@@ -308,5 +308,5 @@ module _ (s : Bool) where
     rule_16_number rs n p e = go (some_crowded form s (run_on form s rs)) e
       where
         go : (b : Bool) → pick b (Broken 16 0) Fine ≡ Broken n p → (n ≡ 16) × (p ≡ 0)
-        go true e = (cc, cc)
+        go true e = (sym (same_broken e).0, sym (same_broken e).1)
         go false e = absurd (fine_broken n p e)

@@ -9,11 +9,11 @@ use native.Mathlib.Decide.{dec_lt}
 use lib.Dec.{eqb}
 use lib.ListN.{length, take, drop, length-append}
 use borrow.Author.Tests.{eqb-true, lt-leb, le-leb, lt-ltb, le-ltb}
+use Rattle.std.specs.Prelude.{Err, Option, None, Some}
 use Rattle.base.specs.Choice.{pick}
 use Rattle.base.specs.Bytes.{same}
 use Rattle.base.specs.Rules.{first, Clean}
-use Rattle.base.specs.declared.Verdict.{Verdict}
-use Rattle.base.specs.declared.Verdict.TheVariants.{Fine, Broken}
+use Rattle.base.specs.Verdicts.{Verdict, Fine, Broken}
 use Rattle.base.proofs.RuleLaws.{first_clean, clean_first, first_broken, broken_first}
 use Rattle.base.proofs.ByteLaws.{same_is, same_refl}
 use Rattle.base.proofs.CallLaws.{one_answer}
@@ -39,8 +39,6 @@ use Rattle.runon.proofs.RecordLaws.{halved_70, halved_72, halved_not}
 use Rattle.writer.specs.Spread.{field_for, spread}
 use Rattle.writer.specs.Sheet.{fields_of, message_for, sheet_rules}
 use Rattle.writer.specs.Holder.{lies_in, holder_in, sources, start_70, is_cut, has_new, behind_first, unless_refused, holder_of}
-use Rattle.writer.specs.declared.holder.Holder.{Holder}
-use Rattle.writer.specs.declared.holder.Holder.TheVariants as holder
 use Rattle.writer.proofs.RuleLaws.{sheet_rules_lem}
 use Rattle.written.specs.Held as held
 use Rattle.written.specs.Held.{made_of, StartsAt, FieldAt, HeldBy, its_own, run_over, Unheld}
@@ -48,7 +46,7 @@ use Rattle.written.specs.Sentences.{OneByOne}
 use Rattle.written.proofs.RunLaws.{one_70}
 
 -- any two answers are equal
-pub holder_one : (s : List ℕ) (p : ℕ) {r q : Holder} → r ≡ holder_of s p → q ≡ holder_of s p → r ≡ q
+pub holder_one : (s : List ℕ) (p : ℕ) {r q : Option ℕ} → r ≡ holder_of s p → q ≡ holder_of s p → r ≡ q
 holder_one s p e f = one_answer e f
 
 -- ---- a place inside or outside
@@ -65,7 +63,7 @@ where_is p from to = go (dec_lt p from) (dec_lt p to)
     go (no h) (yes l) = let f : from ≤ p = omega arith in inside f l (rw (le-leb from p f, lt-ltb p to l))
     go (no h) (no l) = let f : from ≤ p = omega arith in let t : to ≤ p = omega arith in outside (inr t) (rw (le-leb from p f, le-ltb p to t))
 
-nothing_record : {k : ℕ} → holder.Nothing ≡ holder.Record k → ⊥
+nothing_record : {k : ℕ} → None ≡ Some k → ⊥
 nothing_record e = let z : ◌≡◌ {A = ℕ} 0 1 = cc in omega arith
 
 -- ---- one of the records, with its place among the places
@@ -122,18 +120,18 @@ module _ (form : Form) (g : Bool) where
       pub from : o + width form g before ≤ p
       pub to : p < o + width form g before + own this
 
-    abbrev at : Bool → ℕ → ℕ → List ℕ → Record → List Record → Holder
-    at b o i is r us = pick b (holder.Record i) (holder_in p (fields.next_of o (field_for form g r)) is (spread form g us))
+    abbrev at : Bool → ℕ → ℕ → List ℕ → Record → List Record → Option ℕ
+    at b o i is r us = pick b (Some i) (holder_in p (fields.next_of o (field_for form g r)) is (spread form g us))
 
-    found : (us : List Record) (is : List ℕ) (o k : ℕ) → holder_in p o is (spread form g us) ≡ holder.Record k → Found o us is k
+    found : (us : List Record) (is : List ℕ) (o k : ℕ) → holder_in p o is (spread form g us) ≡ Some k → Found o us is k
     unfolding holder_in spread
     found us [] o k e = absurd (nothing_record e)
     found [] (i ∷ is) o k e = absurd (nothing_record e)
     found (r ∷ us) (i ∷ is) o k e = go (where_is p o (fields.next_of o (field_for form g r))) (found us is (fields.next_of o (field_for form g r)) k)
       where
-        go : Where p o (fields.next_of o (field_for form g r)) → (holder_in p (fields.next_of o (field_for form g r)) is (spread form g us) ≡ holder.Record k → Found (fields.next_of o (field_for form g r)) us is k) → Found o (r ∷ us) (i ∷ is) k
+        go : Where p o (fields.next_of o (field_for form g r)) → (holder_in p (fields.next_of o (field_for form g r)) is (spread form g us) ≡ Some k → Found (fields.next_of o (field_for form g r)) us is k) → Found o (r ∷ us) (i ∷ is) k
         go (inside h l t) f =
-            let z : holder.Record i ≡ holder.Record k = sym (ap (λ (b : Bool). at b o i is r us) t) ∙ e in
+            let z : Some i ≡ Some k = sym (ap (λ (b : Bool). at b o i is r us) t) ∙ e in
             let y : i ≡ k = cc in
             record { before = []; this = r; behind = us; pick_is = subst (λ (j : ℕ). Pick (r ∷ us) (i ∷ is) [] r us j) y here; from = omega (arith, width_none); to = omega (arith, width_none) }
         go (outside w t) f =
@@ -143,11 +141,11 @@ module _ (form : Form) (g : Bool) where
 
     -- and any record that has the place is found
     hit : {us before behind : List Record} {this : Record} {is : List ℕ} {k : ℕ} → Pick us is before this behind k → (o : ℕ) → o + width form g before ≤ p → p < o + width form g before + own this
-        → holder_in p o is (spread form g us) ≡ holder.Record k
+        → holder_in p o is (spread form g us) ≡ Some k
     unfolding holder_in spread
     hit (here {q = q} {us = us} {k = k} {is = is}) o h l = go (where_is p o (fields.next_of o (field_for form g q)))
       where
-        go : Where p o (fields.next_of o (field_for form g q)) → at (lies_in p o (fields.next_of o (field_for form g q))) o k is q us ≡ holder.Record k
+        go : Where p o (fields.next_of o (field_for form g q)) → at (lies_in p o (fields.next_of o (field_for form g q))) o k is q us ≡ Some k
         go (inside a b t) = ap (λ (b : Bool). at b o k is q us) t
         go (outside (inl a) t) = absurd (omega (arith, width_none))
         go (outside (inr a) t) = absurd (omega (arith, width_none))
@@ -155,13 +153,13 @@ module _ (form : Form) (g : Bool) where
         let c = width_cons u before in
         go (where_is p o (fields.next_of o (field_for form g u))) (hit w (fields.next_of o (field_for form g u)) (omega (arith, c)) (omega (arith, c)))
       where
-        go : Where p o (fields.next_of o (field_for form g u)) → holder_in p (fields.next_of o (field_for form g u)) is (spread form g us) ≡ holder.Record k
-            → at (lies_in p o (fields.next_of o (field_for form g u))) o i is u us ≡ holder.Record k
+        go : Where p o (fields.next_of o (field_for form g u)) → holder_in p (fields.next_of o (field_for form g u)) is (spread form g us) ≡ Some k
+            → at (lies_in p o (fields.next_of o (field_for form g u))) o i is u us ≡ Some k
         go (inside a b t) f = absurd (omega (arith, width_cons u before))
         go (outside v t) f = ap (λ (b : Bool). at b o i is u us) t ∙ f
 
     -- none is found exactly where the place is before the first field or behind the last
-    missed : (us : List Record) (is : List ℕ) (o : ℕ) → Paired us is → holder_in p o is (spread form g us) ≡ holder.Nothing → (p < o) ⊎ (o + width form g us ≤ p)
+    missed : (us : List Record) (is : List ℕ) (o : ℕ) → Paired us is → holder_in p o is (spread form g us) ≡ None → (p < o) ⊎ (o + width form g us ≤ p)
     unfolding holder_in spread
     missed [] [] o v e = go (dec_lt p o)
       where
@@ -176,19 +174,19 @@ module _ (form : Form) (g : Bool) where
         on h (inl l) = absurd (omega arith)
         on h (inr l) = inr (omega (arith, width_cons r us))
 
-        go : Where p o (fields.next_of o (field_for form g r)) → (holder_in p (fields.next_of o (field_for form g r)) is (spread form g us) ≡ holder.Nothing → (p < fields.next_of o (field_for form g r)) ⊎ (fields.next_of o (field_for form g r) + width form g us ≤ p)) → (p < o) ⊎ (o + width form g (r ∷ us) ≤ p)
+        go : Where p o (fields.next_of o (field_for form g r)) → (holder_in p (fields.next_of o (field_for form g r)) is (spread form g us) ≡ None → (p < fields.next_of o (field_for form g r)) ⊎ (fields.next_of o (field_for form g r) + width form g us ≤ p)) → (p < o) ⊎ (o + width form g (r ∷ us) ≤ p)
         go (inside h l t) f = absurd (nothing_record (sym e ∙ ap (λ (b : Bool). at b o i is r us) t))
         go (outside (inl h) t) f = inl h
         go (outside (inr h) t) f = on h (f (sym (ap (λ (b : Bool). at b o i is r us) t) ∙ e))
 
-    miss : (us : List Record) (is : List ℕ) (o : ℕ) → (p < o) ⊎ (o + width form g us ≤ p) → holder_in p o is (spread form g us) ≡ holder.Nothing
+    miss : (us : List Record) (is : List ℕ) (o : ℕ) → (p < o) ⊎ (o + width form g us ≤ p) → holder_in p o is (spread form g us) ≡ None
     unfolding holder_in spread
     miss us [] o w = refl
     miss [] (i ∷ is) o w = refl
     miss (r ∷ us) (i ∷ is) o w = go (where_is p o (fields.next_of o (field_for form g r))) w (miss us is (fields.next_of o (field_for form g r)))
       where
-        go : Where p o (fields.next_of o (field_for form g r)) → (p < o) ⊎ (o + width form g (r ∷ us) ≤ p) → ((p < fields.next_of o (field_for form g r)) ⊎ (fields.next_of o (field_for form g r) + width form g us ≤ p) → holder_in p (fields.next_of o (field_for form g r)) is (spread form g us) ≡ holder.Nothing)
-            → at (lies_in p o (fields.next_of o (field_for form g r))) o i is r us ≡ holder.Nothing
+        go : Where p o (fields.next_of o (field_for form g r)) → (p < o) ⊎ (o + width form g (r ∷ us) ≤ p) → ((p < fields.next_of o (field_for form g r)) ⊎ (fields.next_of o (field_for form g r) + width form g us ≤ p) → holder_in p (fields.next_of o (field_for form g r)) is (spread form g us) ≡ None)
+            → at (lies_in p o (fields.next_of o (field_for form g r))) o i is r us ≡ None
         go (inside h l t) (inl a) f = absurd (omega arith)
         go (inside h l t) (inr a) f = absurd (omega (arith, width_cons r us))
         go (outside w t) (inl a) f = ap (λ (b : Bool). at b o i is r us) t ∙ f (inl (omega arith))
@@ -369,14 +367,14 @@ module _ (s : List ℕ) (p : ℕ) where
   abbrev is : List ℕ
   is = behind_first form g (records s)
 
-  abbrev held_at : Holder
+  abbrev held_at : Option ℕ
   held_at = holder_in p (length opening) is (spread form g us)
 
   of_clean : first (sheet_rules s) ≡ Fine → holder_of s p ≡ held_at
   unfolding holder_of fields_of
   of_clean e = ap (λ (v : Verdict). unless_refused v held_at) e
 
-  of_refused : {n q : ℕ} → first (sheet_rules s) ≡ Broken n q → holder_of s p ≡ holder.Nothing
+  of_refused : {n q : ℕ} → first (sheet_rules s) ≡ Broken n q → holder_of s p ≡ None
   unfolding holder_of fields_of
   of_refused e = ap (λ (v : Verdict). unless_refused v held_at) e
 
@@ -469,7 +467,7 @@ module _ (s : List ℕ) (p : ℕ) where
 
   -- the answer names a record exactly if none of the sheet's rules is broken and that record's field has the place, or a new 72 has it, whose text
   -- runs on from that record
-  pub record_iff : (i : ℕ) → (holder_of s p ≡ holder.Record i) ↔ (Clean (sheet_rules s) × HeldBy s p i)
+  pub record_iff : (i : ℕ) → (holder_of s p ≡ Some i) ↔ (Clean (sheet_rules s) × HeldBy s p i)
   unfolding starts field_at
   record_iff i = ((λ e. named (first (sheet_rules s)) refl e), λ w. back w.0 w.1)
     where
@@ -485,7 +483,7 @@ module _ (s : List ℕ) (p : ℕ) where
           run_over (starts h f.before (field tag_70 f.parts) f.behind f.list i (z ∙ ap (start_70 (next_record 0 h.head)) f.list ∙ b))
           (field_at before (field t qs) behind l from to) m.0 e refl
 
-      held_in : Clean (sheet_rules s) → held_at ≡ holder.Record i → HeldBy s p i
+      held_in : Clean (sheet_rules s) → held_at ≡ Some i → HeldBy s p i
       held_in c e = go (sound_of c) (found form g p us is (length opening) i e)
         where
           by : (h : SoundSheet s) (before behind : List Record) (this : Record) → Pick us is before this behind i → length opening + width form g before ≤ p → p < length opening + width form g before + own form g this → HeldBy s p i
@@ -494,12 +492,12 @@ module _ (s : List ℕ) (p : ℕ) where
           go : SoundSheet s → Found form g p (length opening) us is i → HeldBy s p i
           go h f = by h f.before f.behind f.this f.pick_is f.from f.to
 
-      named : (v : Verdict) → first (sheet_rules s) ≡ v → holder_of s p ≡ holder.Record i → Clean (sheet_rules s) × HeldBy s p i
-      named (Broken n q) f e = absurd (nothing_record (sym (of_refused f) ∙ e))
+      named : (v : Verdict) → first (sheet_rules s) ≡ v → holder_of s p ≡ Some i → Clean (sheet_rules s) × HeldBy s p i
+      named (Err r) f e = absurd (nothing_record (sym (of_refused f) ∙ e))
       named Fine f e = let c = first_clean (sheet_rules s) f in (c, held_in c (sym (of_clean f) ∙ e))
 
       -- the field has the place, so its record is found
-      reached : Clean (sheet_rules s) → (f : FieldAt s p) → (k : ℕ) × (held_at ≡ holder.Record k) × Pick us is f.before f.this f.behind k
+      reached : Clean (sheet_rules s) → (f : FieldAt s p) → (k : ℕ) × (held_at ≡ Some k) × Pick us is f.before f.this f.behind k
       reached c f =
           let h = sound_of c in
           let w = picked f.before f.this f.behind is (subst (λ (x : List Record). Paired x is) f.list (all_paired (is_sourced h))) in
@@ -511,37 +509,37 @@ module _ (s : List ℕ) (p : ℕ) where
           → From (NewNote rs) (start_70 (next_record 0 h.head) rs) (next_record 0 h.head) rs before (tag_of q) k
       came_from h (field t qs) w = source (is_sourced h) w
 
-      back : Clean (sheet_rules s) → HeldBy s p i → holder_of s p ≡ holder.Record i
+      back : Clean (sheet_rules s) → HeldBy s p i → holder_of s p ≡ Some i
       back c (its_own r f e n) =
           let w = reached c f in
           let h = sound_of c in
           let k = start_of h r in
-          of_clean (clean_first (sheet_rules s) c) ∙ w.1 ∙ ap holder.Record (same_own h (came_from h f.this w.2) r.before r.this r.behind k.0 k.1 e n)
+          of_clean (clean_first (sheet_rules s) c) ∙ w.1 ∙ ap Some (same_own h (came_from h f.this w.2) r.before r.this r.behind k.0 k.1 e n)
       back c (run_over r f z e d) =
           let w = reached c f in
           let h = sound_of c in
           let k = start_of h r in
-          of_clean (clean_first (sheet_rules s) c) ∙ w.1 ∙ ap holder.Record (same_new h (came_from h f.this w.2) r.before r.this r.behind k.0 k.1 z e d)
+          of_clean (clean_first (sheet_rules s) c) ∙ w.1 ∙ ap Some (same_new h (came_from h f.this w.2) r.before r.this r.behind k.0 k.1 z e d)
 
   -- it names none exactly if a rule of the sheet stands or the place is in no field
-  pub nothing_iff : (holder_of s p ≡ holder.Nothing) ↔ Unheld s p
+  pub nothing_iff : (holder_of s p ≡ None) ↔ Unheld s p
   nothing_iff = ((λ e. unnamed (first (sheet_rules s)) refl e), back)
     where
       edge : (p < length opening) ⊎ (length opening + width form g us ≤ p) → Unheld s p
       edge (inl h) = held.opens h
       edge (inr h) = held.closes (omega (arith, message_size))
 
-      unnamed : (v : Verdict) → first (sheet_rules s) ≡ v → holder_of s p ≡ holder.Nothing → Unheld s p
-      unnamed (Broken n q) f e = held.refused (first_broken (sheet_rules s) n q f)
+      unnamed : (v : Verdict) → first (sheet_rules s) ≡ v → holder_of s p ≡ None → Unheld s p
+      unnamed (Err r) f e = held.refused (first_broken (sheet_rules s) r.number r.place f)
       unnamed Fine f e =
           let h = fine_sound s (sheet_rules_lem s (first_clean (sheet_rules s) f)).sound in
           edge (missed form g p us is (length opening) (all_paired (is_sourced h)) (sym (of_clean f) ∙ e))
 
-      unless : (v : Verdict) → first (sheet_rules s) ≡ v → (p < length opening) ⊎ (length opening + width form g us ≤ p) → holder_of s p ≡ holder.Nothing
-      unless (Broken n q) f w = of_refused f
+      unless : (v : Verdict) → first (sheet_rules s) ≡ v → (p < length opening) ⊎ (length opening + width form g us ≤ p) → holder_of s p ≡ None
+      unless (Err r) f w = of_refused f
       unless Fine f w = of_clean f ∙ miss form g p us is (length opening) w
 
-      back : Unheld s p → holder_of s p ≡ holder.Nothing
+      back : Unheld s p → holder_of s p ≡ None
       back (held.refused {n} {q} f) = of_refused (broken_first (sheet_rules s) n q f)
       back (held.opens h) = unless (first (sheet_rules s)) refl (inl h)
       back (held.closes h) = unless (first (sheet_rules s)) refl (inr (omega (arith, message_size)))

@@ -23,8 +23,7 @@ use Rattle.records.specs.Sentences as sentences
 use Rattle.details.specs.Layouts.{layout, marked, fit_lines, lines_for, size_for, is_unfit}
 use Rattle.details.specs.declared.DetailsField.{DetailsField}
 use Rattle.details.specs.declared.DetailsField.TheVariants.{In70, In72, BehindRpp}
-use Rattle.details.specs.declared.Size.{Size}
-use Rattle.details.specs.declared.Size.TheVariants.{Bytes, Unfit}
+use Rattle.std.specs.Prelude.{Option, Some, None}
 use Rattle.details.proofs.LineLaws.{rows_join}
 use Rattle.details.proofs.DivisionTheorems.{Fitted, fitted}
 use Rattle.alphabets.proofs.Theorems.{shortest_iff}
@@ -52,8 +51,8 @@ module _ (s : Bool) where
   unfolding lines_for
   details_made into front text e u = go (size_for into (length front) (front ++ bank_of s text)) refl u
     where
-      go : (z : Size) → size_for into (length front) (front ++ bank_of s text) ≡ z → not (not (is_unfit z)) ≡ false → WrittenDetails s into front text (laid_lines s into front text)
-      go (Bytes n) f u =
+      go : (z : Option ℕ) → size_for into (length front) (front ++ bank_of s text) ≡ z → not (not (is_unfit z)) ≡ false → WrittenDetails s into front text (laid_lines s into front text)
+      go (Some n) f u =
           let w : Fitted into (length front) (front ++ bank_of s text) n = fitted into (length front) (front ++ bank_of s text) n f in
           record {
             spelt = bank_of s text;
@@ -64,7 +63,7 @@ module _ (s : Bool) where
             division = w.division;
             fullest = w.fullest;
           }
-      go Unfit f u = absurd (true≢false u)
+      go None f u = absurd (true≢false u)
 
   note_made : (r vo text : List ℕ) → is_digits 5 vo ≡ true → speaks s (name text) ≡ true → not (fits_in s (note_field r) (code s vo) text) ≡ false
       → Content s Note202 (r ∷ vo ∷ text ∷ []) (rpp_lines r ++ laid_lines s (note_field r) (code s vo) text)

@@ -8,11 +8,11 @@ use native.Mathlib.Omega.{arith}
 use lib.Dec.{eqb}
 use lib.ListN.{length, take, drop}
 use borrow.Author.Tests.{eqb-true, eqb-false, le-ltb}
+use Rattle.std.specs.Prelude.{None, Some}
 use Rattle.base.specs.Choice.{pick, all}
 use Rattle.base.specs.Bytes.{empty, same}
 use Rattle.base.specs.Rules.{Clean}
-use Rattle.base.specs.declared.Verdict.{Verdict}
-use Rattle.base.specs.declared.Verdict.TheVariants.{Fine}
+use Rattle.base.specs.Verdicts.{Verdict, Fine}
 use Rattle.base.proofs.Bools.{left, right, isnt}
 use Rattle.fields.specs.Field.{field, fields}
 use Rattle.fields.specs.Places.{start_of, next_of}
@@ -24,7 +24,6 @@ use Rattle.contents.specs.Parts.{opens_rpp}
 use Rattle.roles.specs.Speech.{Speech, speech, as_details, later_text, nzp_size, later_size, details_speech, note_speeches}
 use Rattle.roles.specs.Places.{verdict_at}
 use Rattle.roles.specs.Rule21.{most, size_70, size_72, over_from, over_most, of_first, bytes_in_70, rule_21}
-use Rattle.roles.specs.declared.Spot.TheVariants.{Nowhere, At}
 use Rattle.roles.specs.declared.Shape.{Shape}
 use Rattle.roles.specs.declared.Shape.TheVariants.{Details, Note103}
 use Rattle.records.specs.Record.{Record, records}
@@ -48,18 +47,18 @@ abbrev Few : ℕ → List Speech → Type 0
 Few n [] = Unit {0}
 Few n (speech m o t ∷ xs) = n + length t ≤ most
 
-few_from : (n o p : ℕ) (ls : List (List ℕ)) → Few n (details_speech nzp_size later_size p ls) → over_from n o ls ≡ Nowhere
+few_from : (n o p : ℕ) (ls : List (List ℕ)) → Few n (details_speech nzp_size later_size p ls) → over_from n o ls ≡ None
 unfolding details_speech
 few_from n o p [] f = refl
-few_from n o p (l ∷ ls) f = ap (λ (b : Bool). pick b (At o) Nowhere) (le-ltb most (n + size_72 (l ∷ ls)) f)
+few_from n o p (l ∷ ls) f = ap (λ (b : Bool). pick b (Some o) None) (le-ltb most (n + size_72 (l ∷ ls)) f)
 
-few_over : (n : ℕ) (ls : List (List ℕ)) → Few n (note_speeches nzp_size 0 ls) → over_most n ls ≡ Nowhere
+few_over : (n : ℕ) (ls : List (List ℕ)) → Few n (note_speeches nzp_size 0 ls) → over_most n ls ≡ None
 unfolding note_speeches over_most
 few_over n [] f = refl
 few_over n (l ∷ ls) f = go (opens_rpp l) f
   where
     go : (b : Bool) → Few n (pick b (details_speech nzp_size later_size (0 + length l + 2) ls) (details_speech nzp_size later_size 0 (l ∷ ls)))
-        → pick b (over_from n (length l + 2) ls) (over_from n 0 (l ∷ ls)) ≡ Nowhere
+        → pick b (over_from n (length l + 2) ls) (over_from n 0 (l ∷ ls)) ≡ None
     go true f = few_from n (length l + 2) (0 + length l + 2) ls f
     go false f = few_from n 0 0 (l ∷ ls) f
 

@@ -7,11 +7,11 @@ use mathlib.Core.Logic.{inl, inr}
 use native.Mathlib.Omega.{arith}
 use lib.Dec.{ltb}
 use lib.ListN.{length}
+use Rattle.std.specs.Prelude.{Err}
 use Rattle.base.specs.Choice.{pick}
 use Rattle.base.specs.Calls.{long}
-use Rattle.base.specs.declared.Verdict.{Verdict}
-use Rattle.base.specs.declared.Verdict.TheVariants.{Fine, Broken}
-use Rattle.base.proofs.RuleLaws.{fine_broken}
+use Rattle.base.specs.Verdicts.{Verdict, Fine, Broken}
+use Rattle.base.proofs.RuleLaws.{fine_broken, same_broken}
 use Rattle.fields.specs.Field.{fields}
 use Rattle.fields.specs.Frame.{limit, rule_1}
 use Rattle.fields.specs.Places.{start_of}
@@ -52,7 +52,7 @@ unfolding rule_1 long
 gives_1 m n p e = inl (go (ltb limit (length m)) e)
   where
     go : (b : Bool) → pick b (Broken 1 limit) Fine ≡ Broken n p → n ≡ 1
-    go true e = cc
+    go true e = sym (same_broken e).0
     go false e = absurd (fine_broken n p e)
 
 faulty : {ps : List Place} {next : ℕ} {t : List ℕ} {n : ℕ} → Judged ps next t n → (n ≡ 0 → ⊥) → Own n
@@ -109,10 +109,10 @@ module _ (s : List ℕ) (c : Clean (sheet_rules s)) where
     where
       go : (v : Verdict) → verdict_of (sheet_form s) (message_for s) ≡ v → at_start v ≡ Broken n p → Own n × (p ≡ 0)
       go Fine f e = absurd (fine_broken n p e)
-      go (Broken m q) f e =
-          let a : m ≡ n = cc in
-          let b : p ≡ 0 = cc in
-          (own_numbers n q (f ∙ ap (λ (k : ℕ). Broken k q) a), b)
+      go (Err r) f e =
+          let a : r.number ≡ n = (same_broken e).0 in
+          let b : p ≡ 0 = sym (same_broken e).1 in
+          (own_numbers n r.place (f ∙ ap (λ (k : ℕ). Broken k r.place) a), b)
 
   -- the message is refused exactly if the sheet is, once there is room
   pub own_fine : own_rule s ≡ Fine → verdict_of (sheet_form s) (message_for s) ≡ Fine
@@ -120,4 +120,4 @@ module _ (s : List ℕ) (c : Clean (sheet_rules s)) where
     where
       go : (v : Verdict) → verdict_of (sheet_form s) (message_for s) ≡ v → at_start v ≡ Fine → verdict_of (sheet_form s) (message_for s) ≡ Fine
       go Fine f e = f
-      go (Broken m q) f e = absurd (fine_broken m 0 (sym e))
+      go (Err r) f e = absurd (fine_broken r.number 0 (sym e))

@@ -13,8 +13,7 @@ use Rattle.base.specs.Bytes.{empty, is_in, digit, capital, letter, marks, shared
 use Rattle.base.specs.Quoted.{bytes}
 use Rattle.base.specs.Rules.{then}
 use Rattle.base.specs.Calls.{Answer, said, stuck, text_of}
-use Rattle.base.specs.declared.Verdict.{Verdict}
-use Rattle.base.specs.declared.Verdict.TheVariants.{Fine, Broken}
+use Rattle.base.specs.Verdicts.{Verdict, Fine, Broken}
 use Rattle.base.proofs.Bools.{left, right, both, all_append, all_front, all_behind}
 use Rattle.base.proofs.RuleLaws.{fine_broken, then_clean}
 use Rattle.alphabets.specs.Bank.{plainly}

@@ -16,8 +16,7 @@ use Rattle.base.specs.Choice.{pick}
 use Rattle.base.specs.Bytes.{empty, same}
 use Rattle.base.specs.Rules.{last_number, first}
 use Rattle.base.specs.Calls.{Answer, said, stuck, text_of}
-use Rattle.base.specs.declared.Verdict.TheVariants.{Broken}
-use Rattle.base.specs.declared.Outcome.TheVariants.{Done, Refused}
+use Rattle.base.specs.Verdicts.{Broken, Done, Refused}
 use Rattle.base.proofs.RuleLaws.{same_broken}
 use Rattle.base.proofs.CallLaws.{refused, is_long, within_limit}
 use Rattle.alphabets.specs.Best.{writing}
@@ -40,8 +39,7 @@ use Rattle.records.proofs.PlaceLaws.{size_sheet, width_of, size_tabbed}
 use Rattle.details.specs.Layouts.{lines_for, size_for}
 use Rattle.details.specs.declared.DetailsField.{DetailsField}
 use Rattle.details.specs.declared.DetailsField.TheVariants.{In70, In72, BehindRpp}
-use Rattle.details.specs.declared.Size.{Size}
-use Rattle.details.specs.declared.Size.TheVariants.{Bytes, Unfit}
+use Rattle.std.specs.Prelude.{Option, Some, None}
 use Rattle.details.specs.Front.{code, rpp_line}
 use Rattle.runon.specs.Run.{bank_of}
 use Rattle.runon.specs.RunOn.{tag_70, tag_72, tag_77B, tagged, how_many, second_part, text_in, halved, new_note, run_as, run_on}
@@ -80,9 +78,9 @@ cast_size s sh ps = omega (arith, parts_size_lem s (cast sh ps), ap width_of (sa
 details_size : (p : DetailsField) (least : ℕ) (text : List ℕ) → lines.lines_size (lines_for p least text) ≤ 250
 details_size p least text = go (size_for p least text) refl
   where
-    go : (z : Size) → size_for p least text ≡ z → lines.lines_size (lines_for p least text) ≤ 250
-    go (Bytes n) e = omega (arith, lines_few p least text n (sym e), crlf_size (lines_for p least text))
-    go Unfit e = omega (arith, ap lines.lines_size (unfit_lines p least text e))
+    go : (z : Option ℕ) → size_for p least text ≡ z → lines.lines_size (lines_for p least text) ≤ 250
+    go (Some n) e = omega (arith, lines_few p least text n (sym e), crlf_size (lines_for p least text))
+    go None e = omega (arith, ap lines.lines_size (unfit_lines p least text e))
 
 -- 72: perhaps an RPP line, and what goes behind it into its lines
 note_size : (behind : DetailsField → List (List ℕ) → List (List ℕ)) → ((into : DetailsField) (ps : List (List ℕ)) → lines.lines_size (behind into ps) ≤ 250)

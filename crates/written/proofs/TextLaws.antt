@@ -9,7 +9,7 @@ use Rattle.types.specs.declared.Form.{Form}
 use Rattle.base.specs.Choice.{all}
 use Rattle.base.specs.Bytes.{empty}
 use Rattle.base.specs.Calls.{Answer, said, text_of}
-use Rattle.base.specs.declared.Verdict.TheVariants.{Fine}
+use Rattle.base.specs.Verdicts.{Fine}
 use Rattle.base.proofs.Bools.{left, right, both, isnt, all_imp}
 use Rattle.base.specs.Rules.{Clean}
 use Rattle.alphabets.specs.Bank.{reading}

@@ -9,13 +9,11 @@ use native.Mathlib.Omega.{arith}
 use lib.Dec.{eqb, ltb}
 use lib.ListN.{length}
 use borrow.Author.Tests.{ltb-true, ne_eqb}
+use Rattle.std.specs.Prelude.{Err}
 use Rattle.base.specs.Choice.{pick}
 use Rattle.base.specs.Rules.{then, first, Clean, FirstOf}
-use Rattle.base.specs.Calls.{long, short, outcome, over, room, Gives}
-use Rattle.base.specs.declared.Verdict.{Verdict}
-use Rattle.base.specs.declared.Verdict.TheVariants.{Fine, Broken}
-use Rattle.base.specs.declared.Outcome.{Outcome}
-use Rattle.base.specs.declared.Outcome.TheVariants.{Done, Refused}
+use Rattle.base.specs.Calls.{long, short, over, room, Gives}
+use Rattle.base.specs.Verdicts.{Verdict, Fine, Broken, Outcome, Done, Refused, answered}
 use Rattle.base.proofs.RuleLaws.{fine_broken, same_broken, then_fine, first_clean, broken_first}
 use Rattle.base.proofs.CallLaws.{gives_one, accepted, refused, is_long, not_long, is_short, not_short, short_within}
 use Rattle.fields.specs.Field.{fields}
@@ -54,7 +52,7 @@ pub rule_18_broken : (form : Form) (n p : ℕ) → rule_18 form ≡ Broken n p �
 unfolding rule_18 places_103 places_202
 rule_18_broken Mt103 n p e = absurd (fine_broken n p e)
 rule_18_broken Mt202 n p e = absurd (fine_broken n p e)
-rule_18_broken Other n p e = (cc, cc, refl)
+rule_18_broken Other n p e = (sym (same_broken e).0, sym (same_broken e).1, refl)
 
 -- ---- why a sheet is refused
 module _ (s out : List ℕ) where
@@ -63,7 +61,7 @@ module _ (s out : List ℕ) where
   long_broken n p e = go (ltb limit (length s)) refl e
     where
       go : (b : Bool) → ltb limit (length s) ≡ b → pick b (Broken 1 limit) Fine ≡ Broken n p → (n ≡ 1) × (p ≡ limit) × (limit < length s)
-      go true h e = (cc, cc, ltb-true limit (length s) h)
+      go true h e = (sym (same_broken e).0, sym (same_broken e).1, ltb-true limit (length s) h)
       go false h e = absurd (fine_broken n p e)
 
   pub short_broken : (n p : ℕ) → short (message_for s) out ≡ Broken n p → (n ≡ 17) × (p ≡ length (message_for s)) × (length out < length (message_for s))
@@ -72,7 +70,7 @@ module _ (s out : List ℕ) where
     where
       go : (b : Bool) → ltb (length out) (length (message_for s)) ≡ b → pick b (Broken 17 (length (message_for s))) Fine ≡ Broken n p
           → (n ≡ 17) × (p ≡ length (message_for s)) × (length out < length (message_for s))
-      go true h e = (cc, cc, ltb-true (length out) (length (message_for s)) h)
+      go true h e = (sym (same_broken e).0, sym (same_broken e).1, ltb-true (length out) (length (message_for s)) h)
       go false h e = absurd (fine_broken n p e)
 
   own_broken : (n p : ℕ) → Clean (sheet_rules s) → own_rule s ≡ Broken n p → Reason s out p n
@@ -80,9 +78,9 @@ module _ (s out : List ℕ) where
     where
       go : (v : Verdict) → verdict_of (sheet_form s) (message_for s) ≡ v → at_start v ≡ Broken n p → Reason s out p n
       go Fine f e = absurd (fine_broken n p e)
-      go (Broken m q) f e =
+      go (Err r) f e =
           let h = own_refusal s c n p (ap at_start f ∙ e) in
-          why.own q h.0 (f ∙ ap (λ (k : ℕ). Broken k q) (same_broken e).0) h.1
+          why.own r.place h.0 (f ∙ ap (λ (k : ℕ). Broken k r.place) (same_broken e).0) h.1
 
   module _ (n p : ℕ) where
     by_number : (k : ℕ) → n ≡ k → Reason s out p k → Reason s out p n
@@ -97,7 +95,7 @@ module _ (s out : List ℕ) where
 
     step : (v w : Verdict) → Why v → (v ≡ Fine → Why w) → Why (then v w)
     step Fine w f g e = g refl e
-    step (Broken m q) w f g e = f e
+    step (Err r) w f g e = f e
 
     why_1 : Why (long limit s)
     why_1 e = let h = long_broken n p e in by_number 1 h.0 (why.over h.2 h.1)
@@ -117,8 +115,8 @@ module _ (s out : List ℕ) where
       where
         go : (v w : Verdict) → long limit s ≡ v → rule_19 s ≡ w → then v (then w (first (rule_18 (sheet_form s) ∷ rule_15 (sheet_form s) (sheet_sign s) 0 (records s) ∷ rule_16 (sheet_form s) (sheet_sign s) (tail (records s)) ∷ []))) ≡ Broken n p
             → w ≡ Fine
-        go (Broken m q) w f g e = absurd (omega (arith, (long_broken m q f).0, (same_broken e).0))
-        go Fine (Broken m q) f g e = absurd (omega (arith, (rule_19_bad s m q g).0, (same_broken e).0))
+        go (Err r) w f g e = absurd (omega (arith, (long_broken r.number r.place f).0, (same_broken e).0))
+        go Fine (Err r) f g e = absurd (omega (arith, (rule_19_bad s r.number r.place g).0, (same_broken e).0))
         go Fine Fine f g e = refl
 
     why_16 : WhyFirst (rule_16 (sheet_form s) (sheet_sign s) (tail (records s)))
@@ -180,7 +178,7 @@ module _ (s out : List ℕ) (r : Outcome) (after : List ℕ) (g : MessageTo s ou
   -- from the rules to the outcome, and back
   given : (n p : ℕ) → first (write_rules s out) ≡ Broken n p → r ≡ Refused n p
   unfolding MessageTo
-  given n p e = g.answers ∙ ap (λ (v : Verdict). outcome v (length (message_for s))) e
+  given n p e = g.answers ∙ ap (λ (v : Verdict). answered v (length (message_for s))) e
 
   rule_of : (n p : ℕ) → r ≡ Refused n p → (first (write_rules s out) ≡ Broken n p) × (after ≡ out)
   unfolding MessageTo
@@ -258,7 +256,7 @@ module _ (s out : List ℕ) (r : Outcome) (after : List ℕ) (g : MessageTo s ou
       where
         go : (v : Verdict) → verdict_of (sheet_form s) (message_for s) ≡ v → at_start v ≡ Broken n p → (q : ℕ) × (verdict_of (sheet_form s) (message_for s) ≡ Broken n q) × (p ≡ 0)
         go Fine f e = absurd (fine_broken n p e)
-        go (Broken m q) f e = let k = same_broken e in (q, f ∙ ap (λ (j : ℕ). Broken j q) k.0, sym k.1)
+        go (Err r) f e = let k = same_broken e in (r.place, f ∙ ap (λ (j : ℕ). Broken j r.place) k.0, sym k.1)
 
   -- ---- a sheet that is written
   pub record Written (n : ℕ) : Type 0 where
@@ -286,6 +284,6 @@ module _ (s out : List ℕ) (r : Outcome) (after : List ℕ) (g : MessageTo s ou
   exact_done c h = (
     (λ e.
         let f : first (write_rules s out) ≡ Fine = own_alone c h ∙ ap at_start e in
-        (g.answers ∙ ap (λ (v : Verdict). outcome v (length (message_for s))) f, g.leaves ∙ ap (λ (v : Verdict). room v (message_for s) out) f)),
+        (g.answers ∙ ap (λ (v : Verdict). answered v (length (message_for s))) f, g.leaves ∙ ap (λ (v : Verdict). room v (message_for s) out) f)),
     λ w. (written (length (message_for s)) w.0).message_fine,
   )

@@ -1,15 +1,14 @@
 -- Worked examples of sheets written as messages, and of the records that their bytes came from, as one list (section S, B6-B9, N15-N17, O2). That they hold is proved in proofs/Examples.antt. Assumes
 -- nothing.
-use Rattle.std.specs.Prelude.{ℕ, ◌≡◌, List, [], ◌∷◌, ◌++◌, replicate}
+use Rattle.std.specs.Prelude.{ℕ, ◌≡◌, List, [], ◌∷◌, ◌++◌, replicate, None, Some}
 use Prim.Native.String.{String}
 use Rattle.base.specs.Quoted.{bytes, desk}
 use Rattle.base.specs.Rules.{first}
-use Rattle.base.specs.declared.Verdict.TheVariants.{Fine, Broken}
+use Rattle.base.specs.Verdicts.{Fine, Broken}
 use Rattle.frame.specs.Cases.{sample}
 use Rattle.runon.specs.Cases.{times}
 use Rattle.writer.specs.Sheet.{message_for, write_rules}
 use Rattle.writer.specs.Holder.{holder_of}
-use Rattle.writer.specs.declared.holder.Holder.TheVariants as holder
 
 pub data Case : Type 0 where
   -- with room just enough, the sheet is written as this message
@@ -29,8 +28,8 @@ Holds (written s m) = (first (write_rules s m) ≡ Fine) × (message_for s ≡ m
 Holds (drafted s m) = message_for s ≡ m
 Holds (narrow s k n) = first (write_rules s (replicate k 0)) ≡ Broken 17 n
 Holds (refused s n p) = first (write_rules s (replicate 1000 0)) ≡ Broken n p
-Holds (came s p i) = holder_of s p ≡ holder.Record i
-Holds (unmade s p) = holder_of s p ≡ holder.Nothing
+Holds (came s p i) = holder_of s p ≡ Some i
+Holds (unmade s p) = holder_of s p ≡ None
 
 abbrev pub sheet_103 : List ℕ
 sheet_103 =

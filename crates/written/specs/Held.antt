@@ -3,9 +3,7 @@ use Rattle.std.specs.Prelude.{ℕ, ◌+◌, ◌≤◌, ◌<◌, ◌≡◌, lengt
 use mathlib.Core.List.{List, [], ◌∷◌, ◌++◌, tail}
 use Rattle.base.specs.Rules.{FirstOf}
 use Rattle.base.specs.Calls.{over}
-use Rattle.base.specs.declared.Verdict.TheVariants.{Broken}
-use Rattle.base.specs.declared.Outcome.{Outcome}
-use Rattle.base.specs.declared.Outcome.TheVariants.{Done}
+use Rattle.base.specs.Verdicts.{Broken, Outcome, Done}
 use Rattle.fields.specs.Field.{tag_of, opening, closing, with_cr_lf, lines_of}
 use Rattle.message.specs.Message.{verdict_of}
 use Rattle.records.specs.Record.{Record, sheet, records}

@@ -8,7 +8,7 @@ use Rattle.base.specs.Choice.{all}
 use Rattle.base.specs.Bytes.{empty, xset}
 use Rattle.base.specs.Calls.{said}
 use Rattle.base.specs.Examples.{AllHold}
-use Rattle.base.specs.declared.Verdict.TheVariants.{Broken}
+use Rattle.base.specs.Verdicts.{Broken}
 use Rattle.alphabets.specs.Sentences.{can_say, FirstFails, Shortest}
 use Rattle.alphabets.specs.Sentences as texts
 use Rattle.alphabets.specs.Bank.{reading}

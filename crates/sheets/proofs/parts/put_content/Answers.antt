@@ -14,15 +14,15 @@ put_part-requires c = (omega (arith, c.requires, ap length c.rpp_part.ensures, r
 
 pub returns-in-Details : goal.returns-in-Details
 unfolding content_by
-returns-in-Details c = let a = c.args in let p = c.put_whole.ensures in (omega (arith, p.0), shape_put a.back.now a.sign (rest_text a.back.now a.sign (lines_in a.rest.now)) a.c.now c.in-Details.is p.1)
+returns-in-Details c = let a = c.args in let p = c.put_whole.ensures in (omega (arith, p.0), shape_put a.r.now.back.now a.r.now.sign (rest_text a.r.now.back.now a.r.now.sign (lines_in a.r.now.rest.now)) a.c.now c.in-Details.is p.1)
 
 pub returns-in-Note103 : goal.returns-in-Note103
 unfolding content_by
-returns-in-Note103 c = let a = c.args in let w = rpp_put a.back.now a.sign (rest_text a.back.now a.sign (lines_in a.rest.now)) a.c.now c.rpp_part.ensures c.put_part.ensures.0 c.put_part.ensures.1 in (omega (arith, w.0), shape_put a.back.now a.sign (rest_text a.back.now a.sign (lines_in a.rest.now)) a.c.now c.in-Note103.is w.1)
+returns-in-Note103 c = let a = c.args in let w = rpp_put a.r.now.back.now a.r.now.sign (rest_text a.r.now.back.now a.r.now.sign (lines_in a.r.now.rest.now)) a.c.now c.rpp_part.ensures c.put_part.ensures.0 c.put_part.ensures.1 in (omega (arith, w.0), shape_put a.r.now.back.now a.r.now.sign (rest_text a.r.now.back.now a.r.now.sign (lines_in a.r.now.rest.now)) a.c.now c.in-Note103.is w.1)
 
 pub returns-in-Note202 : goal.returns-in-Note202
 unfolding content_by
-returns-in-Note202 c = let a = c.args in let p = c.put_note.ensures in (omega (arith, p.0), shape_put a.back.now a.sign (rest_text a.back.now a.sign (lines_in a.rest.now)) a.c.now c.in-Note202.is p.1)
+returns-in-Note202 c = let a = c.args in let p = c.put_note.ensures in (omega (arith, p.0), shape_put a.r.now.back.now a.r.now.sign (rest_text a.r.now.back.now a.r.now.sign (lines_in a.r.now.rest.now)) a.c.now c.in-Note202.is p.1)
 
 pub returns-in_default : goal.returns-in_default
-returns-in_default c = let a = c.args in let p = c.put_lines.ensures in (omega (arith, p.0), lines_put a.back.now a.sign (rest_text a.back.now a.sign (lines_in a.rest.now)) a.c.now a.shape (opened c.in_default.in_default-own.keys4) c.first_role.ensures p.1)
+returns-in_default c = let a = c.args in let p = c.put_lines.ensures in (omega (arith, p.0), lines_put a.r.now.back.now a.r.now.sign (rest_text a.r.now.back.now a.r.now.sign (lines_in a.r.now.rest.now)) a.c.now a.shape (opened c.in_default.in_default-own.keys4) c.first_role.ensures p.1)

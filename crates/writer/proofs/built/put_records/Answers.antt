@@ -1,7 +1,7 @@
 -- `writer::built::put_records` meets its contract: from each record on as from the first. Assumes nothing.
 use borrow.Author.Rules.{rules}
 use Rattle.writer.proofs.PutLaws.{ended, good_here, good_on, records_stop, records_on, records_end}
-use Rattle.writer.proofs.StepLaws.{in_stuck, in_put, adds_unfit, adds_put, within_stuck, Goes, goes_unfit, goes_put, within_next}
+use Rattle.writer.proofs.StepLaws.{in_stuck, in_put, adds_unfit, adds_put, within_stuck, Goes, goes_unfit, goes_put, within_next, halted}
 use Rattle.writer.specs.Steps.{unfit_in}
 use Rattle.records.proofs.PieceLaws.{piece_length}
 use Rattle.base.proofs.Room.{puts_none}
@@ -10,7 +10,7 @@ use native.Mathlib.Omega.{arith}
 use mathlib.Core.Path.{◌≡◌, refl}
 use Prim.Native.Nat.{◌+◌, ◌*◌, ◌-◌, ◌≤◌}
 use Rattle.writer.proofs.built.put_records.Goals as goal
-use Rattle.writer.proofs.built.put_records.Goals.{in-Unfit, in-Put}
+use Rattle.writer.proofs.built.put_records.Goals.{in-Err-Unfit, in-Ok}
 
 pub loop-i-init : goal.loop-i-init
 loop-i-init c = (refl, c.requires.1, omega arith, c.requires.3, (λ r after d. d), omega arith)
@@ -40,16 +40,16 @@ pub overflow_add-result : goal.overflow_add-result
 overflow_add-result c =
     let within : (c.loop-i.i ≤ c.mark_at-e.result) × (c.mark_at-e.result + 1 ≤ length c.args.s.now) = let a = c.args in (omega (arith, c.mark_at-e.ensures), omega (arith, ended a.form a.sign a.s.now c.loop-i.i c.mark_at-e.result c.loop-i.invariant.1 c.mark_at-e.ensures c.loop-i-test.true c.loop-i.invariant.3)) in
     let sized : length (take (c.mark_at-e.result - c.loop-i.i) (drop c.loop-i.i c.args.s.now)) ≡ c.mark_at-e.result - c.loop-i.i = piece_length c.args.s.now c.loop-i.i c.mark_at-e.result within.0 (omega (arith, within)) in
-    omega (arith, within, sized, within_stuck c.in-Stuck.is c.put_record.ensures.1, c.requires)
+    omega (arith, within, sized, within_stuck (halted c.in-Err-Stuck.is c.in-Err-Stuck.field-0-is) c.put_record.ensures.1, c.requires)
 
-pub returns-in-Stuck : goal.returns-in-Stuck
-returns-in-Stuck c =
+pub returns-in-Err-Stuck : goal.returns-in-Err-Stuck
+returns-in-Err-Stuck c =
     let within : (c.loop-i.i ≤ c.mark_at-e.result) × (c.mark_at-e.result + 1 ≤ length c.args.s.now) = let a = c.args in (omega (arith, c.mark_at-e.ensures), omega (arith, ended a.form a.sign a.s.now c.loop-i.i c.mark_at-e.result c.loop-i.invariant.1 c.mark_at-e.ensures c.loop-i-test.true c.loop-i.invariant.3)) in
     let sized : length (take (c.mark_at-e.result - c.loop-i.i) (drop c.loop-i.i c.args.s.now)) ≡ c.mark_at-e.result - c.loop-i.i = piece_length c.args.s.now c.loop-i.i c.mark_at-e.result within.0 (omega (arith, within)) in
     let a = c.args in
     let p = c.put_record.ensures in (
-      c.loop-i.invariant.4 _ _ (records_stop a.form a.sign a.s.now c.loop-i.i c.mark_at-e.result c.loop-i.invariant.1 c.mark_at-e.ensures c.loop-i-test.true c.loop-i.invariant.3 c.loop-i.fit c.in-Stuck.is p.0),
-      in_stuck _ 10000 _ (omega (arith, within, sized, within_stuck c.in-Stuck.is p.1, c.requires)),
+      c.loop-i.invariant.4 _ _ (records_stop a.form a.sign a.s.now c.loop-i.i c.mark_at-e.result c.loop-i.invariant.1 c.mark_at-e.ensures c.loop-i-test.true c.loop-i.invariant.3 c.loop-i.fit (halted c.in-Err-Stuck.is c.in-Err-Stuck.field-0-is) p.0),
+      in_stuck _ 10000 _ (omega (arith, within, sized, within_stuck (halted c.in-Err-Stuck.is c.in-Err-Stuck.field-0-is) p.1, c.requires)),
     )
 
 pub overflow_add-i : goal.overflow_add-i
@@ -66,7 +66,7 @@ pub loop-i-preserved : goal.loop-i-preserved
 loop-i-preserved c =
     let within : (c.loop-i.i ≤ c.mark_at-e.result) × (c.mark_at-e.result + 1 ≤ length c.args.s.now) = let a = c.args in (omega (arith, c.mark_at-e.ensures), omega (arith, ended a.form a.sign a.s.now c.loop-i.i c.mark_at-e.result c.loop-i.invariant.1 c.mark_at-e.ensures c.loop-i-test.true c.loop-i.invariant.3)) in
     let sized : length (take (c.mark_at-e.result - c.loop-i.i) (drop c.loop-i.i c.args.s.now)) ≡ c.mark_at-e.result - c.loop-i.i = piece_length c.args.s.now c.loop-i.i c.mark_at-e.result within.0 (omega (arith, within)) in
-    let went : Goes c.loop-i.fit c.loop-i.n c.put_record.result c.match-put_record.fit c.match-put_record.n = elim c.match-put_record.branch [ in-Unfit w ↦ goes_unfit w.in-Unfit.is w.fit-is w.n-is | in-Put w ↦ goes_put w.in-Put.is w.fit-is w.n-is ] in
+    let went : Goes c.loop-i.fit c.loop-i.n c.put_record.result c.match-put_record.fit c.match-put_record.n = elim c.match-put_record.branch [ in-Err-Unfit w ↦ goes_unfit (halted w.in-Err-Unfit.is w.in-Err-Unfit.field-0-is) w.fit-is w.n-is | in-Ok w ↦ goes_put w.in-Ok.is w.fit-is w.n-is ] in
     let a = c.args in
     let t = c.loop-i-test.true in
     let e = c.mark_at-e.result in

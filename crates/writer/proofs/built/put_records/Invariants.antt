@@ -4,7 +4,7 @@ use Rattle.writer.proofs.StepLaws.{Onward}
 use Rattle.writer.specs.Steps.{records_at}
 use Rattle.writer.specs.Sheet.{rule_15, some_crowded}
 use Rattle.records.specs.Found.{pieces_at, bad_sheet_line}
-use Rattle.base.specs.declared.Verdict.TheVariants.{Fine}
+use Rattle.base.specs.Verdicts.{Fine}
 use lib.ListN.{length}
 use mathlib.Core.Bool.{not, ◌||◌}
 use mathlib.Core.Path.{◌≡◌}

@@ -1,5 +1,4 @@
 -- `writer::holder::find_holder` meets its contract: from each record on as from the second. Assumes nothing.
-use borrow.Enum.Refused.{opened}
 use Prim.Native.Nat.{◌+◌, ◌-◌, ◌≤◌}
 use mathlib.Core.Path.{◌≡◌, refl, sym, ◌∙◌}
 use native.Mathlib.Omega.{arith}
@@ -41,11 +40,11 @@ put_record-requires c =
 
 pub returns-in_default : goal.returns-in_default
 returns-in_default c = let a = c.args in let v = c.loop-i.invariant in
-    absurd (is_put a.form a.sign a.s.now c.loop-i.i c.mark_at-e.result v.0 c.mark_at-e.ensures c.loop-i-test.true v.2 v.3 v.4 c.put_record.ensures.0 (not_put c.put_record.result (opened c.in_default.in_default-own.keys2)))
+    absurd (is_put a.form a.sign a.s.now c.loop-i.i c.mark_at-e.result v.0 c.mark_at-e.ensures c.loop-i-test.true v.2 v.3 v.4 c.put_record.ensures.0 (not_put c.in_default.is))
 
 pub returns-then-is_between : goal.returns-then-is_between
 returns-then-is_between c = let a = c.args in let v = c.loop-i.invariant in
-    holder_hit a.form a.sign a.s.now c.loop-i.i c.mark_at-e.result v.0 c.mark_at-e.ensures c.loop-i-test.true v.2 v.3 v.4 c.put_record.ensures.0 c.in-Put.is a.place (sym c.is_between.ensures ∙ c.if-is_between.true) ∙ sym v.5
+    holder_hit a.form a.sign a.s.now c.loop-i.i c.mark_at-e.result v.0 c.mark_at-e.ensures c.loop-i-test.true v.2 v.3 v.4 c.put_record.ensures.0 c.in-Ok.is a.place (sym c.is_between.ensures ∙ c.if-is_between.true) ∙ sym v.5
 
 pub overflow_add-i : goal.overflow_add-i
 overflow_add-i c =
@@ -63,11 +62,11 @@ loop-i-preserved c =
     let sized : length (take (c.mark_at-e.result - c.loop-i.i) (drop c.loop-i.i c.args.s.now)) ≡ c.mark_at-e.result - c.loop-i.i = piece_length c.args.s.now c.loop-i.i c.mark_at-e.result within.0 (omega (arith, within)) in
     let a = c.args in let v = c.loop-i.invariant in (
       within.1,
-      omega (arith, within, sized, v, within_put c.in-Put.is c.put_record.ensures.1),
+      omega (arith, within, sized, v, within_put c.in-Ok.is c.put_record.ensures.1),
       good_on a.form a.sign a.s.now c.loop-i.i c.mark_at-e.result v.0 c.mark_at-e.ensures c.loop-i-test.true v.2,
       texts_on a.form a.sign a.s.now c.loop-i.i c.mark_at-e.result v.0 c.mark_at-e.ensures c.loop-i-test.true v.2 v.3 v.4,
       details_on a.form a.sign a.s.now c.loop-i.i c.mark_at-e.result v.0 c.mark_at-e.ensures c.loop-i-test.true v.2 v.3 v.4,
-      v.5 ∙ holder_miss a.form a.sign a.s.now c.loop-i.i c.mark_at-e.result v.0 c.mark_at-e.ensures c.loop-i-test.true v.2 v.3 v.4 c.put_record.ensures.0 c.in-Put.is a.place (sym c.is_between.ensures ∙ c.if-is_between.false),
+      v.5 ∙ holder_miss a.form a.sign a.s.now c.loop-i.i c.mark_at-e.result v.0 c.mark_at-e.ensures c.loop-i-test.true v.2 v.3 v.4 c.put_record.ensures.0 c.in-Ok.is a.place (sym c.is_between.ensures ∙ c.if-is_between.false),
       search rules,
     )
 

@@ -3,7 +3,7 @@ use Prim.Native.Nat.{◌+◌, ◌*◌, ◌-◌, ◌≤◌}
 use mathlib.Core.Path.{◌≡◌}
 use mathlib.Core.Bool.{false}
 use lib.ListN.{length}
-use Rattle.base.specs.declared.Verdict.TheVariants.{Fine}
+use Rattle.base.specs.Verdicts.{Fine}
 use Rattle.records.specs.Found.{pieces_at, bad_sheet_line}
 use Rattle.writer.specs.Sheet.{rule_15, some_crowded}
 use Rattle.writer.specs.Steps.{records_at}

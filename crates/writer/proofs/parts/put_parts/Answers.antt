@@ -1,10 +1,12 @@
 -- `writer::parts::put_parts` meets its contract: from each part on as from the first. Assumes nothing.
-use borrow.Enum.Refused.{opened}
 use Prim.Native.Nat.{◌+◌, ◌-◌, ◌*◌, ◌≤◌}
 use mathlib.Core.Path.{◌≡◌, refl}
 use native.Mathlib.Omega.{arith}
 use borrow.Author.Rules.{rules}
 use lib.ListN.{length, take, drop}
+use mathlib.Core.Path.{refl}
+use Rattle.std.specs.Prelude.{Err}
+use Rattle.std.proofs.lemmas.Result.{err_from_is_err_and}
 use Rattle.records.proofs.PieceLaws.{end_within, piece_length}
 use Rattle.writer.proofs.StepLaws.{in_put, not_put, within_more, within_any, within_put}
 use Rattle.writer.proofs.PartLaws.{parts_on, parts_stop, parts_end}
@@ -28,20 +30,24 @@ slice_bounds-p-end c =
     let within : (c.loop-i.i ≤ c.mark_at-e.result) × (c.mark_at-e.result ≤ length c.args.l.now) = let a = c.args in (omega (arith, c.mark_at-e.ensures), end_within 9 a.l.now c.loop-i.i c.mark_at-e.result c.loop-i-test.true c.mark_at-e.ensures) in
     omega (arith, within)
 
-pub put_line-r-requires : goal.put_line-r-requires
-put_line-r-requires c =
+pub put_line-requires : goal.put_line-requires
+put_line-requires c =
     let within : (c.loop-i.i ≤ c.mark_at-e.result) × (c.mark_at-e.result ≤ length c.args.l.now) = let a = c.args in (omega (arith, c.mark_at-e.ensures), end_within 9 a.l.now c.loop-i.i c.mark_at-e.result c.loop-i-test.true c.mark_at-e.ensures) in
     let sized : length (take (c.mark_at-e.result - c.loop-i.i) (drop c.loop-i.i c.args.l.now)) ≡ c.mark_at-e.result - c.loop-i.i = piece_length c.args.l.now c.loop-i.i c.mark_at-e.result within.0 within.1 in
     (omega (arith, sized, within, c.requires), omega (arith, within, c.requires), omega (arith, c.loop-i.invariant, c.requires))
 
-pub returns-in_default : goal.returns-in_default
-returns-in_default c =
+pub returns-in_err-at : goal.returns-in_err-at
+returns-in_err-at c =
+    let p = err_from_is_err_and c.from_residual.result c.from_residual.ensures.1 in
     let within : (c.loop-i.i ≤ c.mark_at-e.result) × (c.mark_at-e.result ≤ length c.args.l.now) = let a = c.args in (omega (arith, c.mark_at-e.ensures), end_within 9 a.l.now c.loop-i.i c.mark_at-e.result c.loop-i-test.true c.mark_at-e.ensures) in
     let sized : length (take (c.mark_at-e.result - c.loop-i.i) (drop c.loop-i.i c.args.l.now)) ≡ c.mark_at-e.result - c.loop-i.i = piece_length c.args.l.now c.loop-i.i c.mark_at-e.result within.0 within.1 in
     let a = c.args in
-    let n = not_put c.put_line-r.result (opened c.in_default.in_default-own.keys2) in (
-      parts_stop a.sign c.loop-i.role a.l.now c.loop-i.i c.mark_at-e.result c.loop-i-test.true c.mark_at-e.ensures c.is_spoken-spoken.ensures c.put_line-r.ensures.0 c.loop-i.invariant.4 n,
-      within_more (length a.l.now) (a.at + 4 * length a.l.now + 4) (within_any (a.at + 4 * length a.l.now + 4) n c.put_line-r.ensures.1) (omega (arith, sized, within)) (omega arith),
+    let r = c.put_line.ensures in
+    let h = c.in_err-at.was in
+    let n = not_put {r = Err c.in_err-at.field-0.0} refl in
+    rw (p.1, p.2) (
+      parts_stop a.sign c.loop-i.role a.l.now c.loop-i.i c.mark_at-e.result c.loop-i-test.true c.mark_at-e.ensures c.is_spoken-spoken.ensures (rw h at r.0) c.loop-i.invariant.4 n,
+      within_more (length a.l.now) (a.at + 4 * length a.l.now + 4) (within_any (a.at + 4 * length a.l.now + 4) n (rw h at r.1)) (omega (arith, sized, within)) (omega arith),
     )
 
 pub overflow_add-i : goal.overflow_add-i
@@ -62,8 +68,8 @@ loop-i-preserved c =
       search rules,
       omega (arith, within),
       omega (arith, c.loop-i.invariant, c.mark_at-e.ensures),
-      omega (arith, sized, within, c.loop-i.invariant, c.mark_at-e.ensures, within_put c.in-Put.is c.put_line-r.ensures.1),
-      parts_on a.sign c.loop-i.role a.l.now c.loop-i.i c.mark_at-e.result c.loop-i-test.true c.mark_at-e.ensures c.is_spoken-spoken.ensures c.put_line-r.ensures.0 c.loop-i.invariant.4 c.in-Put.is c.next_role-role.ensures,
+      omega (arith, sized, within, c.loop-i.invariant, c.mark_at-e.ensures, within_put c.in_ok-at.was c.put_line.ensures.1),
+      parts_on a.sign c.loop-i.role a.l.now c.loop-i.i c.mark_at-e.result c.loop-i-test.true c.mark_at-e.ensures c.is_spoken-spoken.ensures c.put_line.ensures.0 c.loop-i.invariant.4 c.in_ok-at.was c.next_role-role.ensures,
     )
 
 pub shape_of-out : goal.shape_of-out

@@ -8,16 +8,16 @@ use Rattle.writer.specs.Steps.{unfit_in}
 use Rattle.writer.proofs.purposes.lay_lines.Goals as goal
 
 pub returns-in_default : goal.returns-in_default
-returns-in_default c = let a = c.args in (lines_unfit a.into a.least a.text.now a.out.now a.at (sym c.in_default.is ∙ c.size_of-size.ensures), unfit_in)
+returns-in_default c = let a = c.args in (lines_unfit a.into a.least a.text.now a.out.now a.at (sym c.in_default.is ∙ c.size_of.ensures), unfit_in)
 
 pub overflow_add-at : goal.overflow_add-at
-overflow_add-at c = let a = c.args in omega (arith, laid_few a.into a.least a.text.now c.in-Bytes.n (sym c.in-Bytes.is ∙ c.size_of-size.ensures), c.requires)
+overflow_add-at c = let a = c.args in omega (arith, laid_few a.into a.least a.text.now c.in-Some.n c.in-Some.ensures, c.requires)
 
 pub overflow_add-result-2 : goal.overflow_add-result-2
-overflow_add-result-2 c = let a = c.args in omega (arith, laid_few a.into a.least a.text.now c.in-Bytes.n (sym c.in-Bytes.is ∙ c.size_of-size.ensures), c.requires)
+overflow_add-result-2 c = let a = c.args in omega (arith, laid_few a.into a.least a.text.now c.in-Some.n c.in-Some.ensures, c.requires)
 
 pub returns : goal.returns
-returns c = let a = c.args in let n = c.in-Bytes.n in let e = sym c.in-Bytes.is ∙ c.size_of-size.ensures in (lines_put a.into a.least a.text.now n e c.lay.ensures c.put.ensures, in_put _ 0 (a.at + 250) (omega (arith, laid_few a.into a.least a.text.now n e)))
+returns c = let a = c.args in let n = c.in-Some.n in let e = c.in-Some.ensures in (lines_put a.into a.least a.text.now n e c.lay.ensures c.put.ensures, in_put _ 0 (a.at + 250) (omega (arith, laid_few a.into a.least a.text.now n e)))
 
 pub overflow_add-result : goal.overflow_add-result
-overflow_add-result c = let a = c.args in omega (arith, laid_few a.into a.least a.text.now c.in-Bytes.n (sym c.in-Bytes.is ∙ c.size_of-size.ensures), c.requires)
+overflow_add-result c = let a = c.args in omega (arith, laid_few a.into a.least a.text.now c.in-Some.n c.in-Some.ensures, c.requires)

@@ -5,7 +5,7 @@ use mathlib.Core.Bool.{true}
 use mathlib.Core.List.{[]}
 use lib.ListN.{length}
 use Rattle.base.specs.Examples.{AllHold}
-use Rattle.base.specs.declared.Verdict.TheVariants.{Fine}
+use Rattle.base.specs.Verdicts.{Fine}
 use Rattle.types.specs.declared.Form.TheVariants.{Mt103}
 use Rattle.records.specs.Found.{pieces_at, bad_sheet_line}
 use Rattle.details.specs.declared.DetailsField.TheVariants.{In72}
