@@ -9,12 +9,10 @@ use native.Mathlib.Omega.{arith}
 use native.Mathlib.Decide.{dec_lt}
 use lib.ListN.{length, take, length-append}
 use lib.Seq.{take_all, length-take-le}
+use Rattle.std.specs.Prelude.{Err}
 use Rattle.base.specs.Rules.{first}
-use Rattle.base.specs.Calls.{over, outcome}
-use Rattle.base.specs.declared.Verdict.{Verdict}
-use Rattle.base.specs.declared.Verdict.TheVariants.{Fine, Broken}
-use Rattle.base.specs.declared.Outcome.{Outcome}
-use Rattle.base.specs.declared.Outcome.TheVariants.{Done, Refused}
+use Rattle.base.specs.Calls.{over}
+use Rattle.base.specs.Verdicts.{Verdict, Fine, Outcome, Done, Refused, answered}
 use Rattle.base.proofs.RuleLaws.{then_clean, first_clean}
 use Rattle.base.proofs.CallLaws.{gives_one, within_limit}
 use Rattle.fields.specs.Frame.{limit, rule_1}
@@ -41,9 +39,9 @@ module _ (s out : List ℕ) (r : Outcome) (after : List ℕ) (g : MessageTo s ou
   answer_message n e = done_shown (write_rules s out) (message_for s) out after g e (message_verdict s) (fine_verdict s out)
 
   module _ (h : length (message_for s) ≤ length out) where
-    message_outcome : r ≡ outcome (message_verdict s) (length (message_for s))
+    message_outcome : r ≡ answered (message_verdict s) (length (message_for s))
     unfolding MessageTo
-    message_outcome = g.answers ∙ ap (λ (u : Verdict). outcome u (length (message_for s))) (room_verdict s out h)
+    message_outcome = g.answers ∙ ap (λ (u : Verdict). answered u (length (message_for s))) (room_verdict s out h)
 
     -- the message exactly if the call writes it, a refusal's line exactly if the call gives that refusal
     pub exact_message : (message_answer s ≡ message_for s) ↔ (r ≡ Done (length (message_for s)))
@@ -68,9 +66,9 @@ module _ (s : List ℕ) where
     where
       go : (v : Verdict) → message_verdict s ≡ v → length (shown v (message_for s)) ≤ limit
       go Fine e = message_fits e
-      go (Broken n p) e =
-          let w = refusal_within s n p e in
-          omega (arith, line_fits n p w.0 w.1)
+      go (Err r) e =
+          let w = refusal_within s r.number r.place e in
+          omega (arith, line_fits r.number r.place w.0 w.1)
 
 -- so with that room the answer is always there
 pub answer_done : (s out after : List ℕ) (r : Outcome) → limit ≤ length out → MessageAnswered s out r after → (r ≡ Done (length (message_answer s))) × (after ≡ over (message_answer s) out)

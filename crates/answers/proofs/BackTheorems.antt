@@ -9,10 +9,7 @@ use lib.ListN.{length, take}
 use Rattle.base.specs.Bytes.{digit}
 use Rattle.base.specs.Rules.{then, first, Clean}
 use Rattle.base.specs.Calls.{over}
-use Rattle.base.specs.declared.Verdict.{Verdict}
-use Rattle.base.specs.declared.Verdict.TheVariants.{Fine, Broken}
-use Rattle.base.specs.declared.Outcome.{Outcome}
-use Rattle.base.specs.declared.Outcome.TheVariants.{Done}
+use Rattle.base.specs.Verdicts.{Verdict, Fine, Broken, Outcome, Done}
 use Rattle.base.proofs.RuleLaws.{fine_broken, then_clean, first_clean, clean_first}
 use Rattle.fields.specs.Field.{fields}
 use Rattle.fields.specs.Frame.{limit}

@@ -8,13 +8,11 @@ use lib.Dec.{eqb}
 use lib.ListN.{length, take, drop, length-append}
 use lib.Seq.{take-append_seam}
 use borrow.Author.Tests.{ne_eqb, eqb-true, eqb-false}
+use Rattle.std.specs.Prelude.{Err}
 use Rattle.base.specs.Choice.{pick}
 use Rattle.base.specs.Rules.{first}
 use Rattle.base.specs.Calls.{short, over, Gives}
-use Rattle.base.specs.declared.Verdict.{Verdict}
-use Rattle.base.specs.declared.Verdict.TheVariants.{Fine, Broken}
-use Rattle.base.specs.declared.Outcome.{Outcome}
-use Rattle.base.specs.declared.Outcome.TheVariants.{Done, Refused}
+use Rattle.base.specs.Verdicts.{Verdict, Fine, Broken, Outcome, Done, Refused}
 use Rattle.base.proofs.CallLaws.{accepted, refused, not_short}
 use Rattle.fields.specs.Frame.{limit}
 use Rattle.writer.specs.Sheet.{message_for, write_rules, MessageTo}
@@ -33,7 +31,7 @@ module _ (rules : List Verdict) (t old m : List ℕ) where
 
   pub shown_is : {a : Outcome} → Gives rules t old a m → shown_of a m ≡ shown (first rules) t
   shown_is {a = Done n} g = (done_held g).1 ∙ ap (λ (v : Verdict). shown v t) (sym (accepted rules t old n m g).clean)
-  shown_is {a = Refused n p} g = ap (λ (v : Verdict). shown v t) (sym (refused rules t old n p m g).0)
+  shown_is {a = Err r} g = ap (λ (v : Verdict). shown v t) (sym (refused rules t old r.number r.place m g).0)
 
   -- what an accepted call put is what is shown, by any verdict that is fine where the call's is
   pub done_shown : {r : Outcome} {n : ℕ} → Gives rules t old r m → r ≡ Done n → (v : Verdict) → (first rules ≡ Fine → v ≡ Fine) → shown v t ≡ take n m
@@ -61,13 +59,13 @@ module _ (s old m : List ℕ) (l : length old ≡ limit) where
   pub message_shown : (a : Outcome) → MessageTo s old a m → shown_of (roomless a) m ≡ message_answer s
   unfolding MessageTo message_answer
   message_shown (Done n) g = (done_held (write_rules s old) (message_for s) old m g).1 ∙ ap (λ (v : Verdict). shown v (message_for s)) (sym (fine_verdict s old (accepted (write_rules s old) (message_for s) old n m g).clean))
-  message_shown (Refused n p) g = go (eqb n 17) refl (refused (write_rules s old) (message_for s) old n p m g).0
+  message_shown (Err r) g = go (eqb r.number 17) refl (refused (write_rules s old) (message_for s) old r.number r.place m g).0
     where
-      go : (b : Bool) → eqb n 17 ≡ b → first (write_rules s old) ≡ Broken n p → shown_of (pick b (Refused 1 0) (Refused n p)) m ≡ message_answer s
-      go true e f = ap (λ (v : Verdict). shown v (message_for s)) (sym (short_verdict s old p l (f ∙ ap (λ (k : ℕ). Broken k p) (eqb-true n 17 e))))
-      go false e f = ap (λ (v : Verdict). shown v (message_for s)) (sym (other_verdict s old n p (eqb-false n 17 e) f))
+      go : (b : Bool) → eqb r.number 17 ≡ b → first (write_rules s old) ≡ Broken r.number r.place → shown_of (pick b (Refused 1 0) (Refused r.number r.place)) m ≡ message_answer s
+      go true e f = ap (λ (v : Verdict). shown v (message_for s)) (sym (short_verdict s old r.place l (f ∙ ap (λ (k : ℕ). Broken k r.place) (eqb-true r.number 17 e))))
+      go false e f = ap (λ (v : Verdict). shown v (message_for s)) (sym (other_verdict s old r.number r.place (eqb-false r.number 17 e) f))
 
   module _ (a : Outcome) {b : Outcome} (g : MessageTo s old a m) (e : b ≡ roomless a) where
-    pub answered : {out after : List ℕ} {r : Outcome} → Shows (shown_of b m) out r after → MessageAnswered s out r after
+    pub message_answered : {out after : List ℕ} {r : Outcome} → Shows (shown_of b m) out r after → MessageAnswered s out r after
     unfolding MessageAnswered
-    answered {out} {after} {r} h = subst (λ (t : List ℕ). Shows t out r after) (ap (λ (x : Outcome). shown_of x m) e ∙ message_shown a g) h
+    message_answered {out} {after} {r} h = subst (λ (t : List ℕ). Shows t out r after) (ap (λ (x : Outcome). shown_of x m) e ∙ message_shown a g) h

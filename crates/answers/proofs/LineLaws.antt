@@ -9,10 +9,7 @@ use lib.Seq.{set_split, drop_at, length-take-le, sets-eq}
 use Rattle.base.specs.Quoted.{bytes}
 use Rattle.base.specs.Rules.{then}
 use Rattle.base.specs.Calls.{short, over, placed}
-use Rattle.base.specs.declared.Verdict.{Verdict}
-use Rattle.base.specs.declared.Verdict.TheVariants.{Fine}
-use Rattle.base.specs.declared.Outcome.{Outcome}
-use Rattle.base.specs.declared.Outcome.TheVariants.{Done, Refused}
+use Rattle.base.specs.Verdicts.{Verdict, Fine, Outcome, Done, Refused}
 use Rattle.base.proofs.CallLaws.{gives_refused, gives_done, is_short, not_short}
 use Rattle.base.proofs.Room.{over_sets, placed_fits}
 use Rattle.answers.specs.Line.{decimal, refusal_line, Shows}

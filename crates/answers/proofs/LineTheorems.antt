@@ -1,20 +1,18 @@
 -- A refusal's line stands for one number and one place, is neither a message nor a sheet, and is short; so what is shown tells whether the call
 -- wrote its text, and if not, its refusal (R3). Assumes nothing.
 use Prim.Native.Nat.{ℕ, ◌<◌, ◌≤◌}
-use mathlib.Core.Path.{◌≡◌, refl, sym, ap, ◌∙◌}
+use mathlib.Core.Path.{◌≡◌, refl, sym, ap, ◌∙◌, ap₂}
 use mathlib.Core.Bool.{true, false, not, false≢true}
 use mathlib.Core.List.{List, [], ◌∷◌, ◌++◌}
 use mathlib.Core.Logic.{◌↔◌}
 use native.Mathlib.Omega.{arith}
 use lib.ListN.{length, drop, length-append}
 use borrow.Author.Tests.{ne_eqb}
+use Rattle.base.proofs.RuleLaws.{same_refusal}
+use Rattle.std.specs.Prelude.{Err}
 use Rattle.base.specs.Bytes.{digit, other, without, begins}
 use Rattle.base.specs.Rules.{last_number}
-use Rattle.base.specs.Calls.{outcome}
-use Rattle.base.specs.declared.Verdict.{Verdict}
-use Rattle.base.specs.declared.Verdict.TheVariants.{Fine, Broken}
-use Rattle.base.specs.declared.Outcome.{Outcome}
-use Rattle.base.specs.declared.Outcome.TheVariants.{Done, Refused}
+use Rattle.base.specs.Verdicts.{Verdict, Fine, Outcome, Done, Refused, answered}
 use Rattle.base.proofs.Bools.{all_imp}
 use Rattle.base.proofs.ByteLaws.{digit_range}
 use Rattle.fields.specs.Field.{upto, past, message}
@@ -64,35 +62,35 @@ unfolding sheet_of records_of
 sheet_apart form m = unlined (sheet_of form m) refl
 
 -- ---- a verdict and a text, by what is shown of them and by what a call with that verdict answers, r
-module _ (v : Verdict) (t : List ℕ) (apart : NoLine t) (r : Outcome) (a : r ≡ outcome v (length t)) where
+module _ (v : Verdict) (t : List ℕ) (apart : NoLine t) (r : Outcome) (a : r ≡ answered v (length t)) where
   -- the text exactly if the call writes it
   pub text_exact : (shown v t ≡ t) ↔ (r ≡ Done (length t))
   text_exact = (go v a, back v a)
     where
-      go : (v : Verdict) → r ≡ outcome v (length t) → shown v t ≡ t → r ≡ Done (length t)
+      go : (v : Verdict) → r ≡ answered v (length t) → shown v t ≡ t → r ≡ Done (length t)
       go Fine b f = b
-      go (Broken n p) b f = absurd (apart n p f)
+      go (Err q) b f = absurd (apart q.number q.place f)
 
-      back : (v : Verdict) → r ≡ outcome v (length t) → r ≡ Done (length t) → shown v t ≡ t
+      back : (v : Verdict) → r ≡ answered v (length t) → r ≡ Done (length t) → shown v t ≡ t
       back Fine b f = refl
-      back (Broken n p) b f = let z : ◌≡◌ {A = ℕ} 0 1 = cc in absurd (omega arith)
+      back (Err q) b f = let z : ◌≡◌ {A = ℕ} 0 1 = cc in absurd (omega arith)
 
   -- a refusal's line exactly if the call gives that refusal
   pub line_exact : (n p : ℕ) → (shown v t ≡ refusal_line n p) ↔ (r ≡ Refused n p)
   line_exact n p = (go v a, back v a)
     where
-      go : (v : Verdict) → r ≡ outcome v (length t) → shown v t ≡ refusal_line n p → r ≡ Refused n p
+      go : (v : Verdict) → r ≡ answered v (length t) → shown v t ≡ refusal_line n p → r ≡ Refused n p
       go Fine b f = absurd (apart n p (sym f))
-      go (Broken m q) b f = let k = line_one m q n p f in let x = k.0 in let y = k.1 in cc
+      go (Err q) b f = let k = line_one q.number q.place n p f in b ∙ ap₂ (λ (i j : ℕ). Refused i j) k.0 k.1
 
-      back : (v : Verdict) → r ≡ outcome v (length t) → r ≡ Refused n p → shown v t ≡ refusal_line n p
+      back : (v : Verdict) → r ≡ answered v (length t) → r ≡ Refused n p → shown v t ≡ refusal_line n p
       back Fine b f = let z : ◌≡◌ {A = ℕ} 0 1 = cc in absurd (omega arith)
-      back (Broken m q) b f = let x : m ≡ n = cc in let y : q ≡ p = cc in cc
+      back (Err q) b f = let k = same_refusal (sym b ∙ f) in ap₂ refusal_line k.0 k.1
 
 -- what is shown and is no line is the text, and no rule is broken
 pub shown_fine : (v : Verdict) (t : List ℕ) → NoLine (shown v t) → v ≡ Fine
 shown_fine Fine t h = refl
-shown_fine (Broken n p) t h = absurd (h n p refl)
+shown_fine (Err r) t h = absurd (h r.number r.place refl)
 
 -- ---- its size: a number of two digits, a place of five
 pub line_fits : (n p : ℕ) → n ≤ last_number → p ≤ limit → length (refusal_line n p) ≤ 17

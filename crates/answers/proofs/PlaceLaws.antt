@@ -6,7 +6,7 @@ use native.Mathlib.Omega.{arith}
 use native.Mathlib.Decide.{dec_lt}
 use lib.ListN.{length}
 use Rattle.base.specs.Rules.{last_number}
-use Rattle.base.specs.declared.Verdict.TheVariants.{Broken}
+use Rattle.base.specs.Verdicts.{Broken}
 use Rattle.fields.specs.Frame.{limit}
 use Rattle.written.proofs.SizeLaws.{reason_within, long_within}
 use Rattle.answers.specs.Programs.{message_verdict}

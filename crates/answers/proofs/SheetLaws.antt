@@ -9,15 +9,13 @@ use native.Mathlib.Omega.{arith}
 use native.Mathlib.Decide.{dec_lt}
 use lib.ListN.{length, take, length-drop}
 use lib.Seq.{take_all, length-take-le}
+use Rattle.std.specs.Prelude.{Err}
 use Rattle.base.specs.Choice.{pick}
 use Rattle.base.specs.Bytes.{byte}
 use Rattle.base.specs.Rules.{then, first}
-use Rattle.base.specs.Calls.{short, outcome, over}
-use Rattle.base.specs.declared.Verdict.{Verdict}
-use Rattle.base.specs.declared.Verdict.TheVariants.{Fine, Broken}
-use Rattle.base.specs.declared.Outcome.{Outcome}
-use Rattle.base.specs.declared.Outcome.TheVariants.{Done, Refused}
-use Rattle.base.proofs.RuleLaws.{fine_broken, first_last, then_clean}
+use Rattle.base.specs.Calls.{short, over}
+use Rattle.base.specs.Verdicts.{Verdict, Fine, Broken, Outcome, Done, Refused, answered}
+use Rattle.base.proofs.RuleLaws.{fine_broken, first_last, then_clean, same_broken}
 use Rattle.base.proofs.CallLaws.{gives_one, gives_refused, gives_past, not_short, is_long}
 use Rattle.fields.specs.Frame.{limit, rule_1}
 use Rattle.types.specs.Form.{form_of}
@@ -55,7 +53,7 @@ room_last : (i m : List ℕ) → (sheet_verdict i ≡ Fine → length (sheet_in 
 room_last i m h = first_last (type_rule i ∷ message_rules (form_for i) (message_in i)) (short (sheet_in i) m) ∙ go (sheet_verdict i) refl
   where
     go : (v : Verdict) → sheet_verdict i ≡ v → then v (short (sheet_in i) m) ≡ v
-    go (Broken n p) e = refl
+    go (Err r) e = refl
     go Fine e = not_short (sheet_in i) m (h e)
 
 -- and 10,000 bytes are enough
@@ -72,11 +70,11 @@ module _ (i old m : List ℕ) (l : length old ≡ limit) (a : Outcome) (g : Read
 -- ---- the two ways, whatever room the call has that is enough for the sheet
 module _ (i out : List ℕ) (r : Outcome) (after : List ℕ) (g : SheetTo (form_for i) (message_in i) out r after) where
   -- the whole call: 18 where no type is named
-  whole_outcome : named_outcome i r ≡ outcome (first (type_rule i ∷ read_rules (form_for i) (message_in i) out)) (length (sheet_in i))
+  whole_outcome : named_outcome i r ≡ answered (first (type_rule i ∷ read_rules (form_for i) (message_in i) out)) (length (sheet_in i))
   unfolding SheetTo
   whole_outcome = go (names_type i)
     where
-      go : (b : Bool) → pick b r (Refused 18 0) ≡ outcome (then (pick b Fine (Broken 18 0)) (first (read_rules (form_for i) (message_in i) out))) (length (sheet_in i))
+      go : (b : Bool) → pick b r (Refused 18 0) ≡ answered (then (pick b Fine (Broken 18 0)) (first (read_rules (form_for i) (message_in i) out))) (length (sheet_in i))
       go true = g.answers
       go false = refl
 
@@ -91,8 +89,8 @@ module _ (i out : List ℕ) (r : Outcome) (after : List ℕ) (g : SheetTo (form_
       go false e = let z : ◌≡◌ {A = ℕ} 0 1 = cc in absurd (omega arith)
 
   module _ (h : length (sheet_in i) ≤ length out) where
-    sheet_outcome : named_outcome i r ≡ outcome (sheet_verdict i) (length (sheet_in i))
-    sheet_outcome = whole_outcome ∙ ap (λ (v : Verdict). outcome v (length (sheet_in i))) (room_last i out (λ e. h))
+    sheet_outcome : named_outcome i r ≡ answered (sheet_verdict i) (length (sheet_in i))
+    sheet_outcome = whole_outcome ∙ ap (λ (v : Verdict). answered v (length (sheet_in i))) (room_last i out (λ e. h))
 
     -- the sheet exactly if a type is named and the call writes it, a refusal's line exactly if the call gives that refusal, or 18 for want of a type
     pub exact_sheet : (sheet_answer i ≡ sheet_in i) ↔ (named_outcome i r ≡ Done (length (sheet_in i)))
@@ -107,12 +105,12 @@ module _ (i out : List ℕ) (r : Outcome) (after : List ℕ) (g : SheetTo (form_
 fits_by : (i : List ℕ) (v : Verdict) → sheet_verdict i ≡ v → length (shown v (sheet_in i)) ≤ limit
 unfolding verdict_of
 fits_by i Fine e = fine_size i e
-fits_by i (Broken n p) e = go (names_type i) (first (message_rules (form_for i) (message_in i))) (verdict_small (form_for i) (message_in i)) e
+fits_by i (Err r) e = go (names_type i) (first (message_rules (form_for i) (message_in i))) (verdict_small (form_for i) (message_in i)) e
   where
-    go : (b : Bool) (v : Verdict) → verdicts.Small limit v → then (pick b Fine (Broken 18 0)) v ≡ Broken n p → length (refusal_line n p) ≤ limit
-    go true Fine s f = absurd (fine_broken n p f)
-    go true (Broken k q) s f = let x : k ≡ n = cc in let y : q ≡ p = cc in omega (arith, line_fits n p (omega (arith, s.0)) (omega (arith, s.1)))
-    go false v s f = let x : 18 ≡ n = cc in let y : 0 ≡ p = cc in omega (arith, line_fits n p (omega arith) (omega arith))
+    go : (b : Bool) (v : Verdict) → verdicts.Small limit v → then (pick b Fine (Broken 18 0)) v ≡ Broken r.number r.place → length (refusal_line r.number r.place) ≤ limit
+    go true Fine s f = absurd (fine_broken r.number r.place f)
+    go true (Err u) s f = let k = same_broken f in omega (arith, line_fits r.number r.place (omega (arith, k.0, s.0)) (omega (arith, k.1, s.1)))
+    go false v s f = let k = same_broken f in omega (arith, line_fits r.number r.place (omega (arith, k.0)) (omega (arith, k.1)))
 
 pub sheet_answer_fits : (i : List ℕ) → length (sheet_answer i) ≤ limit
 unfolding sheet_answer
@@ -137,12 +135,12 @@ over_answer i h = ap (then (type_rule i)) (over_verdict (form_for i) (message_in
 
 never_fine : (v w : Verdict) (n p : ℕ) → then v (then w (Broken n p)) ≡ Fine → ⊥
 never_fine Fine Fine n p e = fine_broken n p (sym e)
-never_fine Fine (Broken k q) n p e = fine_broken k q (sym e)
-never_fine (Broken k q) w n p e = fine_broken k q (sym e)
+never_fine Fine (Err r) n p e = fine_broken r.number r.place (sym e)
+never_fine (Err r) w n p e = fine_broken r.number r.place (sym e)
 
 shown_same : (v w : Verdict) (t u : List ℕ) → v ≡ w → (v ≡ Fine → ⊥) → shown v t ≡ shown w u
 shown_same v Fine t u e n = absurd (n e)
-shown_same v (Broken k q) t u e n = ap (λ (x : Verdict). shown x t) e
+shown_same v (Err r) t u e n = ap (λ (x : Verdict). shown x t) e
 
 same_front : (i : List ℕ) (n k : ℕ) → k < n → byte (take n i) k ≡ byte i k
 same_front i zero k h = absurd (omega arith)

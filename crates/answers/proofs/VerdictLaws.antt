@@ -7,10 +7,10 @@ use mathlib.Core.Logic.{inl, inr}
 use native.Mathlib.Omega.{arith}
 use native.Mathlib.Decide.{dec_lt}
 use lib.ListN.{length}
+use Rattle.std.specs.Prelude.{Err}
 use Rattle.base.specs.Rules.{then, first}
 use Rattle.base.specs.Calls.{short}
-use Rattle.base.specs.declared.Verdict.{Verdict}
-use Rattle.base.specs.declared.Verdict.TheVariants.{Fine, Broken}
+use Rattle.base.specs.Verdicts.{Verdict, Fine, Broken}
 use Rattle.base.proofs.RuleLaws.{same_broken, first_last, first_clean}
 use Rattle.base.proofs.CallLaws.{is_long, is_short, not_short, short_within}
 use Rattle.fields.specs.Frame.{limit}
@@ -72,7 +72,7 @@ module _ (s : List ℕ) where
       where
         at : length out < length (message_for s) → (v : Verdict) → first (sheet_rules s) ≡ v → message_verdict s ≡ Broken n p
         at h Fine f = absurd (k (sym (same_broken (sym (crowded h Fine f) ∙ e)).0))
-        at h (Broken m q) f = verdict_by ∙ ap (λ (u : Verdict). then u (own_rule s)) f ∙ sym (crowded h (Broken m q) f) ∙ e
+        at h (Err r) f = verdict_by ∙ ap (λ (u : Verdict). then u (own_rule s)) f ∙ sym (crowded h (Broken r.number r.place) f) ∙ e
 
         go : Dec (length out < length (message_for s)) → message_verdict s ≡ Broken n p
         go (yes h) = at h (first (sheet_rules s)) refl
@@ -83,7 +83,7 @@ module _ (s : List ℕ) where
       where
         at : length out < length (message_for s) → (v : Verdict) → first (sheet_rules s) ≡ v → message_verdict s ≡ Broken 1 0
         at h Fine f = verdict_by ∙ ap (λ (u : Verdict). then u (own_rule s)) f ∙ long_own (sheet_rules_lem s (first_clean (sheet_rules s) f)).type (omega arith)
-        at h (Broken m q) f = absurd (never_17 p (verdict_by ∙ ap (λ (u : Verdict). then u (own_rule s)) f ∙ sym (crowded h (Broken m q) f) ∙ e))
+        at h (Err r) f = absurd (never_17 p (verdict_by ∙ ap (λ (u : Verdict). then u (own_rule s)) f ∙ sym (crowded h (Broken r.number r.place) f) ∙ e))
 
         go : Dec (length out < length (message_for s)) → message_verdict s ≡ Broken 1 0
         go (yes h) = at h (first (sheet_rules s)) refl

@@ -2,8 +2,7 @@
 -- D2e, K7, R1-R3). Assumes nothing.
 use Rattle.std.specs.Prelude.{ℕ, ◌≤◌, ◌≡◌, List, ◌∷◌, ◌++◌, length, take}
 use Rattle.base.specs.Calls.{over}
-use Rattle.base.specs.declared.Outcome.{Outcome}
-use Rattle.base.specs.declared.Outcome.TheVariants.{Done}
+use Rattle.base.specs.Verdicts.{Outcome, Done}
 use Rattle.fields.specs.Field.{fields}
 use Rattle.fields.specs.Frame.{limit}
 use Rattle.types.specs.Sign.{sign_of}

@@ -1,12 +1,10 @@
 -- A refusal as a line: `refused`, number and place in decimal digits, tabs between, LF; and what a verdict and a text are shown as (R3, N17).
 -- Assumes nothing.
-use Rattle.std.specs.Prelude.{ℕ, zero, suc, ◌+◌, ◌/◌, ◌%◌, ◌≡◌, List, [], ◌∷◌, ◌++◌, ltb}
+use Rattle.std.specs.Prelude.{ℕ, zero, suc, ◌+◌, ◌/◌, ◌%◌, ◌≡◌, List, [], ◌∷◌, ◌++◌, ltb, Err}
 use Rattle.base.specs.Choice.{pick}
 use Rattle.base.specs.Quoted.{bytes, ascii}
 use Rattle.base.specs.Calls.{short, Gives}
-use Rattle.base.specs.declared.Verdict.{Verdict}
-use Rattle.base.specs.declared.Verdict.TheVariants.{Fine, Broken}
-use Rattle.base.specs.declared.Outcome.{Outcome}
+use Rattle.base.specs.Verdicts.{Verdict, Fine, Outcome}
 
 -- the last digits of n, at most k of them and no 0 in front
 unfoldable pub digits_in : ℕ → ℕ → List ℕ
@@ -27,7 +25,7 @@ NoLine t = (number place : ℕ) → refusal_line number place ≡ t → ⊥
 -- the text where no rule is broken, else the line of the first that is
 abbrev pub shown : Verdict → List ℕ → List ℕ
 shown Fine t = t
-shown (Broken number place) t = refusal_line number place
+shown (Err r) t = refusal_line r.number r.place
 
 -- a text shown in the room lent, refused only by 17
 abbrev pub Shows : List ℕ → List ℕ → Outcome → List ℕ → Type 0

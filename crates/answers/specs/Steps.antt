@@ -1,8 +1,7 @@
 -- What the functions say that show an answer (R3, N1, N17). Assumes nothing.
-use Rattle.std.specs.Prelude.{ℕ, ◌+◌, ◌≡◌, List, ◌∷◌, ◌++◌, eqb, length, take, drop}
+use Rattle.std.specs.Prelude.{ℕ, ◌+◌, ◌≡◌, List, ◌∷◌, ◌++◌, eqb, length, take, drop, Err}
 use Rattle.base.specs.Choice.{pick}
-use Rattle.base.specs.declared.Outcome.{Outcome}
-use Rattle.base.specs.declared.Outcome.TheVariants.{Done, Refused}
+use Rattle.base.specs.Verdicts.{Outcome, Done, Refused}
 use Rattle.base.specs.Calls.{Gives}
 use Rattle.sheets.specs.Calls.{read_rules}
 use Rattle.answers.specs.Line.{refusal_line}
@@ -11,7 +10,7 @@ use Rattle.answers.specs.Programs.{message_in, type_rule, form_for, sheet_in}
 -- a message that 10,000 bytes have no room for is one that 1 refuses, with place 0
 abbrev pub roomless : Outcome → Outcome
 roomless (Done n) = Done n
-roomless (Refused number place) = pick (eqb number 17) (Refused 1 0) (Refused number place)
+roomless (Err r) = pick (eqb r.number 17) (Refused 1 0) (Refused r.number r.place)
 
 -- the sheet of the message behind the type, put into the room m
 abbrev pub ReadsNamed : List ℕ → List ℕ → Outcome → List ℕ → Type 0
@@ -20,7 +19,7 @@ ReadsNamed i m r after = Gives (type_rule i ∷ read_rules (form_for i) (message
 -- what a call answered and left in m: its first n bytes, or the refusal as a line
 abbrev pub shown_of : Outcome → List ℕ → List ℕ
 shown_of (Done n) m = take n m
-shown_of (Refused number place) m = refusal_line number place
+shown_of (Err r) m = refusal_line r.number r.place
 
 -- t put in front of what stands from `end` on; it begins at r
 pub record Before (t out : List ℕ) (end r : ℕ) (after : List ℕ) : Type 0 where

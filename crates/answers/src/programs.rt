@@ -5,8 +5,8 @@ ghost use Rattle.answers.specs.Programs.{MessageAnswered, SheetAnswered, names_t
 ghost use Rattle.answers.specs.Steps.{roomless, ReadsNamed};
 
 use super::shown::put_shown;
-use base::Outcome;
 use base::bytes::{ZERO, is_digit, past, wide};
+use base::{Outcome, Refusal};
 use sheets::to_sheet::to_sheet;
 use types::forms::form_of;
 use writer::to_message::to_message;
@@ -15,16 +15,16 @@ use writer::to_message::to_message;
 fn past_room(a: Outcome) -> Outcome
     ensures { result ≡ roomless a }
 {
-    let Outcome::Refused { number, place } = a else {
+    let Err(Refusal { number, place }) = a else {
         return a;
     };
     if number == 17 {
-        return Outcome::Refused {
+        return Err(Refusal {
             number: 1,
             place: 0,
-        };
+        });
     }
-    Outcome::Refused { number, place }
+    Err(Refusal { number, place })
 }
 
 // What `tomessage` writes for a sheet.
@@ -67,10 +67,10 @@ fn read_named(i: &[u8], m: &mut [u8]) -> Outcome
     ensures { ReadsNamed i.now m.old result m.new }
 {
     if !names_type(i) {
-        return Outcome::Refused {
+        return Err(Refusal {
             number: 18,
             place: 0,
-        };
+        });
     }
     to_sheet(form_of(type_of(i)), past(i, 4), m)
 }

@@ -3,8 +3,8 @@ ghost use Rattle.std.specs.Prelude.{◌≡◌, ◌≤◌, length, drop};
 ghost use Rattle.answers.specs.Line.{decimal, refusal_line, Shows};
 ghost use Rattle.answers.specs.Steps.{shown_of, Before};
 
-use base::Outcome;
 use base::bytes::{front, past, put};
+use base::{Outcome, Refusal};
 
 const ZERO: usize = b'0' as usize;
 
@@ -43,13 +43,13 @@ fn put_whole(t: &[u8], out: &mut [u8]) -> Outcome
     ensures { Shows t.now out.old result out.new }
 {
     if out.len() < t.len() {
-        return Outcome::Refused {
+        return Err(Refusal {
             number: 17,
             place: t.len(),
-        };
+        });
     }
     put(out, 0, t);
-    Outcome::Done(t.len())
+    Ok(t.len())
 }
 
 // What a call answered and left in m, shown in the room lent.
@@ -57,8 +57,8 @@ pub(crate) fn put_shown(a: Outcome, m: &[u8], out: &mut [u8]) -> Outcome
     ensures { Shows (shown_of a m.now) out.old result out.new }
 {
     match a {
-        Outcome::Done(n) => put_whole(front(m, n), out),
-        Outcome::Refused { number, place } => {
+        Ok(n) => put_whole(front(m, n), out),
+        Err(Refusal { number, place }) => {
             let mut line = [0u8; 50];
             let at = lay_line(number, place, &mut line);
             put_whole(past(&line, at), out)

@@ -5,10 +5,9 @@ use mathlib.Core.List.{List}
 use lib.ListN.{length}
 use Rattle.base.specs.Examples.{AllHold, ◌also◌}
 use Rattle.base.specs.Rules.{first}
-use Rattle.base.specs.Calls.{Gives, long, short, outcome, room, placed}
+use Rattle.base.specs.Calls.{Gives, long, short, room, placed}
 use Rattle.base.specs.Bytes.{is_in, digit, capital, letter, marks, shared, xset, same}
-use Rattle.base.specs.declared.Outcome.{Outcome}
-use Rattle.base.specs.declared.Verdict.{Verdict}
+use Rattle.base.specs.Verdicts.{Verdict, Outcome, answered}
 use Rattle.alphabets.specs.Grid.{grid, kind, character}
 use Rattle.alphabets.specs.Bank.{reads, plainly}
 use Rattle.alphabets.specs.Steps.{back_value, back_table}
@@ -24,7 +23,7 @@ use Rattle.values.specs.Answers.{kopecks_of}
 use Rattle.cases.specs.Cases.{cases, Holds}
 
 -- a call gives what is computed
-gives : {rules : List Verdict} {t out : List ℕ} {r : Outcome} {after : List ℕ} → r ≡ outcome (first rules) (length t) → after ≡ room (first rules) t out → Gives rules t out r after
+gives : {rules : List Verdict} {t out : List ℕ} {r : Outcome} {after : List ℕ} → r ≡ answered (first rules) (length t) → after ≡ room (first rules) t out → Gives rules t out r after
 gives p q = record { answers = p; leaves = q }
 
 pub worked : AllHold Holds cases

@@ -3,13 +3,12 @@ use Rattle.std.specs.Prelude.{ℕ, ◌≡◌, Bool, true, false, List, [], ◌�
 use Prim.Native.String.{String}
 use Rattle.base.specs.Calls.{over, placed}
 use Rattle.base.specs.Quoted.{bytes, desk}
-use Rattle.base.specs.declared.Outcome.TheVariants.{Done, Refused}
+use Rattle.base.specs.Verdicts.{Done, Refused}
 use Rattle.alphabets.specs.Text.{ReadTo, WrittenTo}
 use Rattle.alphabets.specs.Steps.{back_table}
 use Rattle.alphabets.specs.Parts.{extent, piece_text}
 use Rattle.alphabets.specs.Parts as parts
-use Rattle.alphabets.specs.declared.parts.Extent.{Extent}
-use Rattle.alphabets.specs.declared.parts.Extent.TheVariants.{Takes, Halts}
+use Rattle.alphabets.specs.Extent.{Extent, Takes, Halts}
 use Rattle.values.specs.Day.{real_day}
 use Rattle.values.specs.Answers.{kopecks_of}
 

@@ -6,9 +6,7 @@ use mathlib.Core.Path.{◌≡◌, sym, ap, ◌∙◌, subst}
 use mathlib.Core.List.{List, ◌++◌}
 use lib.ListN.{length, take, drop}
 use Rattle.base.specs.Calls.{over}
-use Rattle.base.specs.declared.Verdict.TheVariants.{Fine}
-use Rattle.base.specs.declared.Outcome.{Outcome}
-use Rattle.base.specs.declared.Outcome.TheVariants.{Done}
+use Rattle.base.specs.Verdicts.{Fine, Outcome, Done}
 use Rattle.fields.specs.Frame.{limit}
 use Rattle.types.specs.declared.Form.{Form}
 use Rattle.types.specs.Form.{form_of}

@@ -7,20 +7,18 @@ use mathlib.Core.Logic.{◌↔◌}
 use native.Mathlib.Omega.{arith}
 use lib.Dec.{eqb}
 use borrow.Author.Tests.{ne_eqb}
+use Rattle.std.specs.Prelude.{Result, Ok, Err}
 use Rattle.types.specs.declared.Form.{Form}
-use Rattle.base.specs.declared.Outcome.{Outcome}
-use Rattle.base.specs.declared.Outcome.TheVariants.{Done, Refused}
+use Rattle.base.specs.Verdicts.{Verdict, Fine, Outcome, Done, Refused, answered}
 use Rattle.alphabets.proofs.SizeLaws.{read_small, write_small}
 use Rattle.alphabets.proofs.CallTheorems.{read_one, write_one}
-use Rattle.base.specs.declared.Verdict.{Verdict}
-use Rattle.base.specs.declared.Verdict.TheVariants.{Fine, Broken}
 use Rattle.base.proofs.ByteLaws.{Bytes}
 use Rattle.base.proofs.RuleLaws.{fine_broken}
 use Rattle.values.specs.Answers.{kopecks_of, date_of}
 use Rattle.message.specs.Message.{verdict_of}
-use Rattle.message.specs.declared.Checked.{Checked}
-use Rattle.message.specs.declared.Checked.TheVariants as checked
-use Rattle.message.specs.Calls.{paid, amount_by, amount_of, day_split, day_by, day_of}
+use Rattle.message.specs.declared.Accepted.{Accepted}
+use Rattle.base.specs.declared.Refusal.{Refusal}
+use Rattle.message.specs.Calls.{paid, amount_of, counted, day_split, day_of}
 use Rattle.message.proofs.CheckTheorems.{checks_one}
 use Rattle.written.proofs.ToMessageTheorems.{message_one}
 use Rattle.sheets.proofs.ToSheetTheorems.{sheet_one}
@@ -36,23 +34,23 @@ on_is (suc n) = rw (ne_eqb (suc n) 0 (omega arith))
 -- a small answer is told by its word
 pub word_one : (o p : Outcome) → SmallOutcome o → SmallOutcome p → word o ≡ word p → o ≡ p
 word_one (Done n) (Done m) a b e = ap Done e
-word_one (Done n) (Refused k p) a b e = absurd (omega arith)
-word_one (Refused k p) (Done n) a b e = absurd (omega arith)
-word_one (Refused k p) (Refused j q) a b e =
+word_one (Done n) (Err r) a b e = absurd (omega arith)
+word_one (Err r) (Done n) a b e = absurd (omega arith)
+word_one (Err r) (Err u) a b e =
     let x = a.0 in
     let y = a.1 in
     let z = b.0 in
     let w = b.1 in
-    let f : k ≡ j = omega arith in
-    let g : p ≡ q = omega arith in
-    ap (λ (n : ℕ). Refused n p) f ∙ ap (Refused j) g
+    let f : r.number ≡ u.number = omega arith in
+    let g : r.place ≡ u.place = omega arith in
+    ap (λ (n : ℕ). Refused n r.place) f ∙ ap (Refused u.number) g
 
 -- below 2^63 exactly if accepted
 pub below_iff : (o : Outcome) → SmallOutcome o → (word o < 9223372036854775808) ↔ ((n : ℕ) × (o ≡ Done n))
 below_iff (Done n) a = ((λ h. (n, refl)), (λ h. omega arith))
-below_iff (Refused k p) a = ((λ h. absurd (omega arith)), (λ h. absurd (apart h.0 h.1)))
+below_iff (Err r) a = ((λ h. absurd (omega arith)), (λ h. absurd (apart h.0 h.1)))
   where
-    apart : (n : ℕ) → Refused k p ≡ Done n → ⊥
+    apart : (n : ℕ) → Refused r.number r.place ≡ Done n → ⊥
     apart n e = let z : ◌≡◌ {A = ℕ} 0 1 = cc in omega arith
 
 -- ---- exports over a call that lends room
@@ -96,27 +94,27 @@ pub sheet_fits : (form : Form) (m out : List ℕ) {r : ℕ} {a : List ℕ} (x : 
 sheet_fits form m out = word_fits SmallOutcome (sheet_small form m out)
 
 -- a check's answer is told by its word, too
-pub checked_one : (c d : Checked) → SmallCheck c → SmallCheck d → checked_word c ≡ checked_word d → c ≡ d
-checked_one (checked.Accepted n w) (checked.Accepted k v) a b e =
+pub checked_one : (c d : Result Accepted Refusal) → SmallCheck c → SmallCheck d → checked_word c ≡ checked_word d → c ≡ d
+checked_one (Ok c) (Ok d) a b e =
     let x = a.0 in
     let y = b.0 in
-    let f : n ≡ k = omega arith in
-    let g : w ≡ v = omega arith in
-    ap (λ (i : ℕ). checked.Accepted i w) f ∙ ap (checked.Accepted k) g
-checked_one (checked.Accepted n w) (checked.Refused k p) a b e = absurd (omega (arith, a.0, a.1))
-checked_one (checked.Refused k p) (checked.Accepted n w) a b e = absurd (omega (arith, b.0, b.1))
-checked_one (checked.Refused k p) (checked.Refused j q) a b e =
+    let f : c.fields ≡ d.fields = omega arith in
+    let g : c.present ≡ d.present = omega arith in
+    ap (λ (i : ℕ). Ok (counted i c.present)) f ∙ ap (λ (i : ℕ). Ok (counted d.fields i)) g
+checked_one (Ok c) (Err r) a b e = absurd (omega (arith, a.0, a.1))
+checked_one (Err r) (Ok d) a b e = absurd (omega (arith, b.0, b.1))
+checked_one (Err r) (Err u) a b e =
     let x = a.1 in
     let y = b.1 in
-    let f : k ≡ j = omega arith in
-    let g : p ≡ q = omega arith in
-    ap (λ (n : ℕ). checked.Refused n p) f ∙ ap (checked.Refused j) g
+    let f : r.number ≡ u.number = omega arith in
+    let g : r.place ≡ u.place = omega arith in
+    ap (λ (n : ℕ). Refused n r.place) f ∙ ap (Refused u.number) g
 
-pub checked_below_iff : (c : Checked) → SmallCheck c → (checked_word c < 9223372036854775808) ↔ ((n : ℕ) × (w : ℕ) × (c ≡ checked.Accepted n w))
-checked_below_iff (checked.Accepted n w) a = ((λ h. (n, w, refl)), (λ h. omega (arith, a.0, a.1)))
-checked_below_iff (checked.Refused k p) a = ((λ h. absurd (omega arith)), (λ h. absurd (apart h.0 h.1 h.2)))
+pub checked_below_iff : (c : Result Accepted Refusal) → SmallCheck c → (checked_word c < 9223372036854775808) ↔ ((n : ℕ) × (w : ℕ) × (c ≡ Ok (counted n w)))
+checked_below_iff (Ok c) a = ((λ h. (c.fields, c.present, refl)), (λ h. omega (arith, a.0, a.1)))
+checked_below_iff (Err r) a = ((λ h. absurd (omega arith)), (λ h. absurd (apart h.0 h.1 h.2)))
   where
-    apart : (n w : ℕ) → checked.Refused k p ≡ checked.Accepted n w → ⊥
+    apart : (n w : ℕ) → Err r ≡ Ok (counted n w) → ⊥
     apart n w e = let z : ◌≡◌ {A = ℕ} 0 1 = cc in omega arith
 
 -- kopecks and a date come out below 2^63 exactly if the message is accepted
@@ -124,18 +122,18 @@ pub amount_below_iff : (form : Form) (m : List ℕ) → Bytes m → (amount_word
 unfolding amount_of
 amount_below_iff form m b = go (verdict_of form m)
   where
-    go : (v : Verdict) → (amount_word (amount_by v (kopecks_of (paid form m))) < 9223372036854775808) ↔ (v ≡ Fine)
+    go : (v : Verdict) → (amount_word (answered v (kopecks_of (paid form m))) < 9223372036854775808) ↔ (v ≡ Fine)
     go Fine = (λ h. refl, λ e. omega (arith, kopecks_fit form m b))
-    go (Broken n p) = (λ h. absurd (omega arith), λ e. absurd (fine_broken n p (sym e)))
+    go (Err r) = (λ h. absurd (omega arith), λ e. absurd (fine_broken r.number r.place (sym e)))
 
 -- a date split is the date
-pub date_whole : (n : ℕ) → day_word (day_split n) ≡ n
+pub date_whole : (n : ℕ) → day_word (Ok (day_split n)) ≡ n
 date_whole n = omega arith
 
 pub day_below_iff : (form : Form) (m : List ℕ) → Bytes m → (day_word (day_of form m) < 9223372036854775808) ↔ (verdict_of form m ≡ Fine)
 unfolding day_of
 day_below_iff form m b = go (verdict_of form m)
   where
-    go : (v : Verdict) → (day_word (day_by v (date_of (paid form m))) < 9223372036854775808) ↔ (v ≡ Fine)
+    go : (v : Verdict) → (day_word (answered v (day_split (date_of (paid form m)))) < 9223372036854775808) ↔ (v ≡ Fine)
     go Fine = (λ h. refl, λ e. omega (arith, date_fits form m b, date_whole (date_of (paid form m))))
-    go (Broken n p) = (λ h. absurd (omega arith), λ e. absurd (fine_broken n p (sym e)))
+    go (Err r) = (λ h. absurd (omega arith), λ e. absurd (fine_broken r.number r.place (sym e)))

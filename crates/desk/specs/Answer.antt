@@ -1,15 +1,10 @@
 -- An answer as one 64-bit number (K1-K4). Assumes nothing.
-use Rattle.std.specs.Prelude.{ℕ, zero, suc, ◌+◌, ◌-◌, ◌*◌, Bool, true, false}
-use Rattle.base.specs.declared.Outcome.{Outcome}
-use Rattle.base.specs.declared.Outcome.TheVariants.{Done, Refused}
-use Rattle.message.specs.declared.Checked as checked
-use Rattle.message.specs.declared.Checked.TheVariants as check
-use Rattle.message.specs.declared.Amount as amounts
-use Rattle.message.specs.declared.Amount.TheVariants as amount
-use Rattle.message.specs.declared.Day as days
-use Rattle.message.specs.declared.Day.TheVariants as day
-use Rattle.message.specs.declared.Span as spans
-use Rattle.message.specs.declared.Span.TheVariants as span
+use Rattle.std.specs.Prelude.{ℕ, zero, suc, ◌+◌, ◌-◌, ◌*◌, Bool, true, false, Option, None, Some, Result, Ok, Err}
+use Rattle.base.specs.Verdicts.{Outcome, Done}
+use Rattle.base.specs.declared.Refusal.{Refusal}
+use Rattle.message.specs.declared.Accepted.{Accepted}
+use Rattle.message.specs.declared.Span.{Span}
+use Rattle.message.specs.declared.Day.{Day}
 
 -- refused: 2^63 + number · 2^32 + place
 abbrev pub refused_word : ℕ → ℕ → ℕ
@@ -18,27 +13,27 @@ refused_word number place = 9223372036854775808 + number * 4294967296 + place
 -- accepted: the units written, below 2^63
 abbrev pub word : Outcome → ℕ
 word (Done n) = n
-word (Refused number place) = refused_word number place
+word (Err r) = refused_word r.number r.place
 
 -- accepted: the number of fields + the word of their places · 2^16
-abbrev pub checked_word : checked.Checked → ℕ
-checked_word (check.Accepted fields present) = fields + present * 65536
-checked_word (check.Refused number place) = refused_word number place
+abbrev pub checked_word : Result Accepted Refusal → ℕ
+checked_word (Ok a) = a.fields + a.present * 65536
+checked_word (Err r) = refused_word r.number r.place
 
 -- start · 2^32 + length; 0 where there is none
-abbrev pub span_word : spans.Span → ℕ
-span_word (span.Part start end) = start * 4294967296 + (end - start)
-span_word span.Nothing = 0
+abbrev pub span_word : Option Span → ℕ
+span_word (Some s) = s.start * 4294967296 + (s.end - s.start)
+span_word None = 0
 
 -- accepted: the kopecks
-abbrev pub amount_word : amounts.Amount → ℕ
-amount_word (amount.Is n) = n
-amount_word (amount.Refused number place) = refused_word number place
+abbrev pub amount_word : Result ℕ Refusal → ℕ
+amount_word (Ok n) = n
+amount_word (Err r) = refused_word r.number r.place
 
 -- accepted: year · 10000 + month · 100 + day
-abbrev pub day_word : days.Day → ℕ
-day_word (day.On y m d) = y * 10000 + m * 100 + d
-day_word (day.Refused number place) = refused_word number place
+abbrev pub day_word : Result Day Refusal → ℕ
+day_word (Ok d) = d.year * 10000 + d.month * 100 + d.day
+day_word (Err r) = refused_word r.number r.place
 
 -- 0 is off, anything else on
 abbrev pub is_on : ℕ → Bool

@@ -1,7 +1,7 @@
 -- There and back through the exports, by the words that they return (D2d, D2e, K4, K7, K8). Assumes nothing.
 use Rattle.std.specs.Prelude.{ℕ, ◌≤◌, ◌<◌, ◌≡◌, List, ◌++◌, length, take, drop}
 use Rattle.base.specs.Calls.{over}
-use Rattle.base.specs.declared.Outcome.TheVariants.{Done}
+use Rattle.base.specs.Verdicts.{Done}
 use Rattle.fields.specs.Field.{fields}
 use Rattle.types.specs.declared.Form.{Form}
 use Rattle.types.specs.Sign.{sign_of}

@@ -8,8 +8,8 @@ ghost use Rattle.desk.specs.Answer.{refused_word, word, checked_word, span_word,
 ghost use Rattle.desk.specs.Exports.{ReadWord, WrittenWord, CheckWord, MessageWord, SheetWord};
 ghost use Rattle.desk.specs.Sizes.{Fits, SmallOutcome, SmallCheck, SmallSpan, SmallAmount, SmallDay};
 
-use base::Outcome;
-use message::{Amount, Checked, Day, Span};
+use base::{Outcome, Refusal};
+use message::{Accepted, Day, Span};
 use types::forms::form_of;
 
 fn is_on(sign: u32) -> bool
@@ -18,11 +18,11 @@ fn is_on(sign: u32) -> bool
     sign != 0
 }
 
-fn refused(number: u32, place: usize) -> u64
-    requires { Fits number place }
-    ensures { result ≡ refused_word number place }
+fn refused(r: Refusal) -> u64
+    requires { Fits r.number r.place }
+    ensures { result ≡ refused_word r.number r.place }
 {
-    9223372036854775808 + number as u64 * 4294967296 + place as u64
+    9223372036854775808 + r.number as u64 * 4294967296 + r.place as u64
 }
 
 // The answer as one number.
@@ -31,48 +31,48 @@ fn word_of(o: Outcome) -> u64
     ensures { result ≡ word o }
 {
     match o {
-        Outcome::Done(n) => n as u64,
-        Outcome::Refused { number, place } => refused(number, place),
+        Ok(n) => n as u64,
+        Err(r) => refused(r),
     }
 }
 
-fn checked_of(c: Checked) -> u64
+fn checked_of(c: Result<Accepted, Refusal>) -> u64
     requires { SmallCheck c }
     ensures { result ≡ checked_word c }
 {
     match c {
-        Checked::Accepted { fields, present } => fields as u64 + present as u64 * 65536,
-        Checked::Refused { number, place } => refused(number, place),
+        Ok(a) => a.fields as u64 + a.present as u64 * 65536,
+        Err(r) => refused(r),
     }
 }
 
-fn span_of(s: Span) -> u64
+fn span_of(s: Option<Span>) -> u64
     requires { SmallSpan s }
     ensures { result ≡ span_word s }
 {
     match s {
-        Span::Part { start, end } => start as u64 * 4294967296 + (end - start) as u64,
-        Span::Nothing => 0,
+        Some(s) => s.start as u64 * 4294967296 + (s.end - s.start) as u64,
+        None => 0,
     }
 }
 
-fn amount_of(a: Amount) -> u64
+fn amount_of(a: Result<u64, Refusal>) -> u64
     requires { SmallAmount a }
     ensures { result ≡ amount_word a }
 {
     match a {
-        Amount::Is(n) => n,
-        Amount::Refused { number, place } => refused(number, place),
+        Ok(n) => n,
+        Err(r) => refused(r),
     }
 }
 
-fn day_of(d: Day) -> u64
+fn day_of(d: Result<Day, Refusal>) -> u64
     requires { SmallDay d }
     ensures { result ≡ day_word d }
 {
     match d {
-        Day::On { year, month, day } => year as u64 * 10000 + month as u64 * 100 + day as u64,
-        Day::Refused { number, place } => refused(number, place),
+        Ok(d) => d.year as u64 * 10000 + d.month as u64 * 100 + d.day as u64,
+        Err(r) => refused(r),
     }
 }
 

@@ -5,7 +5,7 @@ use Rattle.desk.specs.Sizes.{SmallAmount}
 use Rattle.desk.proofs.amount_of.Goals as goal
 
 pub refused-requires : goal.refused-requires
-refused-requires c = subst SmallAmount c.in-Refused.is c.requires
+refused-requires c = subst SmallAmount c.in-Err.is c.requires
 
-pub returns-in-Refused : goal.returns-in-Refused
-returns-in-Refused c = c.refused.ensures ∙ sym (ap amount_word c.in-Refused.is)
+pub returns-in-Err : goal.returns-in-Err
+returns-in-Err c = c.refused.ensures ∙ sym (ap amount_word c.in-Err.is)

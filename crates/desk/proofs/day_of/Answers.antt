@@ -5,10 +5,10 @@ use Rattle.desk.specs.Sizes.{SmallDay}
 use Rattle.desk.proofs.day_of.Goals as goal
 
 pub refused-requires : goal.refused-requires
-refused-requires c = subst SmallDay c.in-Refused.is c.requires
+refused-requires c = subst SmallDay c.in-Err.is c.requires
 
-pub returns-in-On : goal.returns-in-On
-returns-in-On c = sym (ap day_word c.in-On.is)
+pub returns-in-Ok : goal.returns-in-Ok
+returns-in-Ok c = sym (ap day_word c.in-Ok.is)
 
-pub returns-in-Refused : goal.returns-in-Refused
-returns-in-Refused c = c.refused.ensures ∙ sym (ap day_word c.in-Refused.is)
+pub returns-in-Err : goal.returns-in-Err
+returns-in-Err c = c.refused.ensures ∙ sym (ap day_word c.in-Err.is)

@@ -3,4 +3,4 @@ use Rattle.answers.proofs.CallLaws.{kept}
 use Rattle.answers.proofs.programs.past_room.Goals as goal
 
 pub returns : goal.returns
-returns c = let a = c.args in kept a.a _ _ c.in-Refused.is c.if-number-eq17.false
+returns c = let a = c.args in kept a.a _ _ c.in-Err.is c.if-number-eq17.false
