@@ -1,16 +1,31 @@
 // A bank text as details: the lines that it makes behind a VO code in 70 and in the 72 of a 202, and the room left; where 70 can't hold it, how it
 // runs on into the 72 of a 103; and why lines break where they do.
-use crate::words::{tell_bytes, tell_characters, tell_number, tell_text};
+ghost use Rattle.std.specs.Prelude.{◌≤◌, length};
+
+use crate::words::{tell_bytes, tell_count, tell_number, tell_text};
 use alphabets::write_text;
-use base::Outcome;
 use base::bytes::{front, past, put};
-use details::{DetailsField, Size, lay, room_from, size_of};
+use details::{DetailsField, lay, room_from, size_of};
 use runon::{Run, run_on};
-use stored::{behind, line_at, up_to};
+use stored::up_to;
 use streams::{Output, write_output};
 
 // Code and texts that run on may come to so many bytes.
 const MOST: usize = 210;
+
+// A text as a clerk types it, measured with the sign or without.
+#[derive(Clone, Copy)]
+pub(crate) struct Desk<'a> {
+    pub(crate) sign: bool,
+    pub(crate) text: &'a [u8],
+}
+
+// The code in front of details; zeros stand for the clerk's own digits.
+fn code_of(sign: bool) -> &'static [u8]
+    ensures { length result.now ≤ 11 }
+{
+    if sign { b"'(VO00000)'" } else { b"(VO00000)" }
+}
 
 // The last of the lines laid: which one, counted from 0, and its bytes, the mark counted.
 #[derive(Clone, Copy)]
@@ -19,39 +34,25 @@ struct Last {
     bytes: usize,
 }
 
-fn less(a: usize, b: usize) -> usize {
-    if a < b {
-        return 0;
-    }
-    a - b
-}
-
 // Each line behind its length.
 fn tell_lines(rt: &impl Output, laid: &[u8]) -> Last {
-    let mut line = 0;
-    let mut at = 0;
-    while at < laid.len() {
-        let ended = line_at(laid, at);
-        let bytes = up_to(b'\r', ended);
+    let mut last = Last { line: 0, bytes: 0 };
+    for (line, ended) in laid.split_inclusive(|b| *b == b'\n').enumerate() {
+        let bytes = up_to(b'\r', up_to(b'\n', ended));
         tell_number(rt, bytes.len());
         tell_text(rt, bytes);
-        let next = behind(laid, at, ended.len());
-        if next <= at {
-            return Last {
-                line,
-                bytes: bytes.len(),
-            };
-        }
-        line += 1;
-        at = next;
+        last = Last {
+            line,
+            bytes: bytes.len(),
+        };
     }
-    Last { line, bytes: 0 }
+    last
 }
 
-// The lines of a details field, where the text fits them. None has room for more than 250 bytes.
+// The lines of a details field, where the text fits them. Nothing has room for more than 250 bytes.
 fn tell_laid(rt: &impl Output, into: DetailsField, least: usize, text: &[u8]) -> Last {
     let mut out = [0u8; 250];
-    let n = lay(into, least, text, &mut out, 0);
+    let n = lay(into, least, text, &mut out, 0).unwrap_or(0);
     tell_lines(rt, front(&out, n))
 }
 
@@ -59,7 +60,8 @@ fn tell_laid(rt: &impl Output, into: DetailsField, least: usize, text: &[u8]) ->
 fn tell_left(rt: &impl Output, into: DetailsField, last: Last) {
     let room = room_from(into, last.line);
     write_output(rt, b"it fits, with ");
-    tell_bytes(rt, less(room.bytes, less(last.bytes, room.mark)));
+    let used = last.bytes.saturating_sub(room.mark);
+    tell_bytes(rt, room.bytes.saturating_sub(used));
     write_output(rt, b" left\n");
 }
 
@@ -67,7 +69,7 @@ fn tell_long(rt: &impl Output, size: usize, most: usize) {
     write_output(rt, b"it does not fit: code and text have ");
     tell_bytes(rt, size);
     write_output(rt, b", ");
-    tell_number(rt, less(size, most));
+    tell_number(rt, size.saturating_sub(most));
     write_output(rt, b" more than the lines hold\n");
 }
 
@@ -93,31 +95,35 @@ fn tell_unfit(rt: &impl Output, into: DetailsField, size: usize) {
 }
 
 fn tell_fit(rt: &impl Output, into: DetailsField, least: usize, text: &[u8], last: Last) {
-    let size = size_of(into, least, text);
-    match size {
-        Size::Bytes(_) => tell_left(rt, into, last),
-        Size::Unfit => tell_unfit(rt, into, text.len()),
+    match size_of(into, least, text) {
+        Some(_) => tell_left(rt, into, last),
+        None => tell_unfit(rt, into, text.len()),
     }
+}
+
+// The lines, and whether the text fits them.
+fn tell_field(rt: &impl Output, into: DetailsField, least: usize, text: &[u8]) -> Last {
+    let last = tell_laid(rt, into, least, text);
+    tell_fit(rt, into, least, text, last);
+    last
 }
 
 // Behind an RPP line the lines are the same, where the text fits. Answers whether lines were broken, if at all then in 72, whose first one is shorter.
 fn tell_fields(rt: &impl Output, least: usize, text: &[u8]) -> bool {
     write_output(rt, b"in field 70, with your own five digits in the code:\n");
-    let in70 = tell_laid(rt, DetailsField::In70, least, text);
-    tell_fit(rt, DetailsField::In70, least, text, in70);
+    tell_field(rt, DetailsField::In70, least, text);
     write_output(rt, b"in field 72 of a 202:\n");
-    let in72 = tell_laid(rt, DetailsField::In72, least, text);
-    tell_fit(rt, DetailsField::In72, least, text, in72);
+    let in72 = tell_field(rt, DetailsField::In72, least, text);
     write_output(rt, b"behind an RPP line ");
     tell_fit(rt, DetailsField::BehindRpp, least, text, in72);
     in72.line > 0
 }
 
 // A half of a text that is cut, behind the code or nothing, in the lines of its field; answers how many bytes they have, marks left out.
-fn tell_half(rt: &impl Output, sign: bool, into: DetailsField, code: &[u8], half: &[u8]) -> usize {
+fn tell_half(rt: &impl Output, half: Desk, into: DetailsField, code: &[u8]) -> usize {
     let mut bank = [0u8; 250];
-    let o = write_text(sign, half, &mut bank);
-    let Outcome::Done(n) = o else {
+    let o = write_text(half.sign, half.text, &mut bank);
+    let Ok(n) = o else {
         return 0;
     };
     let spelt = front(&bank, n);
@@ -130,29 +136,31 @@ fn tell_half(rt: &impl Output, sign: bool, into: DetailsField, code: &[u8], half
 }
 
 // Both halves, the second in the lines of 72.
-fn tell_halves(
-    rt: &impl Output,
-    sign: bool,
-    note: DetailsField,
-    code: &[u8],
-    one: &[u8],
-    two: &[u8],
-) {
+fn tell_halves(rt: &impl Output, note: DetailsField, one: Desk, two: Desk) {
     write_output(rt, b"cut behind ");
-    tell_characters(rt, one.len());
+    tell_count(rt, one.text.len(), b" character", b" characters");
     write_output(rt, b":\n");
-    let size = tell_half(rt, sign, DetailsField::In70, code, one);
-    let more = tell_half(rt, sign, note, b"", two);
+    let size = tell_half(rt, one, DetailsField::In70, code_of(one.sign));
+    let more = tell_half(rt, two, note, b"");
     write_output(rt, b"it fits, with ");
-    tell_bytes(rt, less(less(MOST, size), more));
+    tell_bytes(rt, MOST.saturating_sub(size).saturating_sub(more));
     write_output(rt, b" left of 210\n");
 }
 
 // Answers whether it was cut.
-fn tell_run(rt: &impl Output, sign: bool, note: DetailsField, code: &[u8], desk: &[u8]) -> bool {
-    match run_on(sign, code, note, desk) {
+fn tell_run(rt: &impl Output, note: DetailsField, desk: Desk) -> bool {
+    let Desk { sign, text } = desk;
+    match run_on(sign, code_of(sign), note, text) {
         Run::Cut(k) => {
-            tell_halves(rt, sign, note, code, front(desk, k), past(desk, k));
+            let one = Desk {
+                sign,
+                text: front(text, k),
+            };
+            let two = Desk {
+                sign,
+                text: past(text, k),
+            };
+            tell_halves(rt, note, one, two);
             return true;
         }
         Run::Whole => write_output(rt, b"it goes into field 70 whole\n"),
@@ -163,15 +171,15 @@ fn tell_run(rt: &impl Output, sign: bool, note: DetailsField, code: &[u8], desk:
 }
 
 // Where 70 can't hold the text, it runs on. Answers whether it was cut: what can be cut behind an RPP line can be without one.
-fn tell_runs(rt: &impl Output, sign: bool, code: &[u8], desk: &[u8], text: &[u8]) -> bool {
-    let size = size_of(DetailsField::In70, code.len(), text);
-    if let Size::Bytes(_) = size {
+fn tell_runs(rt: &impl Output, desk: Desk, least: usize, text: &[u8]) -> bool {
+    let size = size_of(DetailsField::In70, least, text);
+    if size.is_some() {
         return false;
     }
     write_output(rt, b"in a 103, run on into field 72, ");
-    let cut = tell_run(rt, sign, DetailsField::In72, code, desk);
+    let cut = tell_run(rt, DetailsField::In72, desk);
     write_output(rt, b"and behind an RPP line, ");
-    tell_run(rt, sign, DetailsField::BehindRpp, code, desk);
+    tell_run(rt, DetailsField::BehindRpp, desk);
     cut
 }
 
@@ -185,28 +193,20 @@ fn tell_why(rt: &impl Output, sign: bool) {
     write_output(rt, b"\n");
 }
 
-// The longest bank text goes behind the longer code.
-fn tell_behind(rt: &impl Output, sign: bool, code: &[u8], desk: &[u8], bank: &[u8]) {
+// Details have a byte at least behind their code. The longest bank text goes behind the longer code.
+pub(crate) fn tell_details(rt: &impl Output, desk: Desk, bank: &[u8]) {
+    if bank.is_empty() {
+        write_output(rt, b"no details: behind the code there must be a text\n");
+        return;
+    }
+    let code = code_of(desk.sign);
     let mut room = [0u8; 10011];
     put(&mut room, 0, code);
     put(&mut room, code.len(), bank);
     let text = front(&room, code.len() + bank.len());
     let broken = tell_fields(rt, code.len(), text);
-    let cut = tell_runs(rt, sign, code, desk, text);
+    let cut = tell_runs(rt, desk, code.len(), text);
     if broken || cut {
-        tell_why(rt, sign);
+        tell_why(rt, desk.sign);
     }
-}
-
-// Details have a byte at least behind their code.
-pub(crate) fn tell_details(rt: &impl Output, sign: bool, desk: &[u8], bank: &[u8]) {
-    if bank.len() == 0 {
-        write_output(rt, b"no details: behind the code there must be a text\n");
-        return;
-    }
-    if sign {
-        tell_behind(rt, sign, b"'(VO00000)'", desk, bank);
-        return;
-    }
-    tell_behind(rt, sign, b"(VO00000)", desk, bank);
 }

@@ -13,20 +13,15 @@ const FREE: u8 = 0x98;
 
 // A byte that would steer the screen is shown as a point.
 fn shown(b: u8) -> u8 {
-    if b < b' ' {
-        return b'.';
-    }
     match b {
-        DEL | FREE => b'.',
+        0..=0x1F | DEL | FREE => b'.',
         _ => b,
     }
 }
 
 fn screen(text: &mut [u8]) {
-    let mut i = 0;
-    while i < text.len() {
-        text[i] = shown(text[i]);
-        i += 1;
+    for b in text.iter_mut() {
+        *b = shown(*b);
     }
 }
 

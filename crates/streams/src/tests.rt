@@ -2,7 +2,6 @@
 use super::*;
 use std::cell::Cell;
 use std::fmt::Display;
-use std::io;
 
 // Gives its bytes one at a time, and then fails.
 #[derive(Drop)]
@@ -63,21 +62,14 @@ impl Eprint for Clerk {
 
 impl Output for Clerk {}
 
-fn whole_of(came: Input) -> Option<usize> {
-    match came {
-        Input::Whole(n) => Some(n),
-        Input::Failed => None,
-    }
-}
-
 #[test]
 fn reads_to_the_end(rt: HostRuntime) {
     let mut room = [0u8; 4];
     let mut few: &[u8] = b"ab";
-    assert_eq!(rt; whole_of(fill(&mut few, &mut room)), Some(2));
+    assert_eq!(rt; fill(&mut few, &mut room).ok(), Some(2));
     assert_eq!(rt; room, *b"ab\0\0");
     let mut many: &[u8] = b"abcdef";
-    assert_eq!(rt; whole_of(fill(&mut many, &mut room)), Some(4));
+    assert_eq!(rt; fill(&mut many, &mut room).ok(), Some(4));
     assert_eq!(rt; room, *b"abcd");
     assert_eq!(rt; many, b"ef".as_slice());
 }
@@ -85,12 +77,9 @@ fn reads_to_the_end(rt: HostRuntime) {
 #[test]
 fn fails_in_the_middle(rt: HostRuntime) {
     let mut room = [0u8; 4];
+    assert_eq!(rt; fill(&mut Halting { left: b"abc" }, &mut room).ok(), None);
     assert_eq!(rt;
-        whole_of(fill(&mut Halting { left: b"abc" }, &mut room)),
-        None
-    );
-    assert_eq!(rt;
-        whole_of(fill(&mut Halting { left: b"abcd" }, &mut room)),
+        fill(&mut Halting { left: b"abcd" }, &mut room).ok(),
         Some(4)
     );
     assert_eq!(rt; room, *b"abcd");

@@ -1,6 +1,6 @@
 // What comes back: a message read into its sheet, that sheet written again, and that message read again.
 use crate::tell::{tell, tell_refusal, tell_same};
-use base::Outcome;
+use base::Refusal;
 use base::bytes::front;
 use sheets::to_sheet::to_sheet;
 use streams::{Output, write_output};
@@ -14,8 +14,8 @@ const LONGEST: usize = 10000;
 pub(crate) fn tell_read(rt: &impl Output, form: Form, m: &[u8], sheet: &[u8]) {
     let mut out = [0u8; LONGEST];
     match to_sheet(form, m, &mut out) {
-        Outcome::Done(n) => tell_same(rt, front(&out, n), sheet),
-        Outcome::Refused { number, place } => tell_refusal(rt, number, place),
+        Ok(n) => tell_same(rt, front(&out, n), sheet),
+        Err(Refusal { number, place }) => tell_refusal(rt, number, place),
     }
 }
 
@@ -23,22 +23,22 @@ pub(crate) fn tell_read(rt: &impl Output, form: Form, m: &[u8], sheet: &[u8]) {
 fn tell_again(rt: &impl Output, form: Form, sheet: &[u8]) {
     let mut out = [0u8; LONGEST];
     match to_message(sheet, &mut out) {
-        Outcome::Done(n) => {
+        Ok(n) => {
             write_output(rt, b"again\t");
             tell(rt, n as u64, b"\t");
             tell_read(rt, form, front(&out, n), sheet);
         }
-        Outcome::Refused { number, place } => tell_refusal(rt, number, place),
+        Err(Refusal { number, place }) => tell_refusal(rt, number, place),
     }
 }
 
 pub(crate) fn tell_sheet(rt: &impl Output, form: Form, m: &[u8]) {
     let mut out = [0u8; LONGEST];
     match to_sheet(form, m, &mut out) {
-        Outcome::Done(n) => {
+        Ok(n) => {
             tell(rt, n as u64, b"\t");
             tell_again(rt, form, front(&out, n));
         }
-        Outcome::Refused { number, place } => tell_refusal(rt, number, place),
+        Err(Refusal { number, place }) => tell_refusal(rt, number, place),
     }
 }

@@ -1,14 +1,16 @@
 // A message through the calls: the check with its list, the parts of the places, the kopecks and the date, a line each; and its sheet,
 // there and back. The line of a message has the type, the units of room for its list and the bytes of the message.
+ghost use Rattle.std.specs.Prelude.{◌<◌, IfSome};
+
 use crate::back::tell_sheet;
-use crate::heads::number_of;
-use crate::rooms::lent_list;
-use crate::tally::Taken;
+use crate::heads::{number_of, number_within};
+use crate::rooms::lent;
+use crate::tally::{Kind, Taken};
 use crate::tell::{tell, tell_refusal};
+use base::Refusal;
 use message::check::check;
 use message::content::span;
 use message::paid::{date, kopecks};
-use message::{Amount, Checked, Day, Span};
 use stored::{body_at, cut, line_at};
 use streams::{Output, write_output};
 use types::forms::form_of;
@@ -20,9 +22,6 @@ const TYPE: usize = 1;
 const LENT: usize = 2;
 
 const BYTES: usize = 3;
-
-// The greatest type that a caller can give.
-const MOST: usize = 4294967295;
 
 // The longest list that is lent.
 const ROOM: usize = 64;
@@ -53,22 +52,20 @@ fn tell_number(rt: &impl Output, k: usize, n: u32, fields: usize) {
 }
 
 fn tell_numbers(rt: &impl Output, list: &[u32; ROOM], fields: usize) {
-    let mut k = 0;
-    while k < ROOM {
-        tell_number(rt, k, list[k], fields);
-        k += 1;
+    for (k, n) in list.iter().enumerate() {
+        tell_number(rt, k, *n, fields);
     }
 }
 
 fn tell_check(rt: &impl Output, form: Form, room: usize, m: &[u8]) {
     let mut list = [BLANK; ROOM];
-    match check(form, m, lent_list(&mut list, room)) {
-        Checked::Accepted { fields, present } => {
-            tell(rt, fields as u64, b"\t");
-            tell(rt, present as u64, b"\t");
-            tell_numbers(rt, &list, fields);
+    match check(form, m, lent(&mut list, room)) {
+        Ok(a) => {
+            tell(rt, a.fields as u64, b"\t");
+            tell(rt, a.present as u64, b"\t");
+            tell_numbers(rt, &list, a.fields);
         }
-        Checked::Refused { number, place } => {
+        Err(Refusal { number, place }) => {
             tell_refusal(rt, number, place);
             tell_numbers(rt, &list, 0);
         }
@@ -78,38 +75,36 @@ fn tell_check(rt: &impl Output, form: Form, room: usize, m: &[u8]) {
 fn tell_part(rt: &impl Output, form: Form, m: &[u8], place: usize) {
     part_from(rt, place);
     match span(form, m, place) {
-        Span::Part { start, end } => {
-            tell(rt, start as u64, b"-");
-            tell(rt, end as u64, b"");
+        Some(s) => {
+            tell(rt, s.start as u64, b"-");
+            tell(rt, s.end as u64, b"");
         }
-        Span::Nothing => write_output(rt, b"."),
+        None => write_output(rt, b"."),
     }
 }
 
 // The places of the longest type, and the one behind.
 fn tell_parts(rt: &impl Output, form: Form, m: &[u8]) {
-    let mut place = 0;
-    while place <= PLACES {
+    for place in 0..=PLACES {
         tell_part(rt, form, m, place);
-        place += 1;
     }
 }
 
 fn tell_kopecks(rt: &impl Output, form: Form, m: &[u8]) {
     match kopecks(form, m) {
-        Amount::Is(n) => tell(rt, n, b""),
-        Amount::Refused { number, place } => tell_refusal(rt, number, place),
+        Ok(n) => tell(rt, n, b""),
+        Err(Refusal { number, place }) => tell_refusal(rt, number, place),
     }
 }
 
 fn tell_date(rt: &impl Output, form: Form, m: &[u8]) {
     match date(form, m) {
-        Day::On { year, month, day } => {
-            tell(rt, year as u64, b" ");
-            tell(rt, month as u64, b" ");
-            tell(rt, day as u64, b"");
+        Ok(d) => {
+            tell(rt, d.year as u64, b" ");
+            tell(rt, d.month as u64, b" ");
+            tell(rt, d.day as u64, b"");
         }
-        Day::Refused { number, place } => tell_refusal(rt, number, place),
+        Err(Refusal { number, place }) => tell_refusal(rt, number, place),
     }
 }
 
@@ -126,26 +121,16 @@ fn answer(rt: &impl Output, form: Form, room: usize, m: &[u8]) {
     write_output(rt, b"\n");
 }
 
-pub(crate) fn take_message(rt: &impl Output, list: &[u8], at: usize) -> Taken {
+pub(crate) fn take_message(rt: &impl Output, list: &[u8], at: usize) -> Option<Taken>
+    ensures { IfSome result (λ taken. at < taken.next) }
+{
     let head = line_at(list, at);
-    let kind = number_of(head, TYPE);
-    if kind > MOST {
-        return Taken::Wrong;
-    }
-    let room = number_of(head, LENT);
-    if room > ROOM {
-        return Taken::Wrong;
-    }
-    let body = body_at(list, at, BYTES);
-    let next = body.next;
-    if next == 0 {
-        return Taken::Wrong;
-    }
-    answer(
-        rt,
-        form_of(kind as u32),
-        room,
-        cut(list, body.start, body.size),
-    );
-    Taken::Message(next)
+    let kind = u32::try_from(number_of(head, TYPE)?).ok()?;
+    let room = number_within(head, LENT, ROOM)?;
+    let body = body_at(list, at, BYTES)?;
+    answer(rt, form_of(kind), room, cut(list, body.start, body.size));
+    Some(Taken {
+        kind: Kind::Message,
+        next: body.next,
+    })
 }

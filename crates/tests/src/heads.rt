@@ -6,6 +6,11 @@ pub(crate) fn word_of(head: &[u8], spaces: usize) -> &[u8] {
     word(b' ', head, spaces)
 }
 
-pub(crate) fn number_of(head: &[u8], spaces: usize) -> usize {
+pub(crate) fn number_of(head: &[u8], spaces: usize) -> Option<usize> {
     number(word_of(head, spaces))
+}
+
+// A number there that is not above the most.
+pub(crate) fn number_within(head: &[u8], spaces: usize, most: usize) -> Option<usize> {
+    number_of(head, spaces).filter(|n| *n <= most)
 }

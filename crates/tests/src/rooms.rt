@@ -1,5 +1,5 @@
 // Room that is lent to the calls.
-use base::bytes::{is_same, past};
+use base::bytes::past;
 
 // The longest room for a text or a message, and the longest text.
 pub(crate) const ROOM: usize = 16384;
@@ -11,24 +11,13 @@ pub(crate) fn blank_room() -> [u8; ROOM] {
     [BLANK; ROOM]
 }
 
-// The first n bytes, or all where there are fewer.
-pub(crate) fn lent(room: &mut [u8], n: usize) -> &mut [u8] {
-    if n < room.len() {
-        return &mut room[..n];
-    }
-    room
-}
-
-// The first n numbers, or all where there are fewer.
-pub(crate) fn lent_list(list: &mut [u32], n: usize) -> &mut [u32] {
-    if n < list.len() {
-        return &mut list[..n];
-    }
-    list
+// The first n units, or all where there are fewer.
+pub(crate) fn lent<T>(room: &mut [T], n: usize) -> &mut [T] {
+    let size = n.min(room.len());
+    &mut room[..size]
 }
 
 // The room behind the first n bytes is as it was.
 pub(crate) fn is_blank(room: &[u8], n: usize) -> bool {
-    let blank = blank_room();
-    is_same(past(room, n), past(&blank, n))
+    past(room, n).iter().all(|b| *b == BLANK)
 }

@@ -1,12 +1,14 @@
 // A text through its call, held against what the list expects. The line of a text has the name, the way, the sign, the room, the
 // number, the place, the bytes of the input, and how many raw bytes the expected text has and the input has: bench/texts.py says more.
 // A text that has more bytes than raw bytes goes on with these from the first.
-use crate::heads::{number_of, word_of};
+ghost use Rattle.std.specs.Prelude.{◌<◌, IfSome};
+
+use crate::heads::{number_of, number_within, word_of};
 use crate::rooms::{ROOM, blank_room, lent};
-use crate::tally::Taken;
+use crate::tally::{Kind, Taken};
 use crate::tell::{tell, tell_refusal};
-use base::Outcome;
 use base::bytes::{front, is_same};
+use base::{Outcome, Refusal};
 use stored::{behind, body_at, cut, line_at};
 use streams::{Output, write_output};
 
@@ -29,66 +31,75 @@ const TEXT: usize = 8;
 
 const INPUT: usize = 9;
 
-fn is_either(word: &[u8], a: &[u8], b: &[u8]) -> bool {
-    if is_same(word, a) {
-        return true;
-    }
-    is_same(word, b)
+// Which call a text goes through.
+#[derive(Clone, Copy)]
+enum Way {
+    Read,
+    Write,
 }
 
-fn is_right(head: &[u8]) -> bool {
-    if !is_either(word_of(head, WAY), b"r", b"w") {
-        return false;
-    }
-    if !is_either(word_of(head, SIGN), b"+", b"-") {
-        return false;
-    }
-    if number_of(head, LENT) > ROOM {
-        return false;
-    }
-    number_of(head, LENGTH) <= ROOM
+// A call, with the sign or without, and the room that it is lent.
+#[derive(Clone, Copy)]
+struct Call {
+    way: Way,
+    sign: bool,
+    room: usize,
+}
+
+fn call_of(head: &[u8]) -> Option<Call> {
+    let way = match word_of(head, WAY) {
+        b"r" => Way::Read,
+        b"w" => Way::Write,
+        _ => return None,
+    };
+    let sign = match word_of(head, SIGN) {
+        b"+" => true,
+        b"-" => false,
+        _ => return None,
+    };
+    let room = number_within(head, LENT, ROOM)?;
+    Some(Call { way, sign, room })
 }
 
 // The raw bytes over and over.
 fn fill(out: &mut [u8], raw: &[u8]) {
-    if raw.len() == 0 {
+    if raw.is_empty() {
         return;
     }
-    let mut i = 0;
-    while i < out.len() {
-        out[i] = raw[i % raw.len()];
-        i += 1;
+    for (i, b) in out.iter_mut().enumerate() {
+        *b = raw[i % raw.len()];
     }
 }
 
-fn call(head: &[u8], input: &[u8], out: &mut [u8]) -> Outcome {
-    let sign = is_same(word_of(head, SIGN), b"+");
-    if is_same(word_of(head, WAY), b"r") {
-        return alphabets::read_text(sign, input, out);
+fn answer(call: Call, input: &[u8], out: &mut [u8]) -> Outcome {
+    let out = lent(out, call.room);
+    match call.way {
+        Way::Read => alphabets::read_text(call.sign, input, out),
+        Way::Write => alphabets::write_text(call.sign, input, out),
     }
-    alphabets::write_text(sign, input, out)
 }
 
 // The number is 0 where a text is expected, and the place is then its length.
 fn is_answer(said: Outcome, number: usize, place: usize) -> bool {
     match said {
-        Outcome::Done(n) => number == 0 && place == n,
-        Outcome::Refused {
-            number: rule,
-            place: spot,
-        } => number == rule as usize && place == spot,
+        Ok(n) => number == 0 && place == n,
+        Err(
+            Refusal {
+                number: rule,
+                place: spot,
+            },
+        ) => number == rule as usize && place == spot,
     }
 }
 
 // The answer and the whole room.
 fn is_expected(head: &[u8], said: Outcome, out: &[u8], text: &[u8]) -> bool {
-    let place = number_of(head, PLACE);
-    if !is_answer(said, number_of(head, NUMBER), place) {
+    let (Some(number), Some(place)) = (number_of(head, NUMBER), number_of(head, PLACE)) else {
         return false;
-    }
+    };
     let mut wanted = blank_room();
     fill(lent(&mut wanted, place), text);
-    is_same(out, &wanted)
+    is_answer(said, number, place) && is_same(out, &wanted)
 }
 
 // A record's name and what was answered. As expected, that says that the room was not left so.
@@ -96,52 +107,44 @@ fn tell_said(rt: &impl Output, head: &[u8], said: Outcome, out: &[u8]) {
     write_output(rt, word_of(head, NAME));
     write_output(rt, b"\t");
     match said {
-        Outcome::Done(n) => {
+        Ok(n) => {
             write_output(rt, b"said\t");
             tell(rt, n as u64, b"\t");
             write_output(rt, front(out, n));
         }
-        Outcome::Refused { number, place } => tell_refusal(rt, number, place),
+        Err(Refusal { number, place }) => tell_refusal(rt, number, place),
     }
 }
 
-// Whether the record comes out otherwise; if so it is told.
-fn is_otherwise(rt: &impl Output, head: &[u8], raw: &[u8], text: &[u8]) -> bool {
-    let mut input = blank_room();
+// A text as the call of its line has it; it is told where it comes out otherwise.
+fn kind_of(rt: &impl Output, head: &[u8], call: Call, input: &[u8], text: &[u8]) -> Kind {
     let mut out = blank_room();
-    let size = number_of(head, LENGTH);
-    fill(lent(&mut input, size), raw);
-    let said = call(
-        head,
-        front(&input, size),
-        lent(&mut out, number_of(head, LENT)),
-    );
+    let said = answer(call, input, &mut out);
     if is_expected(head, said, &out, text) {
-        return false;
+        return Kind::Text;
     }
     tell_said(rt, head, said, &out);
     write_output(rt, b"\n");
-    true
+    Kind::Otherwise
 }
 
-pub(crate) fn take_text(rt: &impl Output, list: &[u8], at: usize) -> Taken {
+pub(crate) fn take_text(rt: &impl Output, list: &[u8], at: usize) -> Option<Taken>
+    ensures { IfSome result (λ taken. at < taken.next) }
+{
     let head = line_at(list, at);
-    if !is_right(head) {
-        return Taken::Wrong;
-    }
-    let body = body_at(list, at, INPUT);
-    let from = body.next;
-    if from == 0 {
-        return Taken::Wrong;
-    }
-    let size = number_of(head, TEXT);
-    let next = behind(list, from, size);
-    if next == 0 {
-        return Taken::Wrong;
-    }
-    let raw = cut(list, body.start, body.size);
-    if is_otherwise(rt, head, raw, cut(list, from, size)) {
-        return Taken::Otherwise(next);
-    }
-    Taken::Text(next)
+    let call = call_of(head)?;
+    let length = number_within(head, LENGTH, ROOM)?;
+    let body = body_at(list, at, INPUT)?;
+    let size = number_of(head, TEXT)?;
+    let next = behind(list, body.next, size)?;
+    let mut input = blank_room();
+    fill(lent(&mut input, length), cut(list, body.start, body.size));
+    let kind = kind_of(
+        rt,
+        head,
+        call,
+        front(&input, length),
+        cut(list, body.next, size),
+    );
+    Some(Taken { kind, next })
 }

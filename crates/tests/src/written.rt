@@ -1,11 +1,13 @@
 // A sheet through `to_message`, there and back: the number of bytes, the message and whether it reads back, or the refusal. The line of
 // a sheet has the bytes of room and the bytes of the sheet.
+ghost use Rattle.std.specs.Prelude.{◌<◌, IfSome};
+
 use crate::back::tell_read;
-use crate::heads::number_of;
+use crate::heads::number_within;
 use crate::rooms::{ROOM, blank_room, is_blank, lent};
-use crate::tally::Taken;
+use crate::tally::{Kind, Taken};
 use crate::tell::{tell, tell_refusal};
-use base::Outcome;
+use base::Refusal;
 use base::bytes::front;
 use stored::{body_at, cut, line_at};
 use streams::{Output, write_output};
@@ -26,13 +28,11 @@ fn tell_touched(rt: &impl Output, room: &[u8], n: usize) {
 
 // The form of a sheet that was written, by the first digit of its type.
 fn form_named(sheet: &[u8]) -> Form {
-    if sheet.len() < 4 {
-        return Form::Other;
+    match sheet.get(3) {
+        Some(b'1') => Form::Mt103,
+        Some(_) => Form::Mt202,
+        None => Form::Other,
     }
-    if sheet[3] == b'1' {
-        return Form::Mt103;
-    }
-    Form::Mt202
 }
 
 fn tell_written(rt: &impl Output, sheet: &[u8], n: usize, room: &[u8]) {
@@ -47,25 +47,23 @@ fn tell_written(rt: &impl Output, sheet: &[u8], n: usize, room: &[u8]) {
 fn tell_message(rt: &impl Output, sheet: &[u8], room: usize) {
     let mut out = blank_room();
     match to_message(sheet, lent(&mut out, room)) {
-        Outcome::Done(n) => tell_written(rt, sheet, n, &out),
-        Outcome::Refused { number, place } => {
+        Ok(n) => tell_written(rt, sheet, n, &out),
+        Err(Refusal { number, place }) => {
             tell_refusal(rt, number, place);
             tell_touched(rt, &out, 0);
         }
     }
 }
 
-pub(crate) fn take_sheet(rt: &impl Output, list: &[u8], at: usize) -> Taken {
-    let room = number_of(line_at(list, at), LENT);
-    if room > ROOM {
-        return Taken::Wrong;
-    }
-    let body = body_at(list, at, BYTES);
-    let next = body.next;
-    if next == 0 {
-        return Taken::Wrong;
-    }
+pub(crate) fn take_sheet(rt: &impl Output, list: &[u8], at: usize) -> Option<Taken>
+    ensures { IfSome result (λ taken. at < taken.next) }
+{
+    let room = number_within(line_at(list, at), LENT, ROOM)?;
+    let body = body_at(list, at, BYTES)?;
     tell_message(rt, cut(list, body.start, body.size), room);
     write_output(rt, b"\n");
-    Taken::Sheet(next)
+    Some(Taken {
+        kind: Kind::Sheet,
+        next: body.next,
+    })
 }

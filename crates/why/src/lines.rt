@@ -1,97 +1,72 @@
 // The lines of a message or of a sheet.
-ghost use Rattle.std.specs.Prelude.{◌≤◌, ◌<◌, length};
+ghost use Rattle.std.specs.Prelude.{◌≤◌};
 
-use base::bytes::front;
-use base::marks::mark_at;
-use stored::{behind, line_at};
+use base::bytes::{front, past};
+use stored::line_at;
 
-// A line is looked for: any, or one that begins with `:`.
-fn is_wanted(colons: bool, b: u8) -> bool {
-    if colons {
-        return b == b':';
-    }
-    true
+#[derive(Clone, Copy)]
+pub(crate) enum Kind {
+    Sheet,
+    Message,
 }
 
-// The start of the last such line at or before the place, or 0.
-pub(crate) fn last_start(s: &[u8], place: usize, colons: bool) -> usize
-    requires { place < length s.now }
-    ensures { result ≤ place }
-{
-    let mut last = 0;
-    let mut at = 0;
-    while at <= place {
-        if is_wanted(colons, s[at]) {
-            last = at;
-        }
-        at = mark_at(b'\n', s, at) + 1;
-    }
-    last
-}
-
-// Which line it is, from 1 on, that starts at this place of the text.
-pub(crate) fn line_number(s: &[u8], start: usize) -> usize {
-    let mut number = 1;
-    let mut at = 0;
-    while at < s.len() {
-        if start <= at {
-            return number;
-        }
-        at = mark_at(b'\n', s, at) + 1;
-        number += 1;
-    }
-    number
-}
-
-// The place behind the LF that ends the line of a place, or behind the text.
-pub(crate) fn behind_line(s: &[u8], place: usize) -> usize {
-    let line = line_at(s, place);
-    behind(s, place, line.len())
-}
-
-// The start of the next line that begins with `:`, from there on, or the end of the text.
-pub(crate) fn next_colon(s: &[u8], start: usize) -> usize {
-    let mut at = start;
-    while at < s.len() {
-        if s[at] == b':' {
-            return at;
-        }
-        at = mark_at(b'\n', s, at) + 1;
-    }
-    s.len()
-}
-
-// A line without the CR of its CR LF.
-fn without_cr(line: &[u8]) -> &[u8] {
-    if line.len() == 0 {
-        return line;
-    }
-    let last = line.len() - 1;
-    if line[last] == b'\r' {
-        return front(line, last);
-    }
-    line
+// A sheet or a message, or what was given for one.
+#[derive(Clone, Copy)]
+pub(crate) struct Source<'a> {
+    pub(crate) kind: Kind,
+    pub(crate) text: &'a [u8],
 }
 
 // The line from there on, up to its LF, and of a message up to its CR LF.
-pub(crate) fn line_from(s: &[u8], start: usize, sheet: bool) -> &[u8] {
-    let line = line_at(s, start);
-    if sheet {
-        return line;
+pub(crate) fn line_from<'a>(source: Source<'a>, start: usize) -> &'a [u8] {
+    let line = line_at(source.text, start);
+    match source.kind {
+        Kind::Sheet => line,
+        Kind::Message => line.strip_suffix(b"\r").unwrap_or(line),
     }
-    without_cr(line)
 }
 
-// Some LF has a CR right before it, or has none.
-pub(crate) fn has_end(s: &[u8], cr: bool) -> bool {
-    let mut i = 1;
-    while i < s.len() {
-        if s[i] == b'\n' {
-            if cr == (s[i - 1] == b'\r') {
-                return true;
-            }
-        }
-        i += 1;
+// The start of the line that holds the place.
+pub(crate) fn line_start(s: &[u8], place: usize) -> usize
+    ensures { result ≤ place }
+{
+    match front(s, place).iter().rposition(|b| *b == b'\n') {
+        Some(at) => at + 1,
+        None => 0,
     }
-    false
+}
+
+// The start of the last line up to the place that begins with `:`, or 0.
+pub(crate) fn field_start(s: &[u8], place: usize) -> usize {
+    match front(s, place.saturating_add(1))
+        .array_windows()
+        .rposition(|w| w == b"\n:")
+    {
+        Some(at) => at + 1,
+        None => 0,
+    }
+}
+
+// The start of the next line behind the place that begins with `:`, or the end.
+pub(crate) fn next_field(s: &[u8], place: usize) -> usize {
+    match past(s, place).array_windows().position(|w| w == b"\n:") {
+        Some(at) => place + at + 1,
+        None => s.len(),
+    }
+}
+
+// Which line it is, from 1 on, that starts at this place.
+pub(crate) fn line_number(s: &[u8], start: usize) -> usize {
+    front(s, start).iter().filter(|b| **b == b'\n').count() + 1
+}
+
+// Some line ends in CR LF.
+pub(crate) fn has_cr_lf(s: &[u8]) -> bool {
+    s.array_windows().any(|w| w == b"\r\n")
+}
+
+// Some line ends in LF alone. An LF at the front ends none.
+pub(crate) fn has_bare_lf(s: &[u8]) -> bool {
+    s.array_windows::<2>()
+        .any(|[a, b]| *a != b'\r' && *b == b'\n')
 }

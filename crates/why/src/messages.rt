@@ -1,96 +1,80 @@
 // Why a message was refused.
-use crate::lines::has_end;
+use crate::lines::{Kind, Source, has_bare_lf};
 use crate::missing::put_missing;
+use crate::page::Page;
+use crate::question::Question;
 use crate::show::{put_first, put_marked, put_spot};
-use crate::texts::{AT_END, BARE_LF, BEFORE, LINE};
-use crate::words::put_remark;
-use base::bytes::{front, is_same, past};
+use crate::texts::Text;
+use base::bytes::{front, past};
 use stored::{line_at, number};
 use types::Form;
 use types::forms::form_of;
 
-// Three digits stand in the first line.
-fn is_typed(line: &[u8]) -> bool {
-    if line.len() != 3 {
-        return false;
+// The form that the first line names by three digits.
+fn form_in(input: &[u8]) -> Option<Form> {
+    let line = line_at(input, 0);
+    match number(line) {
+        Some(n) if line.len() == 3 && n <= 999 => Some(form_of(n as u32)),
+        _ => None,
     }
-    number(line) <= 999
-}
-
-fn form_in(line: &[u8]) -> Form {
-    let n = number(line);
-    if n > 999 {
-        return Form::Other;
-    }
-    form_of(n as u32)
 }
 
 // The message behind three digits and LF; without these there is none.
-fn message_in(input: &[u8]) -> &[u8] {
-    if is_typed(line_at(input, 0)) {
-        return past(input, 4);
+fn message_in(input: &[u8]) -> Source<'_> {
+    Source {
+        kind: Kind::Message,
+        text: match form_in(input) {
+            Some(_) => past(input, 4),
+            None => front(input, 0),
+        },
     }
-    front(input, 0)
 }
 
 // The end that is not as it must be: the first line, or else the last.
-fn put_edge(russian: bool, m: &[u8], out: &mut [u8], at: usize) -> usize {
-    if m.len() == 0 {
-        return at;
+fn put_edge(page: &mut Page, message: Source) {
+    let m = message.text;
+    if m.is_empty() {
+        return;
     }
-    if is_same(front(m, 5), b"{4:\r\n") {
-        return put_marked(russian, LINE, false, m.len() - 1, m, out, at);
+    if m.starts_with(b"{4:\r\n") {
+        put_marked(page, Text::Line, message, m.len() - 1);
+    } else {
+        put_marked(page, Text::Line, message, 0);
     }
-    put_marked(russian, LINE, false, 0, m, out, at)
 }
 
 // What is missing, and the line before which it belongs.
-fn put_gap(russian: bool, form: Form, place: usize, m: &[u8], out: &mut [u8], at: usize) -> usize {
-    if m.len() <= place {
-        return at;
+fn put_gap(page: &mut Page, form: Form, message: Source, place: usize) {
+    let Some(b) = message.text.get(place) else {
+        return;
+    };
+    put_missing(page, form, message.text, place);
+    if *b == b':' {
+        put_marked(page, Text::Before, message, place);
+    } else {
+        page.put_remark(Text::AtEnd);
     }
-    let at = put_missing(russian, form, m, place, out, at);
-    if m[place] != b':' {
-        return put_remark(russian, AT_END, out, at);
-    }
-    put_marked(russian, BEFORE, false, place, m, out, at)
 }
 
-fn put_where(
-    russian: bool,
-    number: usize,
-    place: usize,
-    input: &[u8],
-    out: &mut [u8],
-    at: usize,
-) -> usize {
-    match number {
-        2 => put_edge(russian, message_in(input), out, at),
-        3..=6 | 8..=14 | 21 => put_spot(russian, false, place, message_in(input), out, at),
+fn put_where(page: &mut Page, q: Question, message: Source) {
+    match q.number {
+        2 => put_edge(page, message),
+        3..=6 | 8..=14 | 21 => put_spot(page, message, q.place),
         7 => put_gap(
-            russian,
-            form_in(line_at(input, 0)),
-            place,
-            message_in(input),
-            out,
-            at,
+            page,
+            form_in(q.input).unwrap_or(Form::Other),
+            message,
+            q.place,
         ),
-        18 => put_first(russian, true, input, out, at),
-        _ => at,
+        18 => put_first(page, q.input),
+        _ => {}
     }
 }
 
-pub(crate) fn put_message(
-    russian: bool,
-    number: usize,
-    place: usize,
-    input: &[u8],
-    out: &mut [u8],
-    at: usize,
-) -> usize {
-    let at = put_where(russian, number, place, input, out, at);
-    if has_end(message_in(input), false) {
-        return put_remark(russian, BARE_LF, out, at);
+pub(crate) fn put_message(page: &mut Page, q: Question) {
+    let message = message_in(q.input);
+    put_where(page, q, message);
+    if has_bare_lf(message.text) {
+        page.put_remark(Text::BareLf);
     }
-    at
 }

@@ -1,105 +1,67 @@
 // A question: what its first line says, and where its input stands.
-use base::bytes::{is_same, past};
-use stored::{behind, line_at, number, word};
+ghost use Rattle.std.specs.Prelude.{◌<◌, IfSome};
 
-// What stands for a word that is no number is more.
-const MOST: usize = 9999999999;
+use crate::lines::Kind;
+use crate::page::Language;
+use base::bytes::past;
+use stored::{behind, cut, line_at, number, word};
 
-// About a sheet or a message, in Russian or in English: the number and the place of the refusal; where the input starts and how many bytes
-// it has; the place behind, where another question may stand.
+// About a sheet or a message: the number and the place of the refusal; the input; the place behind, where another question may stand.
 #[derive(Clone, Copy)]
-pub(crate) struct Question {
-    pub(crate) sheet: bool,
-    pub(crate) russian: bool,
+pub(crate) struct Question<'a> {
+    pub(crate) kind: Kind,
     pub(crate) number: usize,
     pub(crate) place: usize,
-    pub(crate) start: usize,
-    pub(crate) size: usize,
+    pub(crate) input: &'a [u8],
     pub(crate) next: usize,
 }
 
-// A question, or a first line that is none.
-#[derive(Clone, Copy)]
-pub(crate) enum Asked {
-    Rightly(Question),
-    Wrongly { russian: bool },
-}
-
-// How much input there is, and the place behind it, 0 where it does not end as its first line says.
-#[derive(Clone, Copy)]
-struct Extent {
-    size: usize,
-    next: usize,
-}
-
-fn is_direction(w: &[u8]) -> bool {
-    if is_same(w, b"tosheet") {
-        return true;
-    }
-    is_same(w, b"tomessage")
-}
-
-fn is_language(w: &[u8]) -> bool {
-    if w.len() == 0 {
-        return true;
-    }
-    is_same(w, b"ru")
-}
-
-fn is_number(w: &[u8]) -> bool {
-    number(w) <= MOST
-}
-
-fn is_right(line: &[u8]) -> bool {
-    if !is_direction(word(b'\t', line, 0)) {
-        return false;
-    }
-    if !is_number(word(b'\t', line, 1)) {
-        return false;
-    }
-    if !is_number(word(b'\t', line, 2)) {
-        return false;
-    }
-    is_language(word(b'\t', line, 3))
-}
-
-// Up to the end, or as many bytes as the word says and an LF.
-fn extent_of(all: &[u8], start: usize, w: &[u8]) -> Extent {
-    if w.len() == 0 {
-        return Extent {
-            size: past(all, start).len(),
-            next: all.len(),
-        };
-    }
-    let size = number(w);
-    Extent {
-        size,
-        next: behind(all, start, size),
+// What the program that refused takes.
+fn kind_of(program: &[u8]) -> Option<Kind> {
+    match program {
+        b"tosheet" => Some(Kind::Message),
+        b"tomessage" => Some(Kind::Sheet),
+        _ => None,
     }
 }
 
-// The question whose first line starts there: direction, number, place, language and bytes, with tabs between.
-pub(crate) fn question_at(all: &[u8], at: usize) -> Asked {
+// The language that the line there asks for.
+pub(crate) fn language_of(all: &[u8], at: usize) -> Option<Language> {
+    match word(b'\t', line_at(all, at), 3) {
+        b"" => Some(Language::English),
+        b"ru" => Some(Language::Russian),
+        _ => None,
+    }
+}
+
+// The question whose first line starts there: program, number, place, language and bytes, with tabs between. The input goes up to the
+// end, or has as many bytes as the line says and an LF behind.
+pub(crate) fn question_at(all: &[u8], at: usize) -> Option<Question<'_>>
+    ensures { IfSome result (λ q. at < q.next) }
+{
     let line = line_at(all, at);
-    let russian = is_same(word(b'\t', line, 3), b"ru");
-    let start = behind(all, at, line.len());
-    if start == 0 {
-        return Asked::Wrongly { russian };
+    let start = behind(all, at, line.len())?;
+    let kind = kind_of(word(b'\t', line, 0))?;
+    let refusal = number(word(b'\t', line, 1))?;
+    let place = number(word(b'\t', line, 2))?;
+    language_of(all, at)?;
+    let bytes = word(b'\t', line, 4);
+    if bytes.is_empty() {
+        return Some(Question {
+            kind,
+            number: refusal,
+            place,
+            input: past(all, start),
+            next: all.len(),
+        });
     }
-    if !is_right(line) {
-        return Asked::Wrongly { russian };
-    }
-    let e = extent_of(all, start, word(b'\t', line, 4));
-    if e.next == 0 {
-        return Asked::Wrongly { russian };
-    }
-    Asked::Rightly(Question {
-        sheet: is_same(word(b'\t', line, 0), b"tomessage"),
-        russian,
-        number: number(word(b'\t', line, 1)),
-        place: number(word(b'\t', line, 2)),
-        start,
-        size: e.size,
-        next: e.next,
+    let size = number(bytes)?;
+    let next = behind(all, start, size)?;
+    Some(Question {
+        kind,
+        number: refusal,
+        place,
+        input: cut(all, start, size),
+        next,
     })
 }

@@ -1,12 +1,11 @@
 -- `stored::past_mark` meets its contract. Assumes nothing.
-use native.Mathlib.Omega.{arith}
-use Rattle.base.proofs.MarkLaws.{up_rest}
-use Rattle.stored.proofs.WordLaws.{past_next, past_last}
+use Rattle.std.proofs.Common.{◌∙◌, arith}
+use Rattle.base.proofs.MarkLaws.{up_within}
+use Rattle.stored.proofs.WordLaws.{rest_one}
 use Rattle.stored.proofs.past_mark.Goals as goal
 
-pub returns-then-e-s : goal.returns-then-e-s
-returns-then-e-s c = let a = c.args in (omega arith, past_next a.mark a.s.now a.at _ c.mark_at-e.ensures)
+pub overflow_add-mark_at : goal.overflow_add-mark_at
+overflow_add-mark_at c = omega (arith, up_within c.args.mark c.args.s.now)
 
-pub returns-else-e-s : goal.returns-else-e-s
-returns-else-e-s c = let a = c.args in
-    (omega (arith, up_rest a.mark a.s.now a.at (omega arith)), past_last a.mark a.s.now a.at _ c.mark_at-e.ensures c.if-e-s.false)
+pub returns : goal.returns
+returns c = c.past.ensures ∙ rest_one c.args.mark _ c.args.s.now (omega (arith, c.mark_at.ensures))

@@ -1,9 +1,0 @@
--- `why::show::add_bytes` is safe and ends. Assumes nothing.
-use Rattle.std.proofs.Common.{◌-◌, ◌≡◌, length}
-use Rattle.why.proofs.show.add_bytes.Given as goal
-
-abbrev pub invariant-loop-i : goal.invariant-loop-i
-invariant-loop-i l = length l.out ≡ length l.initial.out
-
-abbrev pub decreases-loop-i : goal.decreases-loop-i
-decreases-loop-i l = length l.text - l.i
