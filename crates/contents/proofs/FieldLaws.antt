@@ -1,8 +1,11 @@
 -- The lines of a field: the first and the others; names; the tax place. Assumes nothing.
-use Rattle.base.specs.Says.{Not, ◌or◌}
+use Rattle.std.specs.Borrow.{Bor}
+use Rattle.base.specs.Says.{Not, ◌or◌, Says}
+use Rattle.base.specs.Examples.{AllHold}
+use Rattle.base.proofs.SaysLaws.{says_as, says_same, is_so}
 use Prim.Native.Nat.{ℕ, ◌+◌, ◌-◌, ◌≤◌, ◌<◌, min}
 use mathlib.Core.Path.{◌≡◌, refl, sym, ap, ◌∙◌}
-use mathlib.Core.Bool.{Bool, true}
+use mathlib.Core.Bool.{Bool, true, true≢false}
 use mathlib.Core.Logic.{inl, inr, ⊎_elim}
 use mathlib.Core.List.{List, [], ◌∷◌}
 use native.Mathlib.Omega.{arith}
@@ -18,7 +21,7 @@ use Rattle.contents.proofs.LineLaws.{looks_tax_lem, account_size}
 use Rattle.contents.proofs.TaxLaws.{tax_tests, inn_range}
 use Rattle.contents.specs.Words.{Text, Line, BeginsWith}
 use Rattle.contents.specs.Fields.{LooksTax, IsTax, IsAccount, Then, Any, Names, Several, Beside, Customer, Payer}
-use Rattle.contents.specs.Answers.{BesideSaid, CustomerSaid, PayerSaid}
+use Rattle.contents.specs.Answers.{BesideSaid, CustomerSaid, PayerSaid, TestsLines, Passes}
 use Rattle.std.specs.Prelude.{Option, None, Some}
 use Rattle.contents.specs.declared.whole.Held.{Held}
 use Rattle.contents.specs.declared.whole.Held.TheVariants as held
@@ -51,6 +54,26 @@ module _ {P : Line → Type 0} (n : ℕ) where
 
   pub names_rest : (l : Line) (ls : List Line) → 1 ≤ length ls → Several P n (l ∷ ls) → Several P (n - 1) ls
   names_rest l ls h r = let a = r.most in record { least = h; most = omega arith; each = r.each.1 }
+
+-- ---- a test that is lent
+pub passes : {b r : Bool} → r ≡ b → Says (b ≡ true) r
+passes q = record { so = λ e. sym q ∙ e; not_so = λ e p. true≢false (sym p ∙ sym q ∙ e) }
+
+-- it is lent for a kind of lines: several lines that pass it are several of the kind
+pub lent : {P : Line → Type 0} {answers : Bor Line → Bool → Type 0} (test : Line → Bool) {n : ℕ} {ls : List Line} {r : Bool} → ((l : Line) → Says (P l) (test l))
+    → ((l : Bor Line) (q : Bool) → answers l q → Says (P l.now) q) → ((t : Line → Bool) → TestsLines answers t → Says (Several (Passes t) n ls) r) → Says (Several P n ls) r
+lent {P = P} test exact says f = says_as
+    (λ s. record { least = s.least; most = s.most; each = on _ s.each })
+    (λ s. record { least = s.least; most = s.most; each = back _ s.each })
+    (f test (λ l q a. says_same (says l q a) (exact l.now)))
+  where
+    on : (ks : List Line) → AllHold (Passes test) ks → AllHold P ks
+    on [] h = tt
+    on (k ∷ ks) h = ((exact k).so h.0, on ks h.1)
+
+    back : (ks : List Line) → AllHold P ks → AllHold (Passes test) ks
+    back [] h = tt
+    back (k ∷ ks) h = (is_so (exact k) h.0, back ks h.1)
 
 -- ---- with the place of the next line
 pub lines_on : (s : Text) (at e n : ℕ) (h : at ≤ length s) (q : e ≡ at + count_up_to 13 (drop at s)) → e < length s → n ≡ min (e + 2) (length s)

@@ -8,6 +8,7 @@ use lib.ListN.{length, length-append}
 use Rattle.base.specs.Choice.{all}
 use Rattle.base.specs.Bytes.{digit, empty, same}
 use Rattle.base.specs.Quoted.{bytes}
+use Rattle.std.specs.Borrow.{Bor}
 use Rattle.base.specs.Says.{Not, Says}
 use Rattle.base.proofs.SaysLaws.{says_so, says_not, says_as, says_and, says_or, says_no, says_le, says_text, says_empty}
 use Rattle.base.specs.Examples.{AllHold}
@@ -17,7 +18,8 @@ use Rattle.contents.specs.Words.{Text, Line, Size, Digits, join}
 use Rattle.contents.specs.Lines.{Name, code_opening, code_closing}
 use Rattle.contents.specs.Fields.{One, Then, Any, Several, Names, Beside, Customer, Payer, Details, InRest, Right}
 use Rattle.contents.specs.Tests.{sized, piece, sizes, is_name, one, first_then, any, several, beside, customer, payer, code_parts, code_test, marked, is_details, is_rest, right}
-use Rattle.contents.specs.Answers.{Marked}
+use Rattle.contents.specs.Answers.{Marked, TestsLines, Passes}
+use Rattle.contents.proofs.FieldLaws.{lent}
 use Rattle.contents.proofs.CutLaws.{cut_whole, cut_once}
 use Rattle.contents.proofs.MarkedLaws.{marked_texts, texts_marked, rest_made, rest_first, rest_later, rest_some}
 use Rattle.contents.proofs.LineTests.{size_says, just_says, starts_says, begins_says, reference_says, purpose_says, payment_says, own_says, account_says, looks_says, party_says, bic_says, tax_says, rpp_says}
@@ -47,6 +49,11 @@ any_says ls = says_so tt
 
 names_says : (n : ℕ) (ls : List Line) → Says (Names n ls) (several is_name n ls)
 names_says n ls = several_says Name is_name (size_says 1 35) n ls
+
+-- the test of names, lent to a reader of lines
+pub names_lent : {answers : Bor Line → Bool → Type 0} {n : ℕ} {ls : List Line} {r : Bool} → ((t : Line → Bool) → TestsLines answers t → Says (Several (Passes t) n ls) r)
+    → ((l : Bor Line) (q : Bool) → answers l q → Says (Name l.now) q) → Says (Names n ls) r
+names_lent f says = lent is_name (size_says 1 35) says f
 
 -- ---- customers
 beside_says : (twelve : Bool) (ls : List Line) → Says (Beside twelve ls) (beside twelve ls)
@@ -80,6 +87,10 @@ code_tests first room sign ts =
 -- ---- details: the later lines
 marked_says : (mark : String) (room : ℕ) (l : Line) → Says (Marked (bytes mark) room l) (marked (bytes mark) room l)
 marked_says mark room l = starts_says mark (Size 1 room) (sizes 1 room) (size_says 1 room) l
+
+pub laters_lent : {answers : Bor Line → Bool → Type 0} {n : ℕ} {ls : List Line} {r : Bool} → ((t : Line → Bool) → TestsLines answers t → Says (Several (Passes t) n ls) r)
+    → ((l : Bor Line) (q : Bool) → answers l q → Says (Marked (bytes "//") 33 l.now) q) → Says (Several (Marked (bytes "//") 33) n ls) r
+laters_lent f says = lent (marked (bytes "//") 33) (marked_says "//" 33) says f
 
 abbrev on : String → List Text → List Line
 on later ts = map (λ (s : Text). bytes later ++ s) ts

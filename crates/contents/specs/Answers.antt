@@ -1,11 +1,12 @@
 -- What the readers of lines answer, held against the grammar. Assumes nothing.
+use Rattle.std.specs.Borrow.{Bor}
 use Rattle.base.specs.Says.{Not, ◌or◌}
 use Rattle.std.specs.Prelude.{ℕ, ◌+◌, ◌≤◌, ◌<◌, ◌≡◌, Bool, true, false, List, [], ◌∷◌, ◌++◌, length, take, drop, Option, None, Some}
 use Rattle.base.specs.Choice.{all, pick}
 use Rattle.base.specs.Bytes.{byte, digit}
 use Rattle.base.specs.Quoted.{bytes, ascii}
 use Rattle.contents.specs.Words.{Text, Line, Digits, Size, join, BeginsWith}
-use Rattle.contents.specs.Lines.{Reference, PartyByBik, PartyByAccount, TaxLine, Payment, RppLine, Way, code_opening, code_closing, Name}
+use Rattle.contents.specs.Lines.{Reference, PartyByBik, PartyByAccount, TaxLine, Payment, RppLine, Way, code_opening, code_closing}
 use Rattle.contents.specs.Fields.{Is, IsPurpose, IsPayment, IsOwnAccount, In72, RppAndDetails, InRest, RppAndRest, IsParty, IsBic, BankByBic, BankByName, One, IsAccount, IsRpp, LooksTax, Then, Any, Names, Beside, Customer, Payer}
 use Rattle.contents.specs.declared.whole.Held.{Held}
 use Rattle.contents.specs.declared.whole.Held.TheVariants as held
@@ -162,10 +163,12 @@ pub record HasPair (l : Line) : Type 0 where
 abbrev pub Marked : Text → ℕ → Line → Type 0
 Marked mark room l = (s : Text) × (l ≡ mark ++ s) × Size 1 room s
 
--- a later line of 72's details, or a name
-abbrev pub LaterOrName : Bool → Line → Type 0
-LaterOrName true = Marked (bytes "//") 33
-LaterOrName false = Name
+-- what a reader of lines is told of the test that it is lent: where a call may answer r at a line, r is what the test says of it
+abbrev pub TestsLines : (Bor Line → Bool → Type 0) → (Line → Bool) → Type 0
+TestsLines answers test = (l : Bor Line) (r : Bool) → answers l r → r ≡ test l.now
+
+abbrev pub Passes : (Line → Bool) → Line → Type 0
+Passes test l = test l ≡ true
 
 pub record NzpFirst (sign : Bool) (l : Line) : Type 0 where
   pub rest : Text

@@ -1,9 +1,11 @@
 // The readers of whole fields: their lines, one after the other.
-ghost use Rattle.std.specs.Prelude.{◌≡◌, ◌-◌, ◌≤◌, [], ◌∷◌, length, drop};
+ghost use Rattle.std.specs.Prelude.{◌≡◌, ◌-◌, ◌≤◌, Bool, [], ◌∷◌, length, drop};
+ghost use Rattle.base.specs.Quoted.{bytes};
 ghost use Rattle.fields.specs.Lines.{lines_in};
+ghost use Rattle.contents.specs.Words.{Line};
 ghost use Rattle.contents.specs.Fields.{One, IsBic, IsAccount, Then, Several, In70, In72, InRest, Regulatory};
 ghost use Rattle.base.specs.Says.{Says};
-ghost use Rattle.contents.specs.Answers.{VoFirst, BesideSaid, CustomerSaid, PayerSaid, BicSaid, NameSaid, Marked, NzpFirst, text_at, NoteSaid, RestSaid, LaterOrName};
+ghost use Rattle.contents.specs.Answers.{VoFirst, BesideSaid, CustomerSaid, PayerSaid, BicSaid, NameSaid, Marked, NzpFirst, text_at, NoteSaid, RestSaid, TestsLines, Passes};
 
 use super::lines::{
     Party, Rpp, Tax, WIDTH, is_account, is_bic, is_name, looks_tax, party_line, rpp_line, tax_line,
@@ -79,25 +81,22 @@ fn is_marked(mark: &[u8], l: &[u8]) -> bool
     mark.len() < l.len() && l.len() <= WIDTH && has_word(l, 0, mark)
 }
 
-// Whether a line is a name; or marked, a later line of 72's details.
-fn is_later(marked: bool, l: &[u8]) -> bool
-    ensures { Says (LaterOrName marked l.now) result }
+// Whether a line is a later one of 72's details.
+fn is_later(l: &[u8]) -> bool
+    ensures { Says (Marked (bytes "//") 33 l.now) result }
 {
-    if marked {
-        return is_marked(b"//", l);
-    }
-    is_name(l)
+    is_marked(b"//", l)
 }
 
-// Whether the lines from there on are such lines, at least one and no more than that many.
-fn are_lines(marked: bool, c: &[u8], from: usize, most: usize) -> bool
-    requires { from ≤ length c.now }
-    ensures { Says (Several (LaterOrName marked) most (lines_in (drop from c.now))) result }
+// Whether the lines from there on pass the test that is lent, at least one and no more than that many.
+fn are_lines<F: Fn(&[u8]) -> bool>(is_line: F, c: &[u8], from: usize, most: usize) -> bool
+    requires { (from ≤ length c.now) × F.IsAlwaysCallable is_line }
+    ensures { (test : Line → Bool) → TestsLines (F.post is_line) test → Says (Several (Passes test) most (lines_in (drop from c.now))) result }
 {
     let mut at = from;
     for _ in 0..most {
         let e = mark_at(b'\r', c, at);
-        if !is_later(marked, &c[at..e]) {
+        if !is_line(&c[at..e]) {
             return false;
         }
         if c.len() <= e {
@@ -115,10 +114,10 @@ fn beside(twelve: bool, c: &[u8], at: usize) -> Option<Held>
 {
     let e = mark_at(b'\r', c, at);
     if !looks_tax(&c[at..e]) {
-        return are_lines(false, c, at, BESIDE).then_some(Held::Plain);
+        return are_lines(is_name, c, at, BESIDE).then_some(Held::Plain);
     }
     let tax = tax_line(twelve, &c[at..e])?;
-    let fine = e < c.len() && are_lines(false, c, next_line(e, c.len()), BEHIND_TAX);
+    let fine = e < c.len() && are_lines(is_name, c, next_line(e, c.len()), BEHIND_TAX);
     fine.then_some(Held::Taxed { at, tax })
 }
 
@@ -183,7 +182,7 @@ pub fn details(sign: bool, c: &[u8]) -> bool
         return false;
     }
     if e < c.len() {
-        return are_lines(false, c, next_line(e, c.len()), BEHIND_CODE);
+        return are_lines(is_name, c, next_line(e, c.len()), BEHIND_CODE);
     }
     code_size(sign) < e
 }
@@ -218,7 +217,7 @@ pub fn bank_by_name(c: &[u8]) -> Option<Party>
     if c.len() <= e {
         return None;
     }
-    are_lines(false, c, next_line(e, c.len()), BANK_NAMES).then_some(party)
+    are_lines(is_name, c, next_line(e, c.len()), BANK_NAMES).then_some(party)
 }
 
 // 58A.
@@ -236,7 +235,7 @@ pub fn regulatory(c: &[u8]) -> bool
     if c.is_empty() || c[0] != b'/' {
         return false;
     }
-    are_lines(false, c, 0, LINES_77B)
+    are_lines(is_name, c, 0, LINES_77B)
 }
 
 // Whether a content is one line.
@@ -262,7 +261,7 @@ fn details_72(sign: bool, c: &[u8], at: usize, most: usize) -> bool
         return false;
     }
     if e < c.len() {
-        return are_lines(true, c, next_line(e, c.len()), most - 1);
+        return are_lines(is_later, c, next_line(e, c.len()), most - 1);
     }
     NZP + code_size(sign) < e - at
 }
@@ -276,7 +275,7 @@ fn rest_72(c: &[u8], at: usize, most: usize) -> bool
     if !is_marked(b"/NZP/", &c[at..e]) {
         return false;
     }
-    c.len() <= e || are_lines(true, c, next_line(e, c.len()), most - 1)
+    c.len() <= e || are_lines(is_later, c, next_line(e, c.len()), most - 1)
 }
 
 // 72 in 202. Where the first line is no RPP line, details alone are left.

@@ -6,6 +6,8 @@ use Rattle.fields.specs.Lines.{lines_in}
 use Rattle.contents.specs.Answers.{NameSaid}
 use Rattle.contents.proofs.PieceLaws.{made_if}
 use Rattle.contents.proofs.FieldLaws.{taken_0, front_0, last_0, on_0}
+use Rattle.contents.proofs.FieldTests.{names_lent}
+use Rattle.std.proofs.Common.{rules}
 use Rattle.contents.proofs.whole.bank_by_name.Goals as goal
 
 pub slice_bounds-party_line-end : goal.slice_bounds-party_line-end
@@ -21,4 +23,4 @@ pub returns : goal.returns
 returns c = let s = c.args.c.now in let n = c.next_line.result in
     let g = on_0 s c.mark_at-e.result c.mark_at-e.ensures n c.if-c-e.false c.next_line.ensures in
     rw g.0 (made_if (NameSaid (take c.mark_at-e.result s ∷ lines_in (drop n s))) c.then_some.ensures
-    (λ e. (c.in_ok-party.ensures, c.are_lines.ensures.so e)) (λ e k. c.are_lines.ensures.not_so e k.1))
+    (λ e. (c.in_ok-party.ensures, (names_lent c.are_lines.ensures (λ l q a. search rules)).so e)) (λ e k. (names_lent c.are_lines.ensures (λ l q a. search rules)).not_so e k.1))

@@ -5,6 +5,8 @@ use native.Mathlib.Omega.{arith}
 use borrow.Author.Tests.{ltb-true, ltb-false}
 use Rattle.contents.proofs.FieldLaws.{taken_0, front_0, last_0, on_0}
 use Rattle.contents.proofs.VoLaws.{in_70_more, in_70_one, in_70_vo, in_70_wide, in_70_names, in_70_text}
+use Rattle.contents.proofs.FieldTests.{names_lent}
+use Rattle.std.proofs.Common.{rules}
 use Rattle.contents.proofs.whole.details.Goals as goal
 
 pub returns-then-e-gt-WIDTH : goal.returns-then-e-gt-WIDTH
@@ -22,8 +24,8 @@ pub returns-then-e-c : goal.returns-then-e-c
 returns-then-e-c c = let s = c.args.c.now in let g = on_0 s c.mark_at-e.result c.mark_at-e.ensures c.next_line.result c.if-e-c.true c.next_line.ensures in
     let w = taken_0 s c.mark_at-e.result c.mark_at-e.ensures in
     record {
-      so = λ e. rw g.0 (in_70_more c.args.sign _ _ (said c.is_vo.ensures c.if-not-is_vo.false-raw) (omega (arith, w, c.if-e-gt-WIDTH.false)) (c.are_lines.ensures.so e));
-      not_so = λ e d. c.are_lines.ensures.not_so e (in_70_names c.args.sign _ _ (rw g.0 at d) g.2);
+      so = λ e. rw g.0 (in_70_more c.args.sign _ _ (said c.is_vo.ensures c.if-not-is_vo.false-raw) (omega (arith, w, c.if-e-gt-WIDTH.false)) ((names_lent c.are_lines.ensures (λ l q a. search rules)).so e));
+      not_so = λ e d. (names_lent c.are_lines.ensures (λ l q a. search rules)).not_so e (in_70_names c.args.sign _ _ (rw g.0 at d) g.2);
     }
 
 pub returns : goal.returns

@@ -10,6 +10,8 @@ use lib.Seq.{length-take-le}
 use Rattle.fields.proofs.ContentLaws.{lines_last}
 use Rattle.contents.proofs.FieldLaws.{front, lines_on}
 use Rattle.contents.proofs.VoLaws.{in_72_more, in_72_one, in_72_nzp, in_72_marked, in_72_text}
+use Rattle.contents.proofs.FieldTests.{laters_lent}
+use Rattle.std.proofs.Common.{rules}
 use Rattle.contents.proofs.whole.details_72.Goals as goal
 
 pub slice_bounds-is_nzp-end : goal.slice_bounds-is_nzp-end
@@ -22,8 +24,8 @@ returns-then-not-is_nzp c = let f = front c.args.c.now c.args.at c.mark_at-e.res
 pub returns-then-e-c : goal.returns-then-e-c
 returns-then-e-c c = let g = lines_on c.args.c.now c.args.at c.mark_at-e.result c.next_line.result c.requires.0 c.mark_at-e.ensures c.if-e-c.true c.next_line.ensures in
     record {
-      so = λ e. rw g.0 (in_72_more c.args.sign c.args.most _ _ c.requires.1 (said c.is_nzp.ensures c.if-not-is_nzp.false-raw) (c.are_lines.ensures.so e));
-      not_so = λ e d. c.are_lines.ensures.not_so e (in_72_marked c.args.sign c.args.most _ _ (rw g.0 at d) g.2);
+      so = λ e. rw g.0 (in_72_more c.args.sign c.args.most _ _ c.requires.1 (said c.is_nzp.ensures c.if-not-is_nzp.false-raw) ((laters_lent c.are_lines.ensures (λ l q a. search rules)).so e));
+      not_so = λ e d. (laters_lent c.are_lines.ensures (λ l q a. search rules)).not_so e (in_72_marked c.args.sign c.args.most _ _ (rw g.0 at d) g.2);
     }
 
 pub returns : goal.returns

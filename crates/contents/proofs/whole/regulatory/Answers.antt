@@ -7,6 +7,8 @@ use native.Mathlib.Omega.{arith}
 use borrow.Author.Tests.{eqb-true, eqb-false}
 use Rattle.contents.proofs.FieldLaws.{front_0, slash_first, first_slash}
 use Rattle.base.specs.Bytes.{count_up_to}
+use Rattle.contents.proofs.FieldTests.{names_lent}
+use Rattle.std.proofs.Common.{rules}
 use Rattle.contents.proofs.whole.regulatory.Goals as goal
 use Rattle.contents.proofs.whole.regulatory.Goals.{then-is_empty-via-then-is_empty, then-is_empty-via-else-is_empty+then-c-ne47}
 
@@ -21,6 +23,6 @@ returns-then-is_empty c = let s = c.args.c.now in let f = front_0 s (0 + count_u
 
 pub returns : goal.returns
 returns c = let s = c.args.c.now in let f = front_0 s (0 + count_up_to 13 s) refl in record {
-  so = λ e. record { first = rw f.1 (first_slash s (0 + count_up_to 13 s) refl f.0 (omega (arith, eqb-false (length s) 0 (sym c.if-is_empty.ensures))) c.if-c-ne47.false); lines = c.are_lines.ensures.so e };
-  not_so = λ e r. c.are_lines.ensures.not_so e r.lines;
+  so = λ e. record { first = rw f.1 (first_slash s (0 + count_up_to 13 s) refl f.0 (omega (arith, eqb-false (length s) 0 (sym c.if-is_empty.ensures))) c.if-c-ne47.false); lines = (names_lent c.are_lines.ensures (λ l q a. search rules)).so e };
+  not_so = λ e r. (names_lent c.are_lines.ensures (λ l q a. search rules)).not_so e r.lines;
 }
