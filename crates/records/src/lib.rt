@@ -9,7 +9,7 @@ pub mod tags;
 use base::Verdict;
 use types::Form;
 
-// What a sheet comes to: 19 or 18 or nothing, its type (0 where the first record names none), and whether it has the sign.
+// What a sheet comes to: 19 or 18 or nothing, its type (`Other` where the first record names none), and whether it has the sign.
 // Stays: judge_sheet promises the type and the sign on a refusal too, so they stand beside the verdict.
 #[derive(Clone, Copy)]
 pub struct Judged {

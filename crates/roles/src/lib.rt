@@ -3,7 +3,7 @@
 
 pub mod clauses;
 pub mod lengths;
-mod lines;
+pub mod lines;
 pub mod parts;
 pub mod shapes;
 pub mod texts;

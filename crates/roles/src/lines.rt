@@ -1,4 +1,4 @@
-// The text of details, line by line.
+// The lines of a content, and what of each is text.
 ghost use Rattle.std.specs.Prelude.{◌≡◌, ◌≤◌, ◌+◌, ◌-◌, min};
 ghost use Rattle.roles.specs.Found.{text_left, lines_left};
 
@@ -7,7 +7,7 @@ use fields::lines::next_line;
 
 // Of the lines from a place on, what stands behind `front` bytes of the first and `mark` bytes of each later one.
 #[derive(Clone, Copy)]
-pub(crate) struct TextLines<'a> {
+pub struct TextLines<'a> {
     content: &'a [u8],
     at: usize,
     front: usize,
@@ -15,7 +15,7 @@ pub(crate) struct TextLines<'a> {
 }
 
 impl<'a> TextLines<'a> {
-    pub(crate) fn new(content: &'a [u8], at: usize, front: usize, mark: usize) -> TextLines<'a>
+    pub fn new(content: &'a [u8], at: usize, front: usize, mark: usize) -> TextLines<'a>
         ensures { lines_left result ≡ text_left content.now at front mark }
     {
         TextLines {

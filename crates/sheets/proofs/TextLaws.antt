@@ -1,12 +1,12 @@
 -- Steps one behind another, and the steps that put a text, a part, lines as parts, and a text over lines. Assumes nothing.
-use Prim.Native.Nat.{ℕ, zero, suc, ◌+◌, ◌-◌, ◌≤◌, ◌<◌, min}
+use Prim.Native.Nat.{ℕ, zero, suc, ◌+◌, ◌≤◌}
 use mathlib.Core.Path.{◌≡◌, refl, sym, ap, ap₂, ◌∙◌}
 use mathlib.Core.Bool.{Bool, true, false, not, ◌&&◌}
-use mathlib.Core.List.{List, [], ◌∷◌, ◌++◌, map, append-nil}
+use mathlib.Core.List.{List, [], ◌∷◌, ◌++◌, map}
 use native.Mathlib.Omega.{arith}
+use borrow.Author.Tests.{le-leb}
 use lib.Dec.{eqb, ltb}
 use lib.ListN.{length, take, drop, get_or, length-drop}
-use Rattle.base.specs.Bytes.{count_up_to}
 use Rattle.base.specs.Choice.{pick}
 use Rattle.base.specs.Calls.{placed, Puts}
 use Rattle.alphabets.specs.Runs.{floor_of}
@@ -14,13 +14,12 @@ use Rattle.std.specs.Prelude.{Ok, Err}
 use Rattle.alphabets.specs.Pieces.{Piece, Read, Stops, piece_after, piece_in}
 use Rattle.alphabets.specs.Parts.{spoken, unless_stops, piece_text}
 use Rattle.alphabets.proofs.SpokenLaws.{counted, text_stops}
-use Rattle.fields.specs.Frame.{limit}
-use Rattle.fields.specs.Lines.{lines_in}
-use Rattle.base.proofs.MarkLaws.{up_rest}
-use Rattle.base.proofs.Room.{puts_put, puts_on, puts_by, Leads, leads_on, leads_last}
+use Rattle.fields.specs.Field.{onto}
+use Rattle.fields.specs.Lines.{split, lines_in}
+use Rattle.roles.specs.Found.{text_lines, text_left}
+use Rattle.base.proofs.Room.{puts_put, puts_on, puts_by, puts_none, Leads, leads_on}
 use Rattle.roles.specs.Parts.{is_name_by, next_role}
 use Rattle.roles.specs.declared.Role.{Role}
-use Rattle.roles.proofs.LineLaws.{lines_from, past_none, past_at, line_length}
 use Rattle.records.specs.Record.{tabbed}
 use Rattle.sheets.specs.Gather.{code_digits}
 use Rattle.sheets.specs.Steps.{said_by, side_of, side_by, parts_by, text_pieces, over_by}
@@ -86,78 +85,72 @@ module _ (t : List ℕ) (b latin : Bool) (p out : List ℕ) (at : ℕ) where
 pub tab_put : {u out mid after : List ℕ} {at r : ℕ} → mid ≡ placed out at (9 ∷ []) → Puts u mid (at + 1) r after → Puts (9 ∷ u) out at r after
 tab_put {u} e p = puts_on (9 ∷ []) u (puts_put refl e) p
 
-cut_on : (mark : ℕ) (ls : List (List ℕ)) → map (drop mark) ls ≡ text_pieces mark mark ls
+-- ---- the lines of a content as texts, and how much room they take with k bytes in front of each
+abbrev pub room : ℕ → List (List ℕ) → ℕ
+room k [] = 0
+room k (l ∷ ls) = k + length l + room k ls
+
+pub room_on : (k : ℕ) {xs ls : List (List ℕ)} {l : List ℕ} → xs ≡ l ∷ ls → room k xs ≡ k + length l + room k ls
+room_on k e = ap (room k) e
+
+room_behind : (k mark : ℕ) (ls : List (List ℕ)) → room k (map (drop mark) ls) ≤ room k ls
+room_behind k mark [] = omega arith
+room_behind k mark (l ∷ ls) = omega (arith, length-drop mark l, room_behind k mark ls)
+
+room_text : (k front mark : ℕ) (ls : List (List ℕ)) → room k (text_pieces front mark ls) ≤ room k ls
+room_text k front mark [] = omega arith
+room_text k front mark (l ∷ ls) = omega (arith, length-drop front l, room_behind k mark ls)
+
+room_split : (k : ℕ) → k ≤ 1 → (lf : Bool) (c : List ℕ) → room k (split lf c) ≤ length c + k
+unfolding split
+room_split k z lf [] = omega arith
+room_split k z true (x ∷ c) = omega (arith, room_split k z false c)
+room_split k z false (x ∷ c) = go (eqb x 13) (split false c) (room_split k z true c) (room_split k z false c)
+  where
+    go : (b : Bool) (ls : List (List ℕ)) → room k (split true c) ≤ length c + k → room k ls ≤ length c + k → room k (pick b ([] ∷ split true c) (onto x ls)) ≤ suc (length c) + k
+    go true ls g h = omega arith
+    go false [] g h = omega arith
+    go false (l ∷ ls) g h = omega arith
+
+pieces_are : (front mark : ℕ) (ls : List (List ℕ)) → text_lines front mark ls ≡ text_pieces front mark ls
+pieces_are front mark [] = refl
+pieces_are front mark (l ∷ ls) = refl
+
+first_left : (c : List ℕ) (front mark : ℕ) → text_left c 0 front mark ≡ text_lines front mark (lines_in c)
+unfolding text_left
+first_left c front mark = ap (λ (b : Bool). pick b (text_lines front mark (lines_in c)) []) (le-leb 0 (length c) (omega arith))
+
+pub cut_on : (mark : ℕ) (ls : List (List ℕ)) → text_pieces mark mark ls ≡ map (drop mark) ls
 cut_on mark [] = refl
 cut_on mark (x ∷ ls) = refl
 
--- ---- the lines of a content from i on, the first of them to its end e
-module _ (c : List ℕ) (i e : ℕ) (q : e ≡ i + count_up_to 13 (drop i c)) where
-  abbrev this : List ℕ
-  this = take (e - i) (drop i c)
+pub all_left : (c : List ℕ) (front mark : ℕ) {xs : List (List ℕ)} → xs ≡ text_left c 0 front mark → xs ≡ text_pieces front mark (lines_in c)
+all_left c front mark e = e ∙ first_left c front mark ∙ pieces_are front mark (lines_in c)
 
-  last_line : length c ≤ e → lines_in (drop i c) ≡ this ∷ []
-  last_line h = lines_from c i e q ∙ ap (λ (ls : List (List ℕ)). this ∷ ls) (past_none c e h)
+pub all_within : (k : ℕ) → k ≤ 1 → (c : List ℕ) (front mark : ℕ) {xs : List (List ℕ)} → xs ≡ text_pieces front mark (lines_in c) → room k xs ≤ length c + k
+all_within k z c front mark e = omega (arith, ap (room k) e, room_text k front mark (lines_in c), room_split k z false c)
 
-  next_lines : (j : ℕ) → e < length c → j ≡ min (e + 2) (length c) → lines_in (drop i c) ≡ this ∷ lines_in (drop j c)
-  next_lines j h p = lines_from c i e q ∙ ap (λ (ls : List (List ℕ)). this ∷ ls) (past_at c e j h p)
+-- each as a part
+module _ (t : List ℕ) (s : Bool) (role : Role) {w out now : List ℕ} {at n : ℕ} {xs : List (List ℕ)} (f : Leads w out at (tabbed (parts_by t s role xs)) now n) where
+  pub parts_end : xs ≡ [] → Puts w out at n now
+  unfolding parts_by
+  parts_end e = f n now (puts_by (sym (ap (λ (ys : List (List ℕ)). tabbed (parts_by t s role ys)) e)) puts_none)
 
-  pub this_within : i ≤ length c → (i ≤ e) × (e ≤ length c)
-  this_within h = (omega arith, omega (arith, up_rest 13 c i h))
+  pub parts_on : {ls : List (List ℕ)} {l mid : List ℕ} {k : ℕ} {b : Bool} {r : Role} → xs ≡ l ∷ ls → b ≡ (s && is_name_by role l) → r ≡ next_role role l → Puts (9 ∷ said_by t b false l) now n k mid
+      → Leads w out at (tabbed (parts_by t s r ls)) mid k
+  unfolding parts_by
+  parts_on {ls = ls} {l = l} {b = b} {r = r} e y g p = leads_on (9 ∷ said_by t b false l) (tabbed (parts_by t s r ls))
+      (ap₂ (λ (d : Bool) (x : Role). 9 ∷ (said_by t d false l ++ tabbed (parts_by t s x ls))) y g ∙ sym (ap (λ (ys : List (List ℕ)). tabbed (parts_by t s role ys)) e))
+      f p
 
-  cut_small : {l : List ℕ} (d : ℕ) → l ≡ drop d this → length l ≤ e - i
-  cut_small d z = omega (arith, ap length z ∙ length-drop d this, line_length c i e q)
+-- as pieces of a text
+module _ (t : List ℕ) (s latin : Bool) {w out now : List ℕ} {at n : ℕ} {xs : List (List ℕ)} (f : Leads w out at (over_by t s latin xs) now n) where
+  pub over_end : xs ≡ [] → Puts w out at n now
+  unfolding over_by
+  over_end e = f n now (puts_by (sym (ap (over_by t s latin) e)) puts_none)
 
-  pub line_less : (j : ℕ) → i ≤ length c → e < length c → j ≡ min (e + 2) (length c) → length c - j < length c - i
-  line_less j h k p = omega (arith, this_within h)
-
-  -- the places behind it are near
-  module _ (h : i ≤ length c) (d : ℕ) {l : List ℕ} (z : l ≡ drop d this) (at : ℕ) {n : ℕ} (a : n ≤ at + i) where
-    pub part_needs : length c ≤ limit → at ≤ 400000 → (length l ≤ limit) × (n ≤ 500000)
-    part_needs k b = (omega (arith, cut_small d z, this_within h), omega arith)
-
-    pub part_last : {k : ℕ} → k ≤ n + 1 + length l → k ≤ at + length c + 1
-    part_last b = omega (arith, cut_small d z, this_within h)
-
-    pub part_next : {k : ℕ} (j : ℕ) → e < length c → j ≡ min (e + 2) (length c) → k ≤ n + 1 + length l → (j ≤ length c) × (k ≤ at + j)
-    part_next j f p b = (omega arith, omega (arith, cut_small d z, this_within h))
-
-    pub piece_last : {k : ℕ} → k ≤ n + length l → k ≤ at + length c
-    piece_last b = omega (arith, cut_small d z, this_within h)
-
-  -- each as a part
-  module _ (t : List ℕ) (s : Bool) (role : Role) (mark : ℕ) {l : List ℕ} (z : l ≡ drop mark this) {b : Bool} (y : b ≡ (s && is_name_by role l)) where
-    abbrev left : ℕ → Role → List ℕ
-    left j r = tabbed (parts_by t s r (map (drop mark) (lines_in (drop j c))))
-
-    part_of_lem : (ls : List (List ℕ)) → lines_in (drop i c) ≡ this ∷ ls → {r : Role} → r ≡ next_role role l → (9 ∷ said_by t b false l) ++ tabbed (parts_by t s r (map (drop mark) ls)) ≡ left i role
-    unfolding parts_by
-    part_of_lem ls f {r} g =
-        ap₂ (λ (d : Bool) (x : Role). 9 ∷ (said_by t d false l ++ tabbed (parts_by t s x (map (drop mark) ls)))) y g
-        ∙ ap (λ (x : List ℕ). tabbed (parts_by t s role (x ∷ map (drop mark) ls))) z
-        ∙ sym (ap (λ (xs : List (List ℕ)). tabbed (parts_by t s role (map (drop mark) xs))) f)
-
-    pub lines_last : {w out now mid : List ℕ} {at n k : ℕ} → length c ≤ e → Leads w out at (left i role) now n → Puts (9 ∷ said_by t b false l) now n k mid → Puts w out at k mid
-    unfolding parts_by
-    lines_last h f p = leads_last (sym (append-nil (9 ∷ said_by t b false l)) ∙ part_of_lem [] (last_line h) refl) f p
-
-    pub lines_on : {w out now mid : List ℕ} {at n k : ℕ} {r : Role} (j : ℕ) → e < length c → j ≡ min (e + 2) (length c) → r ≡ next_role role l → Leads w out at (left i role) now n → Puts (9 ∷ said_by t b false l) now n k mid → Leads w out at (left j r) mid k
-    lines_on {r = r} j h p g f a = leads_on (9 ∷ said_by t b false l) (left j r) (part_of_lem (lines_in (drop j c)) (next_lines j h p) g) f a
-
-  -- as pieces of a text
-  module _ (t : List ℕ) (s latin : Bool) (d mark : ℕ) {l : List ℕ} (z : l ≡ drop d this) where
-    abbrev over : ℕ → Bool → ℕ → List ℕ
-    over j y x = over_by t s y (text_pieces x mark (lines_in (drop j c)))
-
-    piece_of : (ls : List (List ℕ)) → lines_in (drop i c) ≡ this ∷ ls → {y : Bool} → y ≡ side_by t s latin l → said_by t s latin l ++ over_by t s y (text_pieces mark mark ls) ≡ over i latin d
-    unfolding over_by
-    piece_of ls f {y} g =
-        ap₂ (λ (x : Bool) (xs : List (List ℕ)). said_by t s latin l ++ over_by t s x xs) g (sym (cut_on mark ls))
-        ∙ ap (λ (x : List ℕ). over_by t s latin (x ∷ map (drop mark) ls)) z
-        ∙ sym (ap (λ (xs : List (List ℕ)). over_by t s latin (text_pieces d mark xs)) f)
-
-    pub over_last : {w out now mid : List ℕ} {at n k : ℕ} → length c ≤ e → Leads w out at (over i latin d) now n → Puts (said_by t s latin l) now n k mid → Puts w out at k mid
-    unfolding over_by
-    over_last h f p = leads_last (sym (append-nil (said_by t s latin l)) ∙ piece_of [] (last_line h) refl) f p
-
-    pub over_on : {w out now mid : List ℕ} {at n k : ℕ} {y : Bool} (j : ℕ) → e < length c → j ≡ min (e + 2) (length c) → y ≡ side_by t s latin l → Leads w out at (over i latin d) now n → Puts (said_by t s latin l) now n k mid → Leads w out at (over j y mark) mid k
-    over_on {y = y} j h p g f a = leads_on (said_by t s latin l) (over j y mark) (piece_of (lines_in (drop j c)) (next_lines j h p) g) f a
+  pub over_on : {ls : List (List ℕ)} {l mid : List ℕ} {k : ℕ} {y : Bool} → xs ≡ l ∷ ls → y ≡ side_by t s latin l → Puts (said_by t s latin l) now n k mid → Leads w out at (over_by t s y ls) mid k
+  unfolding over_by
+  over_on {ls = ls} {l = l} {y = y} e g p = leads_on (said_by t s latin l) (over_by t s y ls)
+      (ap (λ (x : Bool). said_by t s latin l ++ over_by t s x ls) g ∙ sym (ap (over_by t s latin) e))
+      f p

@@ -6,10 +6,9 @@ ghost use Rattle.records.specs.Record.{tabbed};
 ghost use Rattle.sheets.specs.Steps.{said_by, side_by, parts_by, text_pieces, over_by};
 
 use alphabets::parts::put_piece;
-use base::bytes::{past, put};
-use base::marks::mark_at;
-use fields::lines::next_line;
+use base::bytes::put;
 use roles::Role;
+use roles::lines::TextLines;
 use roles::parts::{is_spoken, next_role};
 
 // The place behind a piece of a text, and the side there.
@@ -72,18 +71,11 @@ pub(crate) fn put_lines(
 {
     let mut role = role;
     let mut n = at;
-    let mut i = 0;
-    loop {
-        let e = mark_at(13, c, i);
-        let l = past(&c[i..e], mark);
-        let spoken = is_spoken(sign, role, l);
-        n = put_part(back, spoken, l, out, n);
-        if c.len() <= e {
-            return n;
-        }
-        role = next_role(role, l);
-        i = next_line(e, c.len());
+    for line in TextLines::new(c, 0, mark, mark) {
+        n = put_part(back, is_spoken(sign, role, line), line, out, n);
+        role = next_role(role, line);
     }
+    n
 }
 
 // A text that runs over lines, behind `front` bytes of the first and `mark` bytes of each later one: a piece a line, the side carried on.
@@ -99,19 +91,9 @@ pub(crate) fn put_over(
     requires { (length c.now ≤ 10000) × (at ≤ 400000) }
     ensures { (result ≤ at + length c.now) × Puts (over_by back.now sign false (text_pieces front mark (lines_in c.now))) out.old at result out.new }
 {
-    let mut d = front;
-    let mut latin = false;
-    let mut n = at;
-    let mut i = 0;
-    loop {
-        let e = mark_at(13, c, i);
-        let b = put_text(back, sign, latin, past(&c[i..e], d), out, n);
-        n = b.at;
-        if c.len() <= e {
-            return n;
-        }
-        latin = b.latin;
-        d = mark;
-        i = next_line(e, c.len());
+    let mut b = Behind { at, latin: false };
+    for line in TextLines::new(c, 0, front, mark) {
+        b = put_text(back, sign, b.latin, line, out, b.at);
     }
+    b.at
 }

@@ -1,38 +1,29 @@
 -- `sheets::texts::put_lines` meets its contract: from each line on as from the first. Assumes nothing.
-use Rattle.sheets.proofs.TextLaws.{this_within, line_less, part_needs, part_last, part_next, lines_last, lines_on}
-use lib.ListN.{length}
+use Prim.Native.Nat.{ℕ}
+use mathlib.Core.List.{List}
+use mathlib.Core.Path.{refl, ap, ◌∙◌}
 use native.Mathlib.Omega.{arith}
-use mathlib.Core.Path.{refl}
-use Prim.Native.Nat.{◌≤◌}
 use borrow.Author.Rules.{rules}
+use Rattle.fields.specs.Lines.{lines_in}
+use Rattle.records.specs.Record.{tabbed}
+use Rattle.roles.specs.Found.{lines_left}
+use Rattle.sheets.specs.Steps.{parts_by}
+use Rattle.base.proofs.Room.{puts_by}
+use Rattle.sheets.proofs.TextLaws.{room_on, cut_on, all_left, all_within, parts_end, parts_on}
 use Rattle.sheets.proofs.texts.put_lines.Goals as goal
 
-pub loop-l-init : goal.loop-l-init
-loop-l-init c = (refl, omega arith, omega arith, λ r after d. d)
-
-pub slice_bounds-past-count : goal.slice_bounds-past-count
-slice_bounds-past-count c =
-    let within : (c.loop-l.i ≤ c.mark_at-e.result) × (c.mark_at-e.result ≤ length c.args.c.now) = this_within c.args.c.now c.loop-l.i c.mark_at-e.result c.mark_at-e.ensures c.loop-l.invariant.1 in
-    within.0
-
-pub slice_bounds-past-start : goal.slice_bounds-past-start
-slice_bounds-past-start c =
-    let within : (c.loop-l.i ≤ c.mark_at-e.result) × (c.mark_at-e.result ≤ length c.args.c.now) = this_within c.args.c.now c.loop-l.i c.mark_at-e.result c.mark_at-e.ensures c.loop-l.invariant.1 in
-    within.0
-
-pub slice_bounds-past-end : goal.slice_bounds-past-end
-slice_bounds-past-end c =
-    let within : (c.loop-l.i ≤ c.mark_at-e.result) × (c.mark_at-e.result ≤ length c.args.c.now) = this_within c.args.c.now c.loop-l.i c.mark_at-e.result c.mark_at-e.ensures c.loop-l.invariant.1 in
-    within.1
+pub loop-line-init : goal.loop-line-init
+loop-line-init c = let a = c.args in
+    let e = all_left a.c.now a.mark a.mark (ap lines_left c.into_iter-line-iterator.ensures.into_iter_gives ∙ c.new-line-items.ensures) in
+    let k = all_within 1 (omega arith) a.c.now a.mark a.mark e in
+    (refl, k, omega (arith, k), λ r after d. puts_by (ap (λ (xs : List (List ℕ)). tabbed (parts_by a.back.now a.sign a.role xs)) (e ∙ cut_on a.mark (lines_in a.c.now))) d)
 
 pub put_part-n-requires : goal.put_part-n-requires
-put_part-n-requires c = let a = c.args in let p = c.requires in part_needs a.c.now c.loop-l.i c.mark_at-e.result c.mark_at-e.ensures c.loop-l.invariant.1 a.mark c.past-l.ensures a.at c.loop-l.invariant.2 p.0 p.1
+put_part-n-requires c = let v = c.loop-line.invariant in let z = room_on 1 c.in-Some.ensures.steps in (omega (arith, v.1, z, c.requires), omega (arith, v.2, c.requires))
 
-pub returns-then-c-e : goal.returns-then-c-e
-returns-then-c-e c = let a = c.args in (part_last a.c.now c.loop-l.i c.mark_at-e.result c.mark_at-e.ensures c.loop-l.invariant.1 a.mark c.past-l.ensures a.at c.loop-l.invariant.2 c.put_part-n.ensures.0, lines_last a.c.now c.loop-l.i c.mark_at-e.result c.mark_at-e.ensures a.back.now a.sign c.loop-l.role a.mark c.past-l.ensures c.is_spoken-spoken.ensures c.if-c-e.true c.loop-l.invariant.3 c.put_part-n.ensures.1)
+pub loop-line-preserved : goal.loop-line-preserved
+loop-line-preserved c = let a = c.args in let v = c.loop-line.invariant in let z = room_on 1 c.in-Some.ensures.steps in
+    (search rules, omega (arith, v.1, z), omega (arith, v.2, z, c.put_part-n.ensures.0), parts_on a.back.now a.sign c.loop-line.role v.3 c.in-Some.ensures.steps c.is_spoken.ensures c.next_role-role.ensures c.put_part-n.ensures.1)
 
-pub loop-l-smaller : goal.loop-l-smaller
-loop-l-smaller c = let a = c.args in line_less a.c.now c.loop-l.i c.mark_at-e.result c.mark_at-e.ensures c.next_line-i.result c.loop-l.invariant.1 c.if-c-e.false c.next_line-i.ensures
-
-pub loop-l-preserved : goal.loop-l-preserved
-loop-l-preserved c = let a = c.args in let w = part_next a.c.now c.loop-l.i c.mark_at-e.result c.mark_at-e.ensures c.loop-l.invariant.1 a.mark c.past-l.ensures a.at c.loop-l.invariant.2 c.next_line-i.result c.if-c-e.false c.next_line-i.ensures c.put_part-n.ensures.0 in (search rules, w.0, w.1, lines_on a.c.now c.loop-l.i c.mark_at-e.result c.mark_at-e.ensures a.back.now a.sign c.loop-l.role a.mark c.past-l.ensures c.is_spoken-spoken.ensures c.next_line-i.result c.if-c-e.false c.next_line-i.ensures c.next_role-role.ensures c.loop-l.invariant.3 c.put_part-n.ensures.1)
+pub returns : goal.returns
+returns c = let a = c.args in let v = c.loop-line.invariant in (omega (arith, v.2), parts_end a.back.now a.sign c.loop-line.role v.3 c.in-None.ensures.steps.0)

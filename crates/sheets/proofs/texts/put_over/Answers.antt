@@ -1,38 +1,26 @@
 -- `sheets::texts::put_over` meets its contract: from each line on as from the first. Assumes nothing.
-use Rattle.sheets.proofs.TextLaws.{this_within, line_less, part_needs, part_next, piece_last, over_last, over_on}
-use lib.ListN.{length}
+use mathlib.Core.Bool.{false}
+use mathlib.Core.Path.{refl, ap, ◌∙◌}
 use native.Mathlib.Omega.{arith}
-use mathlib.Core.Path.{refl}
-use Prim.Native.Nat.{◌≤◌}
 use borrow.Author.Rules.{rules}
+use Rattle.roles.specs.Found.{lines_left}
+use Rattle.sheets.specs.Steps.{over_by}
+use Rattle.base.proofs.Room.{puts_by}
+use Rattle.sheets.proofs.TextLaws.{room_on, all_left, all_within, over_end, over_on}
 use Rattle.sheets.proofs.texts.put_over.Goals as goal
 
-pub loop-b-init : goal.loop-b-init
-loop-b-init c = (refl, omega arith, omega arith, λ r after d. d)
-
-pub slice_bounds-past-count : goal.slice_bounds-past-count
-slice_bounds-past-count c =
-    let within : (c.loop-b.i ≤ c.mark_at-e.result) × (c.mark_at-e.result ≤ length c.args.c.now) = this_within c.args.c.now c.loop-b.i c.mark_at-e.result c.mark_at-e.ensures c.loop-b.invariant.1 in
-    within.0
-
-pub slice_bounds-past-start : goal.slice_bounds-past-start
-slice_bounds-past-start c =
-    let within : (c.loop-b.i ≤ c.mark_at-e.result) × (c.mark_at-e.result ≤ length c.args.c.now) = this_within c.args.c.now c.loop-b.i c.mark_at-e.result c.mark_at-e.ensures c.loop-b.invariant.1 in
-    within.0
-
-pub slice_bounds-past-end : goal.slice_bounds-past-end
-slice_bounds-past-end c =
-    let within : (c.loop-b.i ≤ c.mark_at-e.result) × (c.mark_at-e.result ≤ length c.args.c.now) = this_within c.args.c.now c.loop-b.i c.mark_at-e.result c.mark_at-e.ensures c.loop-b.invariant.1 in
-    within.1
+pub loop-line-init : goal.loop-line-init
+loop-line-init c = let a = c.args in
+    let e = all_left a.c.now a.front a.mark (ap lines_left c.into_iter-line-iterator.ensures.into_iter_gives ∙ c.new-line-items.ensures) in
+    let k = all_within 0 (omega arith) a.c.now a.front a.mark e in
+    (refl, k, omega (arith, k), λ r after d. puts_by (ap (over_by a.back.now a.sign false) e) d)
 
 pub put_text-b-requires : goal.put_text-b-requires
-put_text-b-requires c = let a = c.args in let p = c.requires in let w = part_needs a.c.now c.loop-b.i c.mark_at-e.result c.mark_at-e.ensures c.loop-b.invariant.1 c.loop-b.d c.past.ensures a.at c.loop-b.invariant.2 p.0 p.1 in (w.0, omega (arith, w.1))
+put_text-b-requires c = let v = c.loop-line.invariant in let z = room_on 0 c.in-Some.ensures.steps in (omega (arith, v.1, z, c.requires), omega (arith, v.2, c.requires))
 
-pub returns-then-c-e : goal.returns-then-c-e
-returns-then-c-e c = let a = c.args in (piece_last a.c.now c.loop-b.i c.mark_at-e.result c.mark_at-e.ensures c.loop-b.invariant.1 c.loop-b.d c.past.ensures a.at c.loop-b.invariant.2 c.put_text-b.ensures.1, over_last a.c.now c.loop-b.i c.mark_at-e.result c.mark_at-e.ensures a.back.now a.sign c.loop-b.latin c.loop-b.d a.mark c.past.ensures c.if-c-e.true c.loop-b.invariant.3 c.put_text-b.ensures.2)
+pub loop-line-preserved : goal.loop-line-preserved
+loop-line-preserved c = let a = c.args in let v = c.loop-line.invariant in let z = room_on 0 c.in-Some.ensures.steps in
+    (search rules, omega (arith, v.1, z), omega (arith, v.2, z, c.put_text-b.ensures.1), over_on a.back.now a.sign c.loop-line.b.latin v.3 c.in-Some.ensures.steps c.put_text-b.ensures.0 c.put_text-b.ensures.2)
 
-pub loop-b-smaller : goal.loop-b-smaller
-loop-b-smaller c = let a = c.args in line_less a.c.now c.loop-b.i c.mark_at-e.result c.mark_at-e.ensures c.next_line-i.result c.loop-b.invariant.1 c.if-c-e.false c.next_line-i.ensures
-
-pub loop-b-preserved : goal.loop-b-preserved
-loop-b-preserved c = let a = c.args in let w = part_next a.c.now c.loop-b.i c.mark_at-e.result c.mark_at-e.ensures c.loop-b.invariant.1 c.loop-b.d c.past.ensures a.at c.loop-b.invariant.2 {k = c.put_text-b.result.at} c.next_line-i.result c.if-c-e.false c.next_line-i.ensures (omega (arith, c.put_text-b.ensures.1)) in (search rules, w.0, w.1, over_on a.c.now c.loop-b.i c.mark_at-e.result c.mark_at-e.ensures a.back.now a.sign c.loop-b.latin c.loop-b.d a.mark c.past.ensures c.next_line-i.result c.if-c-e.false c.next_line-i.ensures c.put_text-b.ensures.0 c.loop-b.invariant.3 c.put_text-b.ensures.2)
+pub returns : goal.returns
+returns c = let a = c.args in let v = c.loop-line.invariant in (omega (arith, v.2), over_end a.back.now a.sign c.loop-line.b.latin v.3 c.in-None.ensures.steps.0)
