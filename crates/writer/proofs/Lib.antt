@@ -6,6 +6,7 @@ pub mod NoteLaws
 pub mod PutLaws
 pub mod CrowdLaws
 pub mod SeenLaws
+pub mod WalkLaws
 pub mod RunLaws
 pub mod HalfLaws
 pub mod HandLaws

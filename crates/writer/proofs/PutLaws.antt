@@ -1,8 +1,8 @@
 -- Records as fields, one behind another, and the whole message. Assumes nothing.
-use Prim.Native.Nat.{ℕ, zero, suc, ◌+◌, ◌-◌, ◌≤◌, ◌<◌}
+use Prim.Native.Nat.{ℕ, ◌+◌, ◌-◌, ◌≤◌, ◌<◌}
 use mathlib.Core.Path.{◌≡◌, refl, sym, ap, ap₂, subst, ◌∙◌}
 use mathlib.Core.Bool.{Bool, true, false, not, ◌&&◌, ◌||◌, true≢false}
-use mathlib.Core.List.{List, [], ◌∷◌, ◌++◌, map, append_assoc, append-nil}
+use mathlib.Core.List.{List, [], ◌∷◌, ◌++◌, map, append_assoc}
 use native.Mathlib.Omega.{arith}
 use native.Mathlib.Decide.{dec_lt}
 use types.Run.{OneOf}
@@ -12,10 +12,7 @@ use Rattle.std.specs.Prelude.{Err}
 use Rattle.types.specs.declared.Form.{Form}
 use Rattle.roles.specs.contracts.Shape.{the_type}
 use Rattle.roles.proofs.PartLaws.{each_lined}
-use lib.Dec.{eqb}
 use lib.ListN.{length, take, drop, length-append}
-use lib.Seq.{take-nil, take-take, length-take-le}
-use Rattle.base.proofs.ByteLaws.{drop_take}
 use Rattle.base.specs.Choice.{pick}
 use Rattle.base.specs.Bytes.{begins, empty, count_up_to}
 use Rattle.base.specs.Rules.{then}
@@ -42,7 +39,7 @@ use Rattle.records.proofs.PlaceLaws.{front_at, front_end}
 use Rattle.records.proofs.FoundLaws.{record_at, tag_size}
 use Rattle.records.proofs.SheetLaws.{line_record}
 use Rattle.records.proofs.RuleLaws.{sound_right}
-use Rattle.records.proofs.WalkLaws.{bad_last, bad_hit, bad_miss, bad_end}
+use Rattle.records.proofs.WalkLaws.{bad_last, bad_hit, bad_miss}
 use Rattle.details.specs.Lines.{Division, lines}
 use Rattle.details.specs.Breaking.{Fit}
 use Rattle.details.specs.Layouts.{layout, lines_for, divided, marked, size_for, is_unfit}
@@ -300,48 +297,3 @@ unfolding rule_15 spread
 records_end form g s i h k fit {now} {after} {n} {r} a =
     let z : length s ≡ i = omega arith in
     subst (λ (rs : List Record). Adds (rule_15 form g i rs) (not fit || some_crowded form g rs) (body_of form g rs) now n r after) (sym (ap (records_at s) (sym z) ∙ front_end s)) (subst (λ (b : Bool). Adds Fine b [] now n r after) (sym (or_none (not fit))) a)
-
--- ---- one record alone, with its LF
-up_take : (c : ℕ) (s : List ℕ) (n : ℕ) → count_up_to c s < n → count_up_to c (take n s) ≡ count_up_to c s
-unfolding count_up_to
-up_take c [] n h = ap (count_up_to c) (take-nil n)
-up_take c (x ∷ s) zero h = absurd (omega arith)
-up_take c (x ∷ s) (suc n) h = go (eqb x c) (up_take c s n) h
-  where
-    go : (b : Bool) → (count_up_to c s < n → count_up_to c (take n s) ≡ count_up_to c s) → pick b 0 (suc (count_up_to c s)) < suc n → pick b 0 (suc (count_up_to c (take n s))) ≡ pick b 0 (suc (count_up_to c s))
-    go true f k = refl
-    go false f k = ap suc (f (omega arith))
-
-module _ (form : Form) (g : Bool) (s : List ℕ) (i e : ℕ) (q : e ≡ i + count_up_to 10 (drop i s)) (l : e < length s) (b : good form g (record_of (take (e - i) (drop i s))) ≡ true) where
-  abbrev one : Record
-  one = record_of (take (e - i) (drop i s))
-
-  abbrev own : List ℕ
-  own = take (e + 1) s
-
-  own_size : length own ≡ e + 1
-  own_size = length-take-le (e + 1) s (omega arith)
-
-  own_end : e ≡ i + count_up_to 10 (drop i own)
-  own_end = q ∙ ap (λ (n : ℕ). i + n) (sym (ap (count_up_to 10) (drop_take i (e + 1) s) ∙ up_take 10 (drop i s) (e + 1 - i) (omega arith)))
-
-  own_is : record_of (take (e - i) (drop i own)) ≡ one
-  own_is = ap record_of (ap (take (e - i)) (drop_take i (e + 1) s) ∙ take-take (e - i) (e + 1 - i) (drop i s) (omega arith))
-
-  pub own_good : bad_sheet_line form g i (pieces_at 10 own i) ≡ Fine
-  own_good =
-      bad_miss own i e (omega (arith, own_size)) own_end form g (λ z. omega (arith, own_size)) (ap (good form g) own_is ∙ b)
-      ∙ sym (bad_end own (e + 1) form g (omega (arith, own_size)) (omega (arith, own_size)))
-
-  own_list : records_at own i ≡ one ∷ []
-  own_list = front_at own i e (omega (arith, own_size)) own_end (omega (arith, own_size)) ∙ ap₂ (λ (r : Record) (rs : List Record). r ∷ rs) own_is (ap (records_at own) (sym own_size) ∙ front_end own)
-
-  pub own_put : record_stops form g one ≡ Fine → {out after : List ℕ} {at : ℕ} {r : Step}
-      → Adds (rule_15 form g i (records_at own i)) (some_crowded form g (records_at own i)) (body_of form g (records_at own i)) out at r after
-      → Adds (record_stops form g one) (record_crowded form g one) (with_cr_lf (lined (field_for form g one))) out at r after
-  unfolding rule_15 spread
-  own_put f {out} {after} {at} {r} a =
-      let z : rule_15 form g i (one ∷ []) ≡ record_stops form g one = sym (rule_15_cons form g i one []) ∙ ap (λ (v : Verdict). then (moved_by i v) (rule_15 form g (next_record i one) [])) f ∙ sym f in
-      subst (λ (c : Bool). Adds (record_stops form g one) c (with_cr_lf (lined (field_for form g one))) out at r after) (sym (crowded_cons form g one []) ∙ or_none (record_crowded form g one))
-      (adds_by z (sym (body_cons form g one []) ∙ append-nil (with_cr_lf (lined (field_for form g one))))
-      (subst (λ (rs : List Record). Adds (rule_15 form g i rs) (some_crowded form g rs) (body_of form g rs) out at r after) own_list a))

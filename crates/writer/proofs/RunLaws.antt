@@ -51,6 +51,8 @@ use Rattle.writer.specs.Runs.{otherwise, held_at, one_in, Halves, Here, comes_be
 use Rattle.writer.specs.declared.runs.Running.{Running}
 use Rattle.writer.specs.declared.Halt.{Halt}
 use Rattle.std.specs.Prelude.{Err}
+use Rattle.std.specs.Option.{option_or}
+use Rattle.std.specs.Bool.{then_some}
 use Rattle.writer.proofs.StepLaws.{adds_by, adds_front, adds_then, within_put, not_put}
 use Rattle.writer.proofs.PurposeLaws.{some_within, sole_part}
 use Rattle.writer.proofs.NoteLaws.{rpp_behind}
@@ -59,15 +61,10 @@ use Rattle.writer.proofs.CrowdLaws.{crowded_not}
 use Rattle.writer.proofs.SeenLaws.{is_tag, not_tag, tagged_as, list_at, same_70, end_70}
 
 -- ---- the record that holds a place
-module _ {held : Option ℕ} {b : Bool} (p from to i : ℕ) (e : held ≡ None) (f : b ≡ lies_in p from to) where
-  by_held : (c : Bool) → b ≡ c → pick c (Some i) None ≡ otherwise held (held_at p from to i)
-  by_held c g = ap (λ (x : Bool). pick x (Some i) None) (sym g ∙ f) ∙ ap (λ (x : Option ℕ). otherwise x (held_at p from to i)) (sym e)
-
-  pub held_here : b ≡ true → Some i ≡ otherwise held (held_at p from to i)
-  held_here g = by_held true g
-
-  pub held_not : b ≡ false → None ≡ otherwise held (held_at p from to i)
-  held_not g = by_held false g
+pub held_or : (held : Option ℕ) (b : Bool) (i : ℕ) → option_or held (then_some b i) ≡ otherwise held (pick b (Some i) None)
+held_or (Some k) b i = refl
+held_or None true i = refl
+held_or None false i = refl
 
 otherwise_on : (a b c : Option ℕ) → otherwise (otherwise a b) c ≡ otherwise a (otherwise b c)
 otherwise_on (Some i) b c = refl
@@ -257,13 +254,9 @@ module _ (s : Bool) (half rest : List ℕ) (r : Record) {out after : List ℕ} {
   run_other k e f a = adds_clean k.stops (other_bare s r e f) (ap (λ (x : Record). with_cr_lf (lined (field_for Mt103 s x))) (sym (halved_other (one_in half) rest r e f))) a
 
 -- a new 72 comes before a 77B
-pub not_before : (new : Bool) (r : Record) → not new ≡ true → false ≡ comes_before new r
-not_before false r e = refl
-not_before true r e = absurd (false≢true e)
-
-pub is_before : (new : Bool) (r : Record) {n : ℕ} → not new ≡ false → n ≡ tag_number (fields.tag_of r) → eqb n (pack tag_77B) ≡ comes_before new r
+pub is_before : (new : Bool) (r : Record) {n : ℕ} → new ≡ true → n ≡ tag_number (fields.tag_of r) → eqb n (pack tag_77B) ≡ comes_before new r
 unfolding shaped digit capital
-is_before false r e f = absurd (true≢false e)
+is_before false r e f = absurd (false≢true e)
 is_before true r {n} e f = go (eqb n (pack tag_77B)) refl
   where
     go : (b : Bool) → eqb n (pack tag_77B) ≡ b → eqb n (pack tag_77B) ≡ tagged tag_77B r

@@ -3,11 +3,10 @@
 use Rattle.writer.specs.declared.NewMessage.{NewMessage}
 use Rattle.base.specs.declared.Refusal.{Refusal}
 use Rattle.writer.specs.Comes.{Step, Put, Stuck, Unfit, At, Whole}
-use Rattle.std.specs.Prelude.{ℕ, ◌+◌, ◌-◌, ◌≤◌, ◌<◌, ◌≡◌, Bool, true, false, ◌&&◌, eqb, length, take, drop, Err, Option, None, Some, Result}
+use Rattle.std.specs.Prelude.{ℕ, ◌+◌, ◌≤◌, ◌≡◌, Bool, true, false, ◌&&◌, eqb, length, take, Err, Option, None, Some, Result}
 use mathlib.Core.List.{List, [], ◌∷◌, tail}
 use Rattle.base.specs.Choice.{pick}
 use Rattle.base.specs.Quoted.{ascii, bytes}
-use Rattle.base.specs.Bytes.{count_up_to}
 use Rattle.base.specs.Calls.{said, Puts}
 use Rattle.base.specs.Rules.{first}
 use Rattle.base.specs.Verdicts.{Verdict, Fine}
@@ -82,13 +81,6 @@ otherwise None h = h
 
 abbrev pub held_at : ℕ → ℕ → ℕ → ℕ → Option ℕ
 held_at p from to i = pick (lies_in p from to) (Some i) None
-
--- ---- the record of a sheet from i up to its LF at e
-abbrev pub EndsAt : List ℕ → ℕ → ℕ → Type 0
-EndsAt s i e = (e < length s) × (e ≡ i + count_up_to (ascii "\n") (drop i s))
-
-abbrev pub record_in : List ℕ → ℕ → ℕ → Record
-record_in s i e = record_of (take (e - i) (drop i s))
 
 -- ---- the halves: `half` is the record of 70 cut off behind the first, `rest` is the second
 abbrev pub one_in : List ℕ → List ℕ

@@ -1,6 +1,8 @@
 -- What the functions say that put a sheet's message into room (S6, S7, N15-N17). Assumes nothing.
 use Rattle.writer.specs.Comes.{Step, Put, Stuck, Unfit}
-use Rattle.std.specs.Prelude.{ℕ, ◌+◌, ◌≤◌, ◌≡◌, Bool, true, false, not, List, map, length, Err}
+use Rattle.std.specs.Prelude.{ℕ, ◌+◌, ◌-◌, ◌≤◌, ◌<◌, ◌≡◌, Bool, true, false, not, List, map, length, take, drop, Err, Option, MatchOption}
+use Rattle.std.specs.Borrow.{Bor}
+use Rattle.std.specs.Iterator.{Count, at_most}
 use lib.Seq.{sets}
 use Rattle.types.specs.declared.Form.{Form}
 use Rattle.base.specs.Calls.{Gives}
@@ -15,6 +17,8 @@ use Rattle.runon.specs.Run.{fits_in}
 use Rattle.writer.specs.Spread.{coded, cast_parts, laid_lines, details_lines}
 use Rattle.writer.specs.Sheet.{stopped_at, unsaid, crowded_details, crowded, hand_rules}
 use Rattle.base.specs.Quoted.{ascii}
+use Rattle.base.specs.Bytes.{count_up_to}
+use Rattle.writer.specs.declared.walk.Walk.{Walk}
 
 -- ---- a step: t is put into the room from `at` on, as far as it is there, unless a rule stops it or details are crowded
 abbrev pub came : Verdict → Bool → ℕ → Step
@@ -52,6 +56,15 @@ record_crowded form s (field t ps) = crowded s (shape_of form t) ps
 -- the records from a place on
 abbrev pub records_at : List ℕ → ℕ → List Record
 records_at s i = map record_of (front (pieces_at (ascii "\n") s i))
+
+-- one record more, by where it starts, without its LF, and the walk behind it
+abbrev pub Walks : Walk → Option (ℕ × Bor (List ℕ)) → Walk → Type 0
+Walks w r v =
+    (v.sheet.now ≡ w.sheet.now)
+    × MatchOption r (length w.sheet.now ≤ w.at) (λ x. (w.at < length w.sheet.now) × (x.0 ≡ w.at) × (x.1.now ≡ take (count_up_to (ascii "\n") (drop w.at w.sheet.now)) (drop w.at w.sheet.now)) × (v.at ≡ w.at + count_up_to (ascii "\n") (drop w.at w.sheet.now) + 1))
+
+abbrev pub walk_left : Walk → Count
+walk_left w = at_most (length w.sheet.now - w.at)
 
 -- ---- the message handed over
 abbrev pub Hands : Form → List ℕ → List ℕ → Outcome → List ℕ → Type 0

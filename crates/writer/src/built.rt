@@ -16,6 +16,7 @@ use super::notes::{put_note, put_rpp};
 use super::parts::put_parts;
 use super::purposes::put_purpose;
 use super::runs::put_run;
+use super::walk::Walk;
 use super::{Cutting, Halt, NewMessage, Step};
 use base::Refusal;
 use base::bytes::put;
@@ -81,15 +82,12 @@ pub(crate) fn put_records(
 {
     let mut fit = true;
     let mut n = at;
-    let mut i = from;
-    while i < s.len() {
-        let e = mark_at(b'\n', s, i);
-        match put_record(form, sign, &s[i..e], out, n) {
+    for (i, record) in Walk::new(s, from) {
+        match put_record(form, sign, record, out, n) {
             Ok(m) => n = m,
             Err(Halt::Unfit) => fit = false,
             Err(Halt::Stuck(k)) => return Err(Halt::Stuck(i + k)),
         }
-        i = e + 1;
     }
     if !fit {
         return Err(Halt::Unfit);

@@ -15,6 +15,7 @@ ghost use Rattle.writer.specs.Runs.{none_seen, seeing, seen_from, note_for, cut_
 
 use super::Cutting;
 use super::purposes::put_code;
+use super::walk::Walk;
 use base::marks::mark_at;
 use contents::whole::SIGNED_CODE;
 use details::DetailsField;
@@ -79,11 +80,8 @@ fn see_all(s: &[u8]) -> Seen
         notes: 0,
         start: 0,
     };
-    let mut i = 7;
-    while i < s.len() {
-        let e = mark_at(b'\n', s, i);
-        seen = see(seen, i, &s[i..e]);
-        i = e + 1;
+    for (i, record) in Walk::new(s, 7) {
+        seen = see(seen, i, record);
     }
     seen
 }
@@ -93,9 +91,10 @@ fn note_field(new: bool) -> DetailsField
     ensures { result ≡ note_for new }
 {
     if new {
-        return DetailsField::In72;
+        DetailsField::In72
+    } else {
+        DetailsField::BehindRpp
     }
-    DetailsField::BehindRpp
 }
 
 // What the text of a record of 70 comes to.

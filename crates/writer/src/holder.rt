@@ -10,17 +10,14 @@ ghost use Rattle.writer.specs.Holder.{lies_in, holder_in, holder_of};
 
 use super::built::{build, put_record};
 use super::runs::put_run;
-use base::marks::mark_at;
+use super::walk::Walk;
 use types::Form;
 
 // The place stands in what goes from one place up to another.
 pub(crate) fn is_between(place: usize, from: usize, to: usize) -> bool
     ensures { result ≡ lies_in place from to }
 {
-    if place < from {
-        return false;
-    }
-    place < to
+    from <= place && place < to
 }
 
 // Of a sheet that no rule refuses: its fields one behind the other, with no room to speak of.
@@ -30,17 +27,14 @@ fn find_holder(s: &[u8], form: Form, sign: bool, place: usize) -> Option<usize>
 {
     let mut none = [0u8; 1];
     let mut n = 5;
-    let mut i = 7;
-    while i < s.len() {
-        let e = mark_at(b'\n', s, i);
-        let Ok(m) = put_record(form, sign, &s[i..e], &mut none, n) else {
+    for (i, record) in Walk::new(s, 7) {
+        let Ok(m) = put_record(form, sign, record, &mut none, n) else {
             return None;
         };
         if is_between(place, n, m) {
             return Some(i);
         }
         n = m;
-        i = e + 1;
     }
     None
 }

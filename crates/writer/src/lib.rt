@@ -13,6 +13,7 @@ mod purposes;
 mod runs;
 mod texts;
 pub mod to_message;
+mod walk;
 
 // What putting something into the room comes to: the place behind, which counts on where the room has ended, or what stops it.
 pub(crate) type Step = Result<usize, Halt>;
@@ -25,6 +26,7 @@ pub(crate) enum Halt {
 }
 
 // Where the text of 70 is cut, by places of the sheet, and whether a new 72 is to come for its rest.
+// Stays: `new`, here, in cuts and in runs, says one thing, and `run_as` and `sources` take the same bool; an enum of two cases says no more.
 #[derive(Clone, Copy)]
 pub(crate) struct Cutting {
     pub(crate) start: usize,

@@ -25,6 +25,7 @@ pub(crate) fn put_parts(
     requires { (length l.now ≤ 10000) × (i ≤ length l.now + 1) × (at + 100000 ≤ near) }
     ensures { Adds (unsaid sign i (cast_by role (pieces_at 9 l.now i))) false (with_cr_lf (map (line_for sign) (cast_by role (pieces_at 9 l.now i)))) out.old at result out.new × Within result (length l.now) (at + 4 * length l.now + 4) }
 {
+    // Stays: `put_line` wants each part's place, and an iterator that gives it with the part would stand in for this one loop.
     while i <= l.len() {
         let e = mark_at(b'\t', l, i);
         let p = &l[i..e];

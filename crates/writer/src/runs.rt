@@ -1,5 +1,5 @@
 // A message whose details run on: the records put again, the text of 70 in two.
-ghost use Rattle.std.specs.Prelude.{◌≡◌, true, false, [], ◌∷◌, ◌+◌, ◌*◌, ◌-◌, ◌≤◌, length};
+ghost use Rattle.std.specs.Prelude.{◌≡◌, true, false, [], ◌∷◌, ◌+◌, ◌*◌, ◌≤◌, length};
 ghost use Rattle.base.specs.Choice.{pick};
 ghost use Rattle.base.specs.Calls.{said, Puts};
 ghost use Rattle.base.specs.Examples.{AllHold};
@@ -16,16 +16,16 @@ ghost use Rattle.runon.specs.RunOn.{tag_70, tag_72, tagged, halved, new_note, ru
 ghost use Rattle.writer.specs.Spread.{field_for, spread};
 ghost use Rattle.writer.specs.Steps.{Adds, Within, near, record_stops, record_crowded, records_at};
 ghost use Rattle.writer.specs.Holder.{holder_in, sources};
-ghost use Rattle.writer.specs.Runs.{EndsAt, record_in, one_in, otherwise, held_at, onward_by, comes_before, run_here, still_new, sources_here, Halves, Here, FieldsPut};
+ghost use Rattle.writer.specs.Runs.{one_in, otherwise, held_at, onward_by, comes_before, run_here, still_new, sources_here, Halves, Here, FieldsPut};
 
 use super::Step;
-use super::built::{put_records, put_tag};
+use super::built::{put_record, put_tag};
 use super::cuts::{DIGITS, tag_of};
 use super::holder::is_between;
 use super::notes::put_rpp;
 use super::purposes::{put_purpose, put_rest};
+use super::walk::Walk;
 use base::bytes::put;
-use base::marks::mark_at;
 use details::DetailsField;
 use types::Form;
 use types::tags::{TAG_70, TAG_72, TAG_77B};
@@ -45,13 +45,7 @@ pub(crate) struct Running {
 fn held_by(held: Option<usize>, place: usize, from: usize, to: usize, start: usize) -> Option<usize>
     ensures { result ≡ otherwise held (held_at place from to start) }
 {
-    let None = held else {
-        return held;
-    };
-    if is_between(place, from, to) {
-        return Some(start);
-    }
-    None
+    held.or(is_between(place, from, to).then_some(start))
 }
 
 // A field more, made of the record that starts at `start`.
@@ -86,28 +80,19 @@ fn put_first(sign: bool, half: &[u8], out: &mut [u8], at: usize) -> Step
     put_purpose(sign, DetailsField::In70, half, DIGITS, out, n)
 }
 
-// The record from i up to its LF at e, as it runs on.
-fn put_half(
-    sign: bool,
-    s: &[u8],
-    i: usize,
-    e: usize,
-    half: &[u8],
-    rest: &[u8],
-    out: &mut [u8],
-    at: usize,
-) -> Step
-    requires { (length s.now ≤ 10000) × EndsAt s.now i e × (at + 10000000 ≤ near) × Halves sign half.now rest.now × Here sign half.now rest.now (record_in s.now i e) }
-    ensures { Adds Fine false (with_cr_lf (lined (field_for Mt103 sign (halved (one_in half.now) rest.now (record_in s.now i e))))) out.old at result out.new × Within result 10000 (at + 400 * (e + 1 - i)) }
+// A record, without its LF, as it runs on.
+fn put_half(sign: bool, l: &[u8], half: &[u8], rest: &[u8], out: &mut [u8], at: usize) -> Step
+    requires { (length l.now ≤ 10000) × (at + 200000 ≤ near) × Halves sign half.now rest.now × Here sign half.now rest.now (record_of l.now) }
+    ensures { Adds Fine false (with_cr_lf (lined (field_for Mt103 sign (halved (one_in half.now) rest.now (record_of l.now))))) out.old at result out.new × Within result 10000 (at + 400 * (length l.now + 1)) }
 {
-    let tag = tag_of(&s[i..e]);
+    let tag = tag_of(l);
     if tag == TAG_70 {
         return put_first(sign, half, out, at);
     }
     if tag == TAG_72 {
-        return put_both(sign, &s[i..e], rest, out, at);
+        return put_both(sign, l, rest, out, at);
     }
-    put_records(&s[..e + 1], i, Form::Mt103, sign, out, at)
+    put_record(Form::Mt103, sign, l, out, at)
 }
 
 // A new 72: it has no RPP line.
@@ -123,18 +108,14 @@ fn put_new(sign: bool, rest: &[u8], out: &mut [u8], at: usize) -> Step
 fn comes_before(new: bool, l: &[u8]) -> bool
     ensures { result ≡ comes_before new (record_of l.now) }
 {
-    if !new {
-        return false;
-    }
-    tag_of(l) == TAG_77B
+    new && tag_of(l) == TAG_77B
 }
 
-// The record from i up to its LF at e as it runs on, and perhaps a new 72 before it.
+// The record that starts at i, without its LF, as it runs on, and perhaps a new 72 before it.
 fn put_next(
     sign: bool,
-    s: &[u8],
     i: usize,
-    e: usize,
+    l: &[u8],
     half: &[u8],
     rest: &[u8],
     start: usize,
@@ -142,19 +123,19 @@ fn put_next(
     run: Running,
     out: &mut [u8],
 ) -> Running
-    requires { (length s.now ≤ 10000) × EndsAt s.now i e × (run.at + 20000000 ≤ near) × Halves sign half.now rest.now × Here sign half.now rest.now (record_in s.now i e) × (run.new ≡ true → fits_in sign In72 [] rest.now ≡ true) }
-    ensures { FieldsPut (spread Mt103 sign (run_here run.new (one_in half.now) rest.now (record_in s.now i e))) (sources_here run.new start i (record_in s.now i e)) place out.old run result out.new × (result.new ≡ still_new run.new (record_in s.now i e)) × (result.at ≤ run.at + 800 * (e + 1 - i)) }
+    requires { (length l.now ≤ 10000) × (run.at + 1000000 ≤ near) × Halves sign half.now rest.now × Here sign half.now rest.now (record_of l.now) × (run.new ≡ true → fits_in sign In72 [] rest.now ≡ true) }
+    ensures { FieldsPut (spread Mt103 sign (run_here run.new (one_in half.now) rest.now (record_of l.now))) (sources_here run.new start i (record_of l.now)) place out.old run result out.new × (result.new ≡ still_new run.new (record_of l.now)) × (result.at ≤ run.at + 800 * (length l.now + 1)) }
 {
     let at = run.at;
     let new = run.new;
-    if comes_before(new, &s[i..e]) {
+    if comes_before(new, l) {
         let note = put_new(sign, rest, out, at);
         let between = onward(run, place, note, start, false);
         let behind = between.at;
-        let own = put_half(sign, s, i, e, half, rest, out, behind);
+        let own = put_half(sign, l, half, rest, out, behind);
         return onward(between, place, own, i, false);
     }
-    let step = put_half(sign, s, i, e, half, rest, out, at);
+    let step = put_half(sign, l, half, rest, out, at);
     onward(run, place, step, i, new)
 }
 
@@ -199,11 +180,8 @@ pub(crate) fn put_run(
         at: 5,
         holder: None,
     };
-    let mut i = 7;
-    while i < s.len() {
-        let e = mark_at(b'\n', s, i);
-        run = put_next(sign, s, i, e, half, rest, start, place, run, out);
-        i = e + 1;
+    for (i, record) in Walk::new(s, 7) {
+        run = put_next(sign, i, record, half, rest, start, place, run, out);
     }
     let last = put_last(sign, rest, start, place, run, out);
     let n = last.at;

@@ -12,9 +12,8 @@ use Prim.Native.Nat.{◌+◌, ◌*◌, ◌-◌, ◌≤◌}
 use Rattle.writer.proofs.built.put_records.Given as goal
 
 abbrev pub invariant-loop-i : goal.invariant-loop-i
-invariant-loop-i l = (length l.out ≡ length l.initial.out) × (l.i ≤ length l.s) × (l.n ≤ l.at + 400 * (l.i - l.from)) × (bad_sheet_line l.form l.sign l.i (pieces_at 10 l.s l.i) ≡ Fine)
-    × Onward (rule_15 l.form l.sign l.from (records_at l.s l.from)) (some_crowded l.form l.sign (records_at l.s l.from)) (body_of l.form l.sign (records_at l.s l.from)) l.initial.out l.at (rule_15 l.form l.sign l.i (records_at l.s l.i)) (not l.fit || some_crowded l.form l.sign (records_at l.s l.i)) (body_of l.form l.sign (records_at l.s l.i)) l.out l.n
-    × (l.from ≤ l.i)
-
-abbrev pub decreases-loop-i : goal.decreases-loop-i
-decreases-loop-i l = length l.s - l.i
+invariant-loop-i l =
+    let i = l.i-iterator.at in
+    (length l.out ≡ length l.initial.out) × (i ≤ length l.s) × (l.n ≤ l.at + 400 * (i - l.from)) × (bad_sheet_line l.form l.sign i (pieces_at 10 l.s i) ≡ Fine)
+    × Onward (rule_15 l.form l.sign l.from (records_at l.s l.from)) (some_crowded l.form l.sign (records_at l.s l.from)) (body_of l.form l.sign (records_at l.s l.from)) l.initial.out l.at (rule_15 l.form l.sign i (records_at l.s i)) (not l.fit || some_crowded l.form l.sign (records_at l.s i)) (body_of l.form l.sign (records_at l.s i)) l.out l.n
+    × (l.from ≤ i) × (l.i-iterator.sheet.now ≡ l.s)

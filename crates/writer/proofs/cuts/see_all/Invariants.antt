@@ -1,5 +1,5 @@
 -- `writer::cuts::see_all` meets its contract: from each record on as from the first. Assumes nothing.
-use Prim.Native.Nat.{◌-◌, ◌≤◌}
+use Prim.Native.Nat.{◌≤◌}
 use mathlib.Core.Path.{◌≡◌}
 use lib.ListN.{length}
 use Rattle.writer.specs.Steps.{records_at}
@@ -7,7 +7,6 @@ use Rattle.writer.specs.Runs.{none_seen, seen_from, Passes}
 use Rattle.writer.proofs.cuts.see_all.Given as goal
 
 abbrev pub invariant-loop-i : goal.invariant-loop-i
-invariant-loop-i l = (l.i ≤ length l.s) × (l.seen.details ≤ l.i) × (l.seen.notes ≤ l.i) × Passes l.s l.i × (seen_from l.seen l.i (records_at l.s l.i) ≡ seen_from none_seen 7 (records_at l.s 7))
-
-abbrev pub decreases-loop-i : goal.decreases-loop-i
-decreases-loop-i l = length l.s - l.i
+invariant-loop-i l =
+    let i = l.i-iterator.at in
+    (l.i-iterator.sheet.now ≡ l.s) × (i ≤ length l.s) × (l.seen.details ≤ i) × (l.seen.notes ≤ i) × Passes l.s i × (seen_from l.seen i (records_at l.s i) ≡ seen_from none_seen 7 (records_at l.s 7))

@@ -1,5 +1,5 @@
 -- `writer::holder::find_holder` meets its contract: from each record on as from the second. Assumes nothing.
-use Prim.Native.Nat.{◌+◌, ◌*◌, ◌-◌, ◌≤◌}
+use Prim.Native.Nat.{◌+◌, ◌*◌, ◌≤◌}
 use mathlib.Core.Path.{◌≡◌}
 use mathlib.Core.Bool.{false}
 use lib.ListN.{length}
@@ -13,8 +13,7 @@ use Rattle.writer.specs.Spread.{spread}
 use Rattle.writer.proofs.holder.find_holder.Given as goal
 
 abbrev pub invariant-loop-i : goal.invariant-loop-i
-invariant-loop-i l = (l.i ≤ length l.s) × (l.n ≤ 5 + 400 * l.i) × (bad_sheet_line l.form l.sign l.i (pieces_at 10 l.s l.i) ≡ Fine) × (rule_15 l.form l.sign l.i (records_at l.s l.i) ≡ Fine) × (some_crowded l.form l.sign (records_at l.s l.i) ≡ false)
-    × (holder_in l.place 5 (starts_of 7 (records_at l.s 7)) (spread l.form l.sign (records_at l.s 7)) ≡ holder_in l.place l.n (starts_of l.i (records_at l.s l.i)) (spread l.form l.sign (records_at l.s l.i))) × (length l.none ≡ 1)
-
-abbrev pub decreases-loop-i : goal.decreases-loop-i
-decreases-loop-i l = length l.s - l.i
+invariant-loop-i l =
+    let i = l.i-iterator.at in
+    (l.i-iterator.sheet.now ≡ l.s) × (i ≤ length l.s) × (l.n ≤ 5 + 400 * i) × (bad_sheet_line l.form l.sign i (pieces_at 10 l.s i) ≡ Fine) × (rule_15 l.form l.sign i (records_at l.s i) ≡ Fine) × (some_crowded l.form l.sign (records_at l.s i) ≡ false)
+    × (holder_in l.place 5 (starts_of 7 (records_at l.s 7)) (spread l.form l.sign (records_at l.s 7)) ≡ holder_in l.place l.n (starts_of i (records_at l.s i)) (spread l.form l.sign (records_at l.s i))) × (length l.none ≡ 1)

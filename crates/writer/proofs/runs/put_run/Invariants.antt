@@ -1,5 +1,5 @@
 -- `writer::runs::put_run` meets its contract: from each record on as from the first, then the closing. Assumes nothing.
-use Prim.Native.Nat.{◌+◌, ◌-◌, ◌*◌, ◌≤◌}
+use Prim.Native.Nat.{◌+◌, ◌*◌, ◌≤◌}
 use mathlib.Core.Path.{◌≡◌}
 use mathlib.Core.Bool.{true}
 use mathlib.Core.List.{[]}
@@ -20,10 +20,9 @@ use Rattle.writer.proofs.runs.put_run.Given as goal
 
 abbrev pub invariant-loop-i : goal.invariant-loop-i
 invariant-loop-i l =
-    (length l.out ≡ length l.initial.out) × (l.i ≤ length l.s) × (l.run.at ≤ 5 + 800 * l.i) × (bad_sheet_line Mt103 l.sign l.i (pieces_at 10 l.s l.i) ≡ Fine) × AllHold (Here l.sign l.half l.rest) (records_at l.s l.i)
+    let i = l.i-iterator.at in
+    (length l.out ≡ length l.initial.out) × (i ≤ length l.s) × (l.run.at ≤ 5 + 800 * i) × (bad_sheet_line Mt103 l.sign i (pieces_at 10 l.s i) ≡ Fine) × AllHold (Here l.sign l.half l.rest) (records_at l.s i)
     × (l.run.new ≡ true → fits_in l.sign In72 [] l.rest ≡ true)
     × LeftOn (spread Mt103 l.sign (run_as l.new (one_in l.half) l.rest (records_at l.s 7))) (sources l.new l.start 7 (records_at l.s 7)) l.place l.initial.out l.initial.run
-    (spread Mt103 l.sign (run_as l.run.new (one_in l.half) l.rest (records_at l.s l.i))) (sources l.run.new l.start l.i (records_at l.s l.i)) l.out l.run
-
-abbrev pub decreases-loop-i : goal.decreases-loop-i
-decreases-loop-i l = length l.s - l.i
+    (spread Mt103 l.sign (run_as l.run.new (one_in l.half) l.rest (records_at l.s i))) (sources l.run.new l.start i (records_at l.s i)) l.out l.run
+    × (l.i-iterator.sheet.now ≡ l.s)
