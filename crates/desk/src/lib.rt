@@ -30,50 +30,41 @@ fn word_of(o: Outcome) -> u64
     requires { SmallOutcome o }
     ensures { result ≡ word o }
 {
-    match o {
-        Ok(n) => n as u64,
-        Err(r) => refused(r),
-    }
+    o.map_or_else(refused, |n| n as u64)
 }
 
 fn checked_of(c: Result<Accepted, Refusal>) -> u64
     requires { SmallCheck c }
     ensures { result ≡ checked_word c }
 {
-    match c {
-        Ok(a) => a.fields as u64 + a.present as u64 * 65536,
-        Err(r) => refused(r),
-    }
+    c.map_or_else(refused, |a| a.fields as u64 + a.present as u64 * 65536)
 }
 
 fn span_of(s: Option<Span>) -> u64
     requires { SmallSpan s }
     ensures { result ≡ span_word s }
 {
-    match s {
-        Some(s) => s.start as u64 * 4294967296 + (s.end - s.start) as u64,
-        None => 0,
-    }
+    s.map_or(
+        0,
+        |s| s.start as u64 * 4294967296 + (s.end - s.start) as u64,
+    )
 }
 
 fn amount_of(a: Result<u64, Refusal>) -> u64
     requires { SmallAmount a }
     ensures { result ≡ amount_word a }
 {
-    match a {
-        Ok(n) => n,
-        Err(r) => refused(r),
-    }
+    a.unwrap_or_else(refused)
 }
 
 fn day_of(d: Result<Day, Refusal>) -> u64
     requires { SmallDay d }
     ensures { result ≡ day_word d }
 {
-    match d {
-        Ok(d) => d.year as u64 * 10000 + d.month as u64 * 100 + d.day as u64,
-        Err(r) => refused(r),
-    }
+    d.map_or_else(
+        refused,
+        |d| d.year as u64 * 10000 + d.month as u64 * 100 + d.day as u64,
+    )
 }
 
 pub fn desk_read_text(sign: u32, bank: &[u8], out: &mut [u8]) -> u64
