@@ -8,6 +8,9 @@ use super::lines::{end_of, is_bad_line, is_ended};
 use base::Refusal;
 use fields::line_tag;
 
+// Stays: a loop goes from a line's end to the next, here and in the pass; an iterator over the lines is no plainer, since it would have to hand
+// out a line's place beside its bytes and, where 3 is broken, the place of that as a last item.
+
 // The line at place is bad: that is the refusal, if no line from i on breaks 3.
 pub(crate) fn late_line(t: &[u8; 256], m: &[u8], i: usize, place: usize) -> Refusal
     requires { (t.now ≡ classes) × Tail m.now i }

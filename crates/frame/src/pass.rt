@@ -27,6 +27,7 @@ pub(crate) fn pass(form: Form, t: &[u8; 256], places: &Places, m: &[u8]) -> Resu
     let mut n = 0;
     let mut next = 0;
     let mut word: u32 = 0;
+    // Stays: from line to line by its end, for the reason that the loops of late.rt do.
     while at < e {
         let end = end_of(t, m, at);
         if !is_ended(m, end) {

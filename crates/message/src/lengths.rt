@@ -13,7 +13,7 @@ use roles::lengths::over_most;
 use types::Form;
 
 // The places of 70 and 72 in a 103.
-// Stays: by number, for the reason that those of 32A are (paid.rt).
+// Stays: by number, since every message is asked for its 72 and a number costs no search; `places_of` has them at these places (LengthLaws).
 const DETAILS: usize = 10;
 
 const NOTE: usize = 12;

@@ -12,7 +12,7 @@ use base::Refusal;
 use types::Form;
 use values::amounts::{date_of, kopecks_of};
 
-// Stays: a place by its number, proved to be that of its tag; a search of the form's table is no plainer, as it has two tags for each place.
+// Stays: a place by its number, proved to be that of its tag. Tried and slower: with a second caller the pass's `step_of` is no longer inlined.
 const PAID_103: usize = 3;
 
 const PAID_202: usize = 2;
