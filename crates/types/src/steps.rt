@@ -1,10 +1,10 @@
 // One field of the walk: its tag's place among those of a form, and what is wrong with it there.
-ghost use Rattle.std.specs.Prelude.{◌≡◌, true, not, ◌||◌, ◌≤◌, ◌<◌, length, map, position, IfSome};
+ghost use Rattle.std.specs.Prelude.{◌≡◌, not, ◌||◌, ◌≤◌, ◌<◌, length, map, position, IfSome, IfNone};
 ghost use Rattle.std.specs.List.{list_any};
 ghost use Rattle.fields.specs.Shapes.{unpack};
 ghost use Rattle.types.specs.Form.{places_of};
 ghost use Rattle.types.specs.Walk.{among, is_of, is_optional, find, skips, wrong};
-ghost use Rattle.types.specs.Sentences.{place_at, Seated};
+ghost use Rattle.types.specs.Sentences.{Sought, NoneSought};
 ghost use Rattle.types.specs.Tables.{texts, place, fault, step_of};
 
 use super::forms::Place::{self, Mandatory, Optional};
@@ -83,7 +83,8 @@ fn wrong_of(places: &[Place], next: usize, at: usize) -> Option<u32>
 
 // From next on, up to the tag or a mandatory place: most fields are met so after a step or two.
 fn seek(places: &[Place], next: usize, tag: u32) -> Option<usize>
-    ensures { IfSome result (λ q. Seated (map place places.now) next q × (is_of (unpack tag) (place_at (map place places.now) q) ≡ true)) }
+    ensures found { IfSome result (Sought (map place places.now) next (unpack tag)) }
+    ensures none { IfNone result (NoneSought (map place places.now) next (unpack tag)) }
 {
     if places.len() < next {
         return None;

@@ -15,8 +15,8 @@ returns-in-Some c =
     let t = unpack c.args.tag in
     let next = c.args.next in
     let q = c.in-Some.place in
-    let e = c.in-Some.ensures in
+    let e = c.in-Some.ensures.found in
     let form = c.self.invariant.0 in
     let i = c.self.invariant.1 in
-    step_seated form next t q (subst (λ (ps : List Place). Seated ps next q) i e.0) (subst (λ (ps : List Place). is_of t (place_at ps q) ≡ true) i e.1)
+    step_seated form next t q (subst (λ (ps : List Place). Seated ps next q) i e.seated) (subst (λ (ps : List Place). is_of t (place_at ps q) ≡ true) i e.has)
     ∙ ap (λ (ps : List Place). step_of ps next t) (sym i ∙ c.self.view_is)
