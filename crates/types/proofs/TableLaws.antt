@@ -1,8 +1,8 @@
--- No tag stands at two places of a form; what holds of each form's places; 18. Assumes nothing.
+-- No tag stands at two places of a form; what holds of each form's places; what is kept of them is settled; 18. Assumes nothing.
 use Prim.Native.Nat.{ℕ, zero, suc, ◌+◌, ◌≤◌, ◌<◌}
 use mathlib.Core.Path.{◌≡◌, refl, sym, ap, ap₂, ◌∙◌}
 use mathlib.Core.Bool.{Bool, true, false, ◌&&◌, ◌||◌, false≢true}
-use mathlib.Core.List.{List, [], ◌∷◌}
+use mathlib.Core.List.{List, [], ◌∷◌, map}
 use mathlib.Core.Logic.{◌↔◌}
 use native.Mathlib.Omega.{arith}
 use native.Mathlib.Nat.{zero-add}
@@ -14,12 +14,18 @@ use Rattle.base.specs.Bytes.{same, empty}
 use Rattle.base.specs.Verdicts.{Fine, Broken}
 use Rattle.base.proofs.RuleLaws.{fine_broken}
 use Rattle.base.proofs.Table.{and_left, and_right, is_true}
+use Rattle.fields.specs.Shapes.{pack}
+use Rattle.fields.proofs.PackLaws.{pack_unpack}
+use Rattle.types.specs.declared.forms.Tags.{Tags}
+use Rattle.types.specs.declared.forms.Tags.TheVariants.{One, Either}
+use Rattle.types.specs.declared.forms.Place.{Place as Kept}
+use Rattle.types.specs.declared.forms.Place.TheVariants.{Mandatory, Optional}
 use Rattle.types.specs.declared.Form.{Form}
 use Rattle.types.specs.declared.Form.TheVariants.{Other, Mt103, Mt202}
 use Rattle.types.specs.Form.{Place, mandatory, optional, form_of, type_of, places_103, places_202, places_of}
 use Rattle.types.specs.Walk.{among, is_of, find, wrong, rule_18}
 use Rattle.std.specs.Prelude.{Option, None}
-use Rattle.types.specs.Tables.{most, place_tags, fault, step_of}
+use Rattle.types.specs.Tables.{most, place_tags, place, fault, step_of}
 use Rattle.base.proofs.ByteLaws.{same_is}
 use Rattle.types.proofs.WalkLaws.{wrong_0, not_skips}
 use Rattle.types.specs.Sentences.{place_at, Seated}
@@ -83,6 +89,30 @@ step_seated form next t q s e =
 pub few_places : (form : Form) → length (places_of form) ≤ most
 unfolding places_103 places_202
 few_places form = each_form (λ ps. length ps ≤ most) (omega arith) (omega arith) (omega arith) form
+
+-- ---- what is kept is settled by the places that it stands for
+abbrev tags_back : List (List ℕ) → Tags
+tags_back [] = One 0
+tags_back (t ∷ []) = One (pack t)
+tags_back (t ∷ u ∷ us) = Either (pack t) (pack u)
+
+abbrev kept_back : Place → Kept
+kept_back (mandatory ts) = Mandatory (tags_back ts)
+kept_back (optional ts) = Optional (tags_back ts)
+
+back : (k : Kept) → kept_back (place k) ≡ k
+back (Mandatory (One t)) = ap (λ (n : ℕ). Mandatory (One n)) (pack_unpack t)
+back (Mandatory (Either t u)) = ap₂ (λ (n m : ℕ). Mandatory (Either n m)) (pack_unpack t) (pack_unpack u)
+back (Optional (One t)) = ap (λ (n : ℕ). Optional (One n)) (pack_unpack t)
+back (Optional (Either t u)) = ap₂ (λ (n m : ℕ). Optional (Either n m)) (pack_unpack t) (pack_unpack u)
+
+all_back : (ks : List Kept) → map kept_back (map place ks) ≡ ks
+all_back [] = refl
+all_back (k ∷ ks) = ap₂ ◌∷◌ (back k) (all_back ks)
+
+-- so any two lists that `places_of` may lend for a form are equal
+pub places_one : (form : Form) (xs ys : List Kept) → map place xs ≡ places_of form → map place ys ≡ places_of form → xs ≡ ys
+places_one form xs ys p q = sym (all_back xs) ∙ ap (map kept_back) (p ∙ sym q) ∙ all_back ys
 
 -- ---- 18
 pub no_places : (form : Form) → length (places_of form) ≡ 0 → rule_18 form ≡ Broken 18 0
