@@ -5,11 +5,11 @@ ghost use Rattle.types.specs.Tables.{place};
 
 use self::Place::{Mandatory, Optional};
 use self::Tags::{Either, One};
-use super::Form;
 use super::tags::{
     TAG_20, TAG_21, TAG_23B, TAG_26T, TAG_32A, TAG_50K, TAG_52A, TAG_53B, TAG_56A, TAG_56D,
     TAG_57A, TAG_57D, TAG_58A, TAG_58D, TAG_59, TAG_70, TAG_71A, TAG_72, TAG_77B,
 };
+use super::{Form, PLACES};
 
 // The tags that a field of a place may have, each as one number.
 #[derive(Clone, Copy, PartialEq, Eq)]
@@ -72,7 +72,11 @@ pub fn places_of(form: Form) -> &'static [Place]
 {
     match form {
         Form::Other => &[],
-        Form::Mt103 => &PLACES_103,
+        Form::Mt103 => {
+            // A 103 is the longest type; `count_of` shows that no form has more.
+            prove!(PLACES_103.len() == PLACES);
+            &PLACES_103
+        }
         Form::Mt202 => &PLACES_202,
     }
 }
@@ -81,5 +85,7 @@ pub fn places_of(form: Form) -> &'static [Place]
 pub fn count_of(form: Form) -> usize
     ensures { result ≡ length (places_of form) }
 {
-    places_of(form).len()
+    let count = places_of(form).len();
+    prove!(count <= PLACES);
+    count
 }
