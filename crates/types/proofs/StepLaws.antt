@@ -23,8 +23,8 @@ use Rattle.fields.proofs.PackLaws.{same_unpack}
 use Rattle.types.specs.declared.forms.Place.{Place as Kept}
 use Rattle.types.specs.Form.{Place, optional}
 use Rattle.types.specs.Walk.{among, is_of, is_optional, find, skips, wrong}
-use Rattle.types.specs.Sentences.{place_at, Sought, NoneSought}
-use Rattle.types.specs.Tables.{place, fault}
+use Rattle.types.specs.Sentences.{place_at}
+use Rattle.types.specs.Tables.{place, fault, Sought, NoneSought}
 use Rattle.types.proofs.WalkLaws.{wrong_5, wrong_6, wrong_7, wrong_0}
 
 -- ---- a tag among those of a place: its number is met where it is

@@ -42,16 +42,6 @@ pub record Seated (ps : List Place) (next q : ℕ) : Type 0 where
   pub low : next ≤ q
   pub free : Skipped ps next q → ⊥
 
--- q is the first place from next on with the tag, and nothing is wrong there
-pub record Sought (ps : List Place) (next : ℕ) (t : List ℕ) (q : ℕ) : Type 0 where
-  pub seated : Seated ps next q
-  pub has : is_of t (place_at ps q) ≡ true
-  pub first : (i : ℕ) → next ≤ i → i < q → is_of t (place_at ps i) ≡ false
-
--- no place where nothing is wrong has the tag
-abbrev pub NoneSought : List Place → ℕ → List ℕ → Type 0
-NoneSought ps next t = (q : ℕ) → Seated ps next q → is_of t (place_at ps q) ≡ false
-
 -- each field is right behind the one before it
 abbrev pub AllRight : List Place → ℕ → List Field → Type 0
 AllRight ps next [] = Unit {0}

@@ -4,8 +4,7 @@ ghost use Rattle.std.specs.List.{list_any};
 ghost use Rattle.fields.specs.Shapes.{unpack};
 ghost use Rattle.types.specs.Form.{places_of};
 ghost use Rattle.types.specs.Walk.{among, is_of, is_optional, find, skips, wrong};
-ghost use Rattle.types.specs.Sentences.{Sought, NoneSought};
-ghost use Rattle.types.specs.Tables.{texts, place, fault, step_of};
+ghost use Rattle.types.specs.Tables.{texts, place, fault, step_of, Sought, NoneSought};
 
 use super::forms::Place::{self, Mandatory, Optional};
 use super::forms::Tags::{self, Either, One};
