@@ -6,11 +6,9 @@ use native.Mathlib.Omega.{arith}
 use native.Mathlib.Numerals.{add-one}
 use native.Mathlib.Nat.{zero-add, suc-add, add-suc, add-zero}
 use native.Mathlib.Decide.{dec_lt}
-use lib.ListN.{length, take, drop, set, length-append}
-use Rattle.std.proofs.lemmas.List.{append_assoc, drop-drop}
+use lib.ListN.{length, drop, set, length-append, drop_of_length-le}
 use lib.Seq.{sets, sets-eq, length-sets, set-set}
 use borrow.Author.Tests.{le-leb, lt-leb}
-use borrow.Rule.Slice.PartMut.{put_mid}
 use Rattle.base.specs.Calls.{over, placed, Puts}
 
 -- the front filled unit by unit
@@ -46,13 +44,9 @@ placed_none out n = go (dec_lt (length out) (n + 0))
     go (yes h) = placed_not out n [] h
     go (no h) = placed_fits out n [] (omega arith)
 
--- the part written over
-pub put_part : (out : List ℕ) (at k : ℕ) (part now : List ℕ) → now ≡ part → at + length part ≤ length out → k ≡ length part → put_mid at k out now ≡ placed out at part
-unfolding placed
-put_part out at k part now e h p =
-    rw (le-leb (at + length part) (length out) h)
-    (ap₂ (λ (t u : List ℕ). take at out ++ (t ++ u)) e (drop-drop k at out ∙ ap (λ (n : ℕ). drop (at + n) out) p)
-    ∙ sym (append_assoc (take at out) part (drop (at + length part) out)))
+-- nothing is left of a part
+pub copy_end : (out part : List ℕ) (at k : ℕ) → length part ≤ k → sets out (at + k) (drop k part) ≡ out
+copy_end out part at k h = ap (sets out (at + k)) (drop_of_length-le part h)
 
 -- ---- steps, one behind another
 pub puts_put : {u out after : List ℕ} {at r : ℕ} → r ≡ at + length u → after ≡ placed out at u → Puts u out at r after

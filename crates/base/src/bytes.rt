@@ -79,7 +79,10 @@ pub fn put(out: &mut [u8], at: usize, part: &[u8])
     ensures { out.new ≡ placed out.old at part.now }
 {
     if at <= out.len() && part.len() <= out.len() - at {
-        out[at..at + part.len()].copy_from_slice(part);
+        // Stays: a store for each byte. By `copy_from_slice` the archive takes memmove from outside.
+        for k in 0..part.len() {
+            out[at + k] = part[k];
+        }
     }
 }
 
