@@ -4,6 +4,7 @@ use mathlib.Core.Path.{◌≡◌, refl, sym, ap, ◌∙◌, subst}
 use mathlib.Core.List.{List}
 use Rattle.std.specs.Prelude.{Option}
 use Rattle.std.specs.Borrow.{Bor}
+use lib.Count.{ones}
 use lib.ListN.{length}
 use Rattle.base.specs.Verdicts.{Verdict, Fine}
 use Rattle.base.proofs.RuleLaws.{answered_ok}
@@ -41,6 +42,10 @@ module _ (f : Fields) where
   -- their places are those of the word
   pub word_in : f.frame.present ≡ word_of f.form f.message.now
   word_in = found_in_it.word_is
+
+  -- and has as many ones
+  pub ones_in : ones f.frame.present ≡ length (fields f.message.now)
+  ones_in = ap ones word_in ∙ has.sound.as_many
 
   pub walk_in : walked f.form f.message.now ≡ Fine
   walk_in = has.walk_fine

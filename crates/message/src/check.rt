@@ -12,7 +12,7 @@ pub fn check(form: Form, m: &[u8], list: &mut [u32]) -> Result<Accepted, Refusal
     ensures { Checks form m.now list.old result list.new }
 {
     let f = judged(form, m)?;
-    let n = f.count();
+    let n = f.frame.present.count_ones() as usize;
     if list.len() < 3 * n {
         return Err(Refusal {
             number: 17,
