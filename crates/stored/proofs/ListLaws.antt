@@ -1,5 +1,6 @@
 -- The place behind raw bytes, and a record's raw bytes. Assumes nothing.
-use Rattle.std.specs.Prelude.{None, Some}
+use Rattle.std.specs.Prelude.{Option, None, Some}
+use Rattle.std.specs.Option.{option_and_then}
 use Prim.Native.Nat.{ℕ, ◌+◌, ◌<◌, ◌≤◌}
 use mathlib.Core.Path.{◌≡◌, ap}
 use mathlib.Core.List.{List}
@@ -23,22 +24,13 @@ module _ (list : List ℕ) (at n end : ℕ) (e : end ≡ at + n) where
   unfolding behind_at
   behind_end h o = rw (← e, drop-cons list end 0, eq-eqb (get_or list end 0) 10 o) (ap Some (omega arith))
 
--- a record of wrong form, by the first part that is wrong, and one of right form
+-- a record whose line has no end, and one whose line ends
 module _ (list head : List ℕ) (at spaces : ℕ) (e : head ≡ line_at list at) where
   pub body_unled : None ≡ behind_at list at (length head) → body_at list at spaces ≡ None
   unfolding body_at
   body_unled f = rw (← e, ← f)
 
-  module _ (start : ℕ) (tail : List ℕ) (f : Some start ≡ behind_at list at (length head)) (g : tail ≡ rest_of 32 spaces head) where
-    pub body_unsized : None ≡ number_of tail → body_at list at spaces ≡ None
-    unfolding body_at
-    body_unsized k = rw (← e, ← f, ← g, ← k)
-
-    pub body_unended : (size : ℕ) → Some size ≡ number_of tail → None ≡ behind_at list start size → body_at list at spaces ≡ None
-    unfolding body_at body_from
-    body_unended size k l = rw (← e, ← f, ← g, ← k, ← l)
-
-    pub body_some : (size next : ℕ) → Some size ≡ number_of tail → Some next ≡ behind_at list start size
-        → body_at list at spaces ≡ Some (record { start = start; size = size; next = next })
-    unfolding body_at body_from
-    body_some size next k l = rw (← e, ← f, ← g, ← k, ← l)
+  pub body_some : (start : ℕ) (size next : Option ℕ) → Some start ≡ behind_at list at (length head) → size ≡ number_of (rest_of 32 spaces head)
+      → next ≡ option_and_then (behind_at list start) size → body_at list at spaces ≡ Some (record { start = start; size = size; next = next })
+  unfolding body_at body_from
+  body_some start size next f g k = rw (← e, ← f, ← g, ← k)

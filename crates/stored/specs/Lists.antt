@@ -15,13 +15,11 @@ line_at list at = before (ascii "\n") (drop at list)
 unfoldable pub behind_at : List ℕ → ℕ → ℕ → Option ℕ
 behind_at list at n = pick (begins (ascii "\n") (drop (at + n) list)) (Some (suc (at + n))) None
 
--- so many raw bytes from a place on, where LF ends them
-unfoldable pub body_from : List ℕ → ℕ → ℕ → Option Body
-body_from list start size = option_map (λ next. record { start = start; size = size; next = next }) (behind_at list start size)
+-- the raw bytes from a place on: how many there are, where that is known, and the place behind them, where LF ends them
+unfoldable pub body_from : List ℕ → ℕ → Option ℕ → Body
+body_from list start size = record { start = start; size = size; next = option_and_then (behind_at list start) size }
 
 -- the raw bytes behind the line at a place: the word behind so many spaces says how many they are
 unfoldable pub body_at : List ℕ → ℕ → ℕ → Option Body
 body_at list at spaces =
-    option_and_then
-    (λ start. option_and_then (body_from list start) (number_of (rest_of (ascii " ") spaces (line_at list at))))
-    (behind_at list at (length (line_at list at)))
+    option_map (λ start. body_from list start (number_of (rest_of (ascii " ") spaces (line_at list at)))) (behind_at list at (length (line_at list at)))

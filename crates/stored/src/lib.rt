@@ -2,18 +2,20 @@
 #![tactic(auto)]
 
 ghost use Rattle.std.specs.Prelude.{◌≡◌, ◌<◌, ◌≤◌, length, take, drop, IfSome};
+ghost use Rattle.std.specs.Option.{option_and_then};
 ghost use Rattle.stored.specs.Words.{before, rest_of, word_of, digit_of, number_of};
 ghost use Rattle.stored.specs.Lists.{line_at, behind_at, body_at};
 
 use base::bytes::{front, is_digit, past};
 use base::marks::mark_at;
 
-// The raw bytes of a record: where they begin, how many there are, and the place behind the LF that ends them.
+// The raw bytes of a record: where they begin, how many there are, where its line says so, and the place behind the LF that ends
+// them, where it does.
 #[derive(Clone, Copy)]
 pub struct Body {
     pub start: usize,
-    pub size: usize,
-    pub next: usize,
+    pub size: Option<usize>,
+    pub next: Option<usize>,
 }
 
 // The text before the first mark, or all of it.
@@ -102,14 +104,25 @@ pub fn behind(list: &[u8], at: usize, n: usize) -> Option<usize>
     if mark == b'\n' { Some(end + 1) } else { None }
 }
 
+// The place behind the raw bytes, where it is known how many they are.
+fn behind_body(list: &[u8], start: usize, size: Option<usize>) -> Option<usize>
+    ensures place { result ≡ option_and_then (behind_at list.now start) size }
+    ensures within { IfSome result (λ place. (start < place) × (place ≤ length list.now)) }
+{
+    behind(list, start, size?)
+}
+
 // The raw bytes of the record at a place. The last word of its line, behind so many spaces, says how many they are.
 pub fn body_at(list: &[u8], at: usize, spaces: usize) -> Option<Body>
     ensures body { result ≡ body_at list.now at spaces }
-    ensures within { IfSome result (λ b. (at < b.next) × (b.next ≤ length list.now)) }
+    ensures within { IfSome result (λ b. IfSome b.next (λ next. (at < next) × (next ≤ length list.now))) }
 {
     let head = line_at(list, at);
     let start = behind(list, at, head.len())?;
-    let size = number(rest(b' ', head, spaces))?;
-    let next = behind(list, start, size)?;
-    Some(Body { start, size, next })
+    let size = number(rest(b' ', head, spaces));
+    Some(Body {
+        start,
+        size,
+        next: behind_body(list, start, size),
+    })
 }

@@ -128,9 +128,10 @@ pub(crate) fn take_message(rt: &impl Output, list: &[u8], at: usize) -> Option<T
     let kind = u32::try_from(number_of(head, TYPE)?).ok()?;
     let room = number_within(head, LENT, ROOM)?;
     let body = body_at(list, at, BYTES)?;
-    answer(rt, form_of(kind), room, cut(list, body.start, body.size));
+    let next = body.next?;
+    answer(rt, form_of(kind), room, cut(list, body.start, body.size?));
     Some(Taken {
         kind: Kind::Message,
-        next: body.next,
+        next,
     })
 }

@@ -135,16 +135,17 @@ pub(crate) fn take_text(rt: &impl Output, list: &[u8], at: usize) -> Option<Take
     let call = call_of(head)?;
     let length = number_within(head, LENGTH, ROOM)?;
     let body = body_at(list, at, INPUT)?;
+    let start = body.next?;
     let size = number_of(head, TEXT)?;
-    let next = behind(list, body.next, size)?;
+    let next = behind(list, start, size)?;
     let mut input = blank_room();
-    fill(lent(&mut input, length), cut(list, body.start, body.size));
+    fill(lent(&mut input, length), cut(list, body.start, body.size?));
     let kind = kind_of(
         rt,
         head,
         call,
         front(&input, length),
-        cut(list, body.next, size),
+        cut(list, start, size),
     );
     Some(Taken { kind, next })
 }

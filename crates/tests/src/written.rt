@@ -60,10 +60,11 @@ pub(crate) fn take_sheet(rt: &impl Output, list: &[u8], at: usize) -> Option<Tak
 {
     let room = number_within(line_at(list, at), LENT, ROOM)?;
     let body = body_at(list, at, BYTES)?;
-    tell_message(rt, cut(list, body.start, body.size), room);
+    let next = body.next?;
+    tell_message(rt, cut(list, body.start, body.size?), room);
     write_output(rt, b"\n");
     Some(Taken {
         kind: Kind::Sheet,
-        next: body.next,
+        next,
     })
 }
