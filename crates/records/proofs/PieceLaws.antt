@@ -1,21 +1,22 @@
 -- A text cut at a byte: where its first piece ends, the pieces from a place on, and that pieces are found again. Assumes nothing.
 use Prim.Native.Nat.{ℕ, suc, ◌+◌, ◌-◌, ◌<◌, ◌≤◌}
 use mathlib.Core.Path.{◌≡◌, refl, sym, ap, ap₂, ◌∙◌}
-use mathlib.Core.Bool.{Bool, true, false}
+use mathlib.Core.Bool.{Bool, true, false, not}
 use mathlib.Core.List.{List, [], ◌∷◌, ◌++◌}
 use native.Mathlib.Omega.{arith}
 use native.Mathlib.Decide.{dec_le}
 use lib.Dec.{eqb}
-use lib.ListN.{length, take, drop, length-drop}
-use lib.Seq.{drop-drop, length-take-le}
-use borrow.Author.Tests.{eq-eqb, le-leb, lt-leb}
+use lib.ListN.{length, take, drop, get_or, length-drop, drop_of_length-le}
+use lib.Seq.{drop-drop, drop-cons, length-take-le}
+use borrow.Author.Tests.{eq-eqb, eqb-true, le-leb, lt-leb}
 use Rattle.base.specs.Choice.{pick}
-use Rattle.base.specs.Bytes.{other, without, count_up_to}
+use Rattle.base.specs.Bytes.{begins, other, without, count_up_to}
 use Rattle.base.proofs.Bools.{left, right, isnt}
 use Rattle.base.proofs.MarkLaws.{up_within}
 use Rattle.std.specs.Prelude.{Option, None, Some, IsSome}
 use Rattle.std.specs.Borrow.{Bor}
 use Rattle.std.specs.Iterator.{YieldsFirstRef}
+use Rattle.types.specs.Sign.{first_line}
 use Rattle.fields.specs.Field.{field, onto}
 use Rattle.records.specs.Record.{pieces, parted, record_of}
 use Rattle.records.specs.Found.{pieces_at, pieces_left}
@@ -57,6 +58,44 @@ module _ (c : ℕ) where
       go false e =
           let z : suc n + 1 ≡ suc (n + 1) = omega arith in
           ap (onto x) e ∙ ap (λ (ls : List (List ℕ)). (x ∷ take n xs) ∷ ls) (sym (later_on x xs (n + 1)) ∙ ap (pieces_at c (x ∷ xs)) (sym z))
+
+  -- it begins as the text does there, but with no mark
+  begun : (b x : ℕ) (ls : List (List ℕ)) → begins b (first_line (onto x ls)) ≡ eqb x b
+  begun b x [] = refl
+  begun b x (l ∷ ls) = refl
+
+  begun_at : (b x : ℕ) (xs : List ℕ) → begins b (first_line (pieces c (x ∷ xs))) ≡ pick (eqb x c) false (eqb x b)
+  unfolding pieces
+  begun_at b x xs = go (eqb x c)
+    where
+      go : (q : Bool) → begins b (first_line (pick q ([] ∷ pieces c xs) (onto x (pieces c xs)))) ≡ pick q false (eqb x b)
+      go true = refl
+      go false = begun b x (pieces c xs)
+
+  pub begins_here : (b : ℕ) (s : List ℕ) (i : ℕ) → i < length s → begins b (first_line (pieces_at c s i)) ≡ pick (eqb (get_or s i 0) c) false (eqb (get_or s i 0) b)
+  begins_here b s i h = ap (λ (ls : List (List ℕ)). begins b (first_line ls)) (at_from s i (omega arith) ∙ ap (pieces c) (drop-cons s i 0 h)) ∙ begun_at b (get_or s i 0) (drop (suc i) s)
+
+  pub begins_is : (b : ℕ) (s : List ℕ) (i : ℕ) → i < length s → eqb (get_or s i 0) b ≡ true → not (eqb b c) ≡ begins b (first_line (pieces_at c s i))
+  begins_is b s i h e = go (eqb b c) (ap (λ (x : ℕ). eqb x c) (eqb-true (get_or s i 0) b e)) ∙ sym (begins_here b s i h)
+    where
+      go : (q : Bool) → eqb (get_or s i 0) c ≡ q → not q ≡ pick (eqb (get_or s i 0) c) false (eqb (get_or s i 0) b)
+      go true k = rw k refl
+      go false k = rw (k, e) refl
+
+  pub begins_not : (b : ℕ) (s : List ℕ) (i : ℕ) → i < length s → eqb (get_or s i 0) b ≡ false → begins b (first_line (pieces_at c s i)) ≡ false
+  begins_not b s i h e = begins_here b s i h ∙ go (eqb (get_or s i 0) c)
+    where
+      go : (q : Bool) → pick q false (eqb (get_or s i 0) b) ≡ false
+      go true = refl
+      go false = e
+
+  pub begins_past : (b : ℕ) (s : List ℕ) (i : ℕ) → length s ≤ i → begins b (first_line (pieces_at c s i)) ≡ false
+  unfolding pieces
+  begins_past b s i h = go (dec_le i (length s))
+    where
+      go : Dec (i ≤ length s) → begins b (first_line (pieces_at c s i)) ≡ false
+      go (yes k) = ap (λ (ls : List (List ℕ)). begins b (first_line ls)) (at_from s i k ∙ ap (pieces c) (drop_of_length-le s h))
+      go (no k) = ap (λ (ls : List (List ℕ)). begins b (first_line ls)) (past_end s i (omega arith))
 
   at_at : (s : List ℕ) (i k : ℕ) → i ≤ length s → pieces_at c (drop i s) k ≡ pieces_at c s (i + k)
   at_at s i k h = go (dec_le (i + k) (length s))

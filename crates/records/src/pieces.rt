@@ -1,5 +1,7 @@
 // The pieces of a text, cut at a mark: the records of a sheet, the tag and the parts of a record.
 ghost use Rattle.std.specs.Prelude.{◌≡◌};
+ghost use Rattle.base.specs.Bytes.{begins};
+ghost use Rattle.types.specs.Sign.{first_line};
 ghost use Rattle.fields.specs.Field.{field};
 ghost use Rattle.records.specs.Record.{record_of};
 ghost use Rattle.records.specs.Found.{pieces_at, pieces_left};
@@ -19,6 +21,13 @@ impl<'a> Pieces<'a> {
         ensures { pieces_left result ≡ pieces_at mark text.now at }
     {
         Pieces { mark, text, at }
+    }
+
+    // The first piece begins with that byte. It is told by the byte alone, however long the piece.
+    pub(crate) fn begins(self, b: u8) -> bool
+        ensures { result ≡ begins b (first_line (pieces_left self.entry)) }
+    {
+        self.at < self.text.len() && self.text[self.at] == b && b != self.mark
     }
 }
 

@@ -20,10 +20,10 @@ use types::Form;
 use types::forms::{count_of, form_of};
 
 // The first part begins with +.
-fn has_plus(mut parts: Pieces) -> bool
+fn has_plus(parts: Pieces) -> bool
     ensures { result ≡ begins 43 (first_line (pieces_left parts.entry)) }
 {
-    parts.next().is_some_and(|p| p.first() == Some(&b'+'))
+    parts.begins(b'+')
 }
 
 // The sign, by the first record with the tag 20, ended or not.
@@ -53,8 +53,12 @@ fn type_in(l: &[u8]) -> Option<u32>
     ensures { result ≡ named_type (record_of l.now) }
 {
     let (tag, mut parts) = parted(l);
+    // The tag first: another record's part is not looked through.
+    if !is_same(tag, b"MT") {
+        return None;
+    }
     let digits = parts.next()?;
-    if is_same(tag, b"MT") && is_digits(3, digits) && parts.next().is_none() {
+    if is_digits(3, digits) && parts.next().is_none() {
         return Some(number_of(digits));
     }
     None
