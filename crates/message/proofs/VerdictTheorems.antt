@@ -66,6 +66,7 @@ fields_one f g p q = by_form p q g.taken g.signed
         (λ u. subst (λ (n : Bor (List ℕ)). (v : frame_of f.form n.now ≡ Ok g.frame) (w : g.sign ≡ sign_of (fields n.now)) → f ≡ made f.form n g.sign g.frame v w) q
         (λ v w. by_sign f.form f.message (f.signed ∙ sym w) (ok_same (sym f.taken ∙ v)) f.taken v f.signed w) u s) t
 
+-- any two outcomes of `judged` are equal
 pub handed_one : (form : Form) (m : Bor (List ℕ)) (v : Verdict) (r s : Result Fields Refusal) → HandsOn form m v r → HandsOn form m v s → r ≡ s
 handed_one form m v (Ok f) (Ok g) p q = ap Ok (fields_one f g (p.1 ∙ sym q.1) (p.2 ∙ sym q.2))
 handed_one form m v (Ok f) (Err k) p q = absurd (fine_broken k.number k.place (sym p.0 ∙ q))

@@ -2,6 +2,7 @@
 -- it is the rule (proofs/BackTableLaws). Assumes nothing.
 use Rattle.std.specs.Prelude.{ℕ, ◌+◌, Bool, true, false, ◌||◌, ◌&&◌, not, List, [], ◌∷◌, map, eqb, ltb, leb, length, drop, Option, None, Some, Ok, Err}
 use Rattle.types.specs.declared.Form.{Form}
+use Rattle.std.specs.Borrow.{Bor}
 use Rattle.base.specs.Choice.{pick}
 use Rattle.alphabets.specs.Pieces.{Piece, piece_in, characters_from}
 use Rattle.fields.specs.Lines.{lines_in}
@@ -25,6 +26,10 @@ text_left c at front mark = pick (leb at (length c)) (text_lines front mark (lin
 
 abbrev pub lines_left : TextLines → List (List ℕ)
 lines_left t = text_left t.content.now t.at t.front t.mark
+
+-- the lines of a content from a place on, as they are kept
+abbrev pub kept_lines : Bor (List ℕ) → ℕ → ℕ → ℕ → TextLines
+kept_lines content at front mark = record { content = content; at = at; front = front; mark = mark }
 
 -- ---- the clauses by a table
 abbrev pub mute_in : Piece → Bool

@@ -1,6 +1,6 @@
 // The lines of a content, and what of each is text.
 ghost use Rattle.std.specs.Prelude.{◌≡◌, ◌≤◌, ◌+◌, ◌-◌, min};
-ghost use Rattle.roles.specs.Found.{text_left, lines_left};
+ghost use Rattle.roles.specs.Found.{text_left, lines_left, kept_lines};
 
 use base::marks::mark_at;
 use fields::lines::next_line;
@@ -16,7 +16,8 @@ pub struct TextLines<'a> {
 
 impl<'a> TextLines<'a> {
     pub fn new(content: &'a [u8], at: usize, front: usize, mark: usize) -> TextLines<'a>
-        ensures { lines_left result ≡ text_left content.now at front mark }
+        ensures lines { lines_left result ≡ text_left content.now at front mark }
+        ensures kept { result ≡ kept_lines content.entry at front mark }
     {
         TextLines {
             content,

@@ -8,7 +8,7 @@ use Rattle.roles.proofs.lengths.text_size.Goals as goal
 
 pub loop-part-init : goal.loop-part-init
 loop-part-init c = let a = c.args in
-    let z = ap (λ t. length (joined (lines_left t))) c.into_iter-part-iterator.ensures.into_iter_gives ∙ ap (λ x. length (joined x)) c.new-part-items.ensures ∙ ap length (joined_left a.c.now a.from a.front a.mark) in
+    let z = ap (λ t. length (joined (lines_left t))) c.into_iter-part-iterator.ensures.into_iter_gives ∙ ap (λ x. length (joined x)) c.new-part-items.ensures.lines ∙ ap length (joined_left a.c.now a.from a.front a.mark) in
     omega (arith, z)
 
 pub overflow_add-n : goal.overflow_add-n

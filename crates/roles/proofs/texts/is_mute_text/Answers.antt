@@ -11,7 +11,7 @@ use Rattle.roles.proofs.texts.is_mute_text.Goals as goal
 pub loop-part-init : goal.loop-part-init
 loop-part-init c = let a = c.args in
     mute_first a.back.now (lines_left c.into_iter-part-iterator.result) (details_text a.front a.mark (lines_in (drop a.from a.c.now)))
-    (ap (λ t. joined (lines_left t)) c.into_iter-part-iterator.ensures.into_iter_gives ∙ ap joined c.new-part-items.ensures ∙ joined_left a.c.now a.from a.front a.mark)
+    (ap (λ t. joined (lines_left t)) c.into_iter-part-iterator.ensures.into_iter_gives ∙ ap joined c.new-part-items.ensures.lines ∙ joined_left a.c.now a.from a.front a.mark)
 
 pub returns-in_default : goal.returns-in_default
 returns-in_default c =

@@ -11,7 +11,7 @@ use Rattle.sheets.proofs.texts.put_over.Goals as goal
 
 pub loop-line-init : goal.loop-line-init
 loop-line-init c = let a = c.args in
-    let e = all_left a.c.now a.front a.mark (ap lines_left c.into_iter-line-iterator.ensures.into_iter_gives ∙ c.new-line-items.ensures) in
+    let e = all_left a.c.now a.front a.mark (ap lines_left c.into_iter-line-iterator.ensures.into_iter_gives ∙ c.new-line-items.ensures.lines) in
     let k = all_within 0 (omega arith) a.c.now a.front a.mark e in
     (refl, k, omega (arith, k), λ r after d. puts_by (ap (over_by a.back.now a.sign false) e) d)
 
